@@ -1,0 +1,39 @@
+-- Contraction at a place ("Contraction"): the beta and the case rule, legal at every redex, under binders, in arguments and in branches.
+--
+-- `Contracts s p r e g` says that e, of sort s, becomes g by one contraction with rule r of the redex whose first word stands at position p of
+-- e's words. A case whose branch of the tag binds another number than the constructor's arguments is stuck, and so is an application of a
+-- constructor: no clause has them. Where branches repeat a tag, which no accepted term does, the first of them decides.
+use Prim.Native.Nat.{ℕ, suc, _+_}
+use mathlib.Core.Path.{_≡_}
+use mathlib.Core.Bool.{cond}
+use mathlib.Core.Option.{Option, some, none}
+use lib.Dec.{eqb}
+use Rattle.calculus.specs.Term.{Sort, term, terms, branches, Exp, lam, app, con, case, nil, cons, end, branch, Term, Terms, Branches, count}
+use Rattle.calculus.specs.Words.{size}
+use Rattle.calculus.specs.Substitution.{subst}
+
+pub data Rule : Type 0 where
+  by-beta by-case : Rule
+
+-- What the case rule makes of a constructor's tag and arguments and the branches: the body of the branch of that tag, with the arguments for
+-- the bound indices, if the branch binds as many as there are arguments.
+abbrev pub select : ℕ → Terms → Branches → Option Term
+select t xs end = none
+select t xs (branch u n b bs) = cond (eqb t u) (cond (eqb (count xs) n) (some (subst xs 0 b)) none) (select t xs bs)
+
+pub data Contracts : (s : Sort) → ℕ → Rule → Exp s → Exp s → Type 0 where
+  at-beta : {b a : Term} → Contracts term 0 by-beta (app (lam b) a) (subst (cons a nil) 0 b)
+  at-case : {t : ℕ} {xs : Terms} {bs : Branches} {u : Term} → select t xs bs ≡ some u → Contracts term 0 by-case (case (con t xs) bs) u
+  in-body : {p : ℕ} {r : Rule} {b b′ : Term} → Contracts term p r b b′ → Contracts term (suc p) r (lam b) (lam b′)
+  in-function : {p : ℕ} {r : Rule} {f f′ a : Term} → Contracts term p r f f′ → Contracts term (suc p) r (app f a) (app f′ a)
+  in-argument : {p : ℕ} {r : Rule} {f a a′ : Term} → Contracts term p r a a′ → Contracts term (suc (size f + p)) r (app f a) (app f a′)
+  in-arguments : {p : ℕ} {r : Rule} {t : ℕ} {xs xs′ : Terms} → Contracts terms p r xs xs′ → Contracts term (suc p) r (con t xs) (con t xs′)
+  in-subject : {p : ℕ} {r : Rule} {e e′ : Term} {bs : Branches} → Contracts term p r e e′ → Contracts term (suc p) r (case e bs) (case e′ bs)
+  in-branches : {p : ℕ} {r : Rule} {e : Term} {bs bs′ : Branches} → Contracts branches p r bs bs′
+      → Contracts term (suc (size e + p)) r (case e bs) (case e bs′)
+  in-first : {p : ℕ} {r : Rule} {a a′ : Term} {xs : Terms} → Contracts term p r a a′ → Contracts terms p r (cons a xs) (cons a′ xs)
+  in-later : {p : ℕ} {r : Rule} {a : Term} {xs xs′ : Terms} → Contracts terms p r xs xs′ → Contracts terms (size a + p) r (cons a xs) (cons a xs′)
+  in-branch : {p : ℕ} {r : Rule} {t n : ℕ} {b b′ : Term} {bs : Branches} → Contracts term p r b b′
+      → Contracts branches (suc p) r (branch t n b bs) (branch t n b′ bs)
+  in-later-branch : {p : ℕ} {r : Rule} {t n : ℕ} {b : Term} {bs bs′ : Branches} → Contracts branches p r bs bs′
+      → Contracts branches (suc (size b + p)) r (branch t n b bs) (branch t n b bs′)

@@ -1,0 +1,44 @@
+-- Terms ("Terms and words"): a variable, an abstraction, an application, a constructor with its arguments, or a case with a subject (its
+-- scrutinee) and branches. Variables are de Bruijn indices from 0; a branch has a tag, a bound count and a body under that many binders.
+--
+-- Indices, tags and counts are any natural numbers here: the terms inside a chain have no limit. Which terms a workspace may hold is said by
+-- `Accepted`.
+--
+-- Argument lists and branch lists are further sorts of one family of expressions, so that a definition or a law that goes through a term says
+-- once what happens at every sort.
+use Prim.Native.Nat.{ℕ, suc}
+
+pub data Sort : Type 0 where
+  term terms branches : Sort
+
+pub data Exp : Sort → Type 0 where
+  var : ℕ → Exp term
+  lam : Exp term → Exp term
+  app : Exp term → Exp term → Exp term
+  con : ℕ → Exp terms → Exp term
+  case : Exp term → Exp branches → Exp term
+  nil : Exp terms
+  cons : Exp term → Exp terms → Exp terms
+  end : Exp branches
+  branch : ℕ → ℕ → Exp term → Exp branches → Exp branches
+
+abbrev pub Term : Type 0
+Term = Exp term
+
+abbrev pub Terms : Type 0
+Terms = Exp terms
+
+abbrev pub Branches : Type 0
+Branches = Exp branches
+
+-- How many terms a list of arguments has, and how many branches a list of branches has.
+abbrev pub count : {s : Sort} → Exp s → ℕ
+count (var i) = 0
+count (lam b) = 0
+count (app f a) = 0
+count (con t xs) = 0
+count (case e bs) = 0
+count nil = 0
+count (cons a xs) = suc (count xs)
+count end = 0
+count (branch t n b bs) = suc (count bs)

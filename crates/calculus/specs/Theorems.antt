@@ -1,0 +1,93 @@
+-- What is owed about the calculus: each statement is a type with a name, and its proof in proofs/ has that type.
+use Prim.Native.Nat.{ℕ, _+_, _≤_, _<_}
+use mathlib.Core.Path.{_≡_}
+use mathlib.Core.List.{List, _++_}
+use mathlib.Core.Logic.{_↔_}
+use mathlib.Core.Option.{Option, some, none}
+use lib.IntN.{ℤ, pos, _+ℤ_}
+use Rattle.calculus.specs.Term.{Sort, term, Exp, var, lam, app, con, case, nil, cons, end, branch, Term, count}
+use Rattle.calculus.specs.Words.{countBase, words, size, workspaceMost}
+use Rattle.calculus.specs.Accepted.{Accepted}
+use Rattle.calculus.specs.Read.{read}
+use Rattle.calculus.specs.Shift.{move}
+use Rattle.calculus.specs.Contraction.{Rule, Contracts}
+use Rattle.calculus.specs.Conversion.{Reaches, Joined, Normal}
+use Rattle.calculus.specs.Leftmost.{leftmost}
+
+-- `read` gives t exactly for the words of t where t is accepted.
+abbrev pub Read-exact : Type 0
+Read-exact = (ws : List ℕ) (t : Term) → (read ws ≡ some t) ↔ ((words t ≡ ws) × Accepted 0 t)
+
+-- Argument and bound counts are below 16, so that a payload holds them beside the tag.
+abbrev pub Packable : {s : Sort} → Exp s → Type 0
+Packable (var i) = Unit {0}
+Packable (lam b) = Packable b
+Packable (app f a) = Packable f × Packable a
+Packable (con t xs) = (count xs < countBase) × Packable xs
+Packable (case e bs) = Packable e × Packable bs
+Packable nil = Unit {0}
+Packable (cons a xs) = Packable a × Packable xs
+Packable end = Unit {0}
+Packable (branch t n b bs) = (n < countBase) × Packable b × Packable bs
+
+-- The words of a term are never the start of another's. Without the bound on counts this is false: tag 1 with 16 arguments and tag 2 with none
+-- share a word.
+abbrev pub Words-prefix-free : Type 0
+Words-prefix-free =
+    (t u : Term) (ws vs : List ℕ) → Packable t → Packable u → words t ++ ws ≡ words u ++ vs → (t ≡ u) × (ws ≡ vs)
+
+-- A moved index is the sum of index and distance as integers, wherever that is not negative.
+abbrev pub Move-exact : Type 0
+Move-exact = (z : ℤ) (i n : ℕ) → pos i +ℤ z ≡ pos n → move z i ≡ n
+
+-- A contraction of t to u whose redex starts first among all redexes of t.
+abbrev pub Contracts-leftmost : Term → Term → Type 0
+Contracts-leftmost t u =
+    (p : ℕ) × (r : Rule) × Contracts term p r t u × ((q : ℕ) (r′ : Rule) (v : Term) → Contracts term q r′ t v → p ≤ q)
+
+abbrev pub Leftmost-step : Type 0
+Leftmost-step = (t u : Term) → (leftmost t ≡ some u) ↔ Contracts-leftmost t u
+
+abbrev pub Leftmost-none : Type 0
+Leftmost-none = (t : Term) → (leftmost t ≡ none) ↔ Normal t
+
+-- The position of a redex decides the rule and the result.
+abbrev pub Contraction-deterministic : Type 0
+Contraction-deterministic =
+    (p : ℕ) (r r′ : Rule) (t u v : Term) → Contracts term p r t u → Contracts term p r′ t v → (r ≡ r′) × (u ≡ v)
+
+abbrev pub Contraction-keeps-accepted : Type 0
+Contraction-keeps-accepted =
+    (d p : ℕ) (r : Rule) (t u : Term) → Contracts term p r t u → Accepted d t → Accepted d u
+
+-- Two terms joined by a chain have a common reduct.
+abbrev pub Church-Rosser : Type 0
+Church-Rosser = (t u : Term) → Joined t u → (v : Term) × Reaches t v × Reaches u v
+
+abbrev pub Joined-normal-equal : Type 0
+Joined-normal-equal = (t u : Term) → Joined t u → Normal t → Normal u → t ≡ u
+
+abbrev pub Equality-decidable : Type 0
+Equality-decidable = (t u : Term) → Dec (t ≡ u)
+
+abbrev pub Normality-decidable : Type 0
+Normality-decidable = (t : Term) → Dec (Normal t)
+
+-- The largest index that a stored table can hold.
+abbrev pub indexLimit : ℕ
+indexLimit = 32767
+
+-- No index of the expression is above the limit.
+abbrev pub IndicesWithin : {s : Sort} → ℕ → Exp s → Type 0
+IndicesWithin limit (var i) = i ≤ limit
+IndicesWithin limit (lam b) = IndicesWithin limit b
+IndicesWithin limit (app f a) = IndicesWithin limit f × IndicesWithin limit a
+IndicesWithin limit (con t xs) = IndicesWithin limit xs
+IndicesWithin limit (case e bs) = IndicesWithin limit e × IndicesWithin limit bs
+IndicesWithin limit nil = Unit {0}
+IndicesWithin limit (cons a xs) = IndicesWithin limit a × IndicesWithin limit xs
+IndicesWithin limit end = Unit {0}
+IndicesWithin limit (branch t n b bs) = IndicesWithin limit b × IndicesWithin limit bs
+
+abbrev pub Indices-bounded : Type 0
+Indices-bounded = (t : Term) → Accepted 0 t → size t ≤ workspaceMost → IndicesWithin indexLimit t
