@@ -1,0 +1,5 @@
+-- What a press does, as a function of everything at entry, and the claim about lists of presses.
+pub mod Session
+pub mod Press
+pub mod Runs
+pub mod Claim

@@ -1,0 +1,93 @@
+-- A press ("A press", "Numbers for refused calls"), as a function of everything at entry to everything at exit.
+use Prim.Native.Nat.{ℕ, _+_, _-_}
+use mathlib.Core.Bool.{Bool, cond, _&&_}
+use mathlib.Core.List.{List, _++_}
+use mathlib.Core.Option.{Option, some, none}
+use lib.Dec.{leb, eqb}
+use lib.ListN.{length, take, replicate}
+use Rattle.calculus.specs.Term.{Term}
+use Rattle.calculus.specs.Words.{words, size, workspaceLeast, workspaceMost}
+use Rattle.calculus.specs.Read.{read}
+use Rattle.calculus.specs.Rounds.{Verdict, Outcome, rounds}
+use Rattle.rounds.specs.Session.{Session}
+
+-- A press's answer: the number of the refusal, or verdict, spent and both lengths.
+pub data Answer : Type 0 where
+  refused : ℕ → Answer
+  shown : Verdict → (spent left right : ℕ) → Answer
+
+-- What one press leaves to the next: both workspaces and the session.
+pub record Memory : Type 0 where
+  pub left : List ℕ
+  pub right : List ℕ
+  pub session : Session
+
+-- What a press is handed beside them: a scratch, the length of each side's term, and a budget.
+pub record Call : Type 0 where
+  pub scratch : List ℕ
+  pub leftLength : ℕ
+  pub rightLength : ℕ
+  pub budget : ℕ
+
+-- Everything at exit.
+pub record Pressed : Type 0 where
+  pub answer : Answer
+  pub memory : Memory
+  pub scratch : List ℕ
+
+-- A budget is at most 1,000,000, and total spent plus budget at most 1,000,000,000.
+abbrev pub budgetLimit : ℕ
+budgetLimit = 1000000
+
+abbrev pub totalLimit : ℕ
+totalLimit = 1000000000
+
+-- The lengths of workspaces and scratch pass refusal 7: each is 16 to 2,048, and they are equal.
+abbrev pub sized : (left right scratch : ℕ) → Bool
+sized left right scratch = leb workspaceLeast left && (leb left workspaceMost && (eqb right left && eqb scratch left))
+
+-- Budget and total pass refusal 9.
+abbrev pub affordable : (budget total : ℕ) → Bool
+affordable budget total = leb budget budgetLimit && leb (total + budget) totalLimit
+
+-- The whole term that the first n words of a workspace are; none is refusal 10. No term has 0 words.
+unfoldable pub termAt : List ℕ → ℕ → Option Term
+termAt ws n = cond (leb n (length ws)) (read (take n ws)) none
+
+-- Words, and zeros after them to the end of a workspace of C words.
+abbrev pub padded : ℕ → List ℕ → List ℕ
+padded C ws = ws ++ replicate (C - length ws) 0
+
+-- A refused press changes nothing.
+abbrev pub refuse : Memory → Call → ℕ → Pressed
+refuse m c n = record { answer = refused n; memory = m; scratch = c .scratch }
+
+-- What the rounds leave: both current terms with zeros after them, the scratch all zeros, and the session renewed, of which only the total is
+-- read.
+abbrev pub conclude : (C : ℕ) → Session → Outcome → Pressed
+conclude C s o =
+    record {
+      answer = shown (o .verdict) (o .spent) (size (o .left)) (size (o .right));
+      memory =
+          record {
+            left = padded C (words (o .left));
+            right = padded C (words (o .right));
+            session =
+                record { total = s .total + o .spent; left = size (o .left); right = size (o .right); verdict = o .verdict };
+          };
+      scratch = replicate C 0;
+    }
+
+-- Refusal 10 on the left, then on the right, then the rounds.
+abbrev pub pressTerms : Memory → Call → Option Term → Option Term → Pressed
+pressTerms m c none u = refuse m c 10
+pressTerms m c (some t) none = refuse m c 10
+pressTerms m c (some t) (some u) = conclude (length (m .left)) (m .session) (rounds (length (m .left)) (c .budget) t u)
+
+unfoldable pub press : Memory → Call → Pressed
+press m c =
+    cond (sized (length (m .left)) (length (m .right)) (length (c .scratch)))
+    (cond (affordable (c .budget) (m .session .total))
+    (pressTerms m c (termAt (m .left) (c .leftLength)) (termAt (m .right) (c .rightLength)))
+    (refuse m c 9))
+    (refuse m c 7)

@@ -1,0 +1,1 @@
+// Comparison, the press and showing.
