@@ -1,5 +1,5 @@
--- The extent of the words of an expression: they are passed as its items are counted. So `skip` and `span` see an expression as a whole,
--- whatever words follow it.
+-- The extent of the words of an expression: over as many items as it has, `span` counts and `skip` passes exactly its words, whatever words
+-- follow them.
 use Prim.Native.Nat.{ℕ, zero, suc, _+_, _≤_, _<_}
 use mathlib.Core.Path.{_≡_, refl, sym, _∙_, ap}
 use mathlib.Core.List.{List, [], _∷_, _++_, append-assoc}
@@ -7,13 +7,13 @@ use native.Mathlib.Nat.{zero-add, suc-add}
 use native.Mathlib.Omega.{arith}
 use lib.ListN.{length, drop, length-append}
 use lib.Seq.{drop-append-add}
-use Rattle.calculus.specs.Term.{Sort, term, terms, branches, Exp, Term, var, lam, app, con, case, nil, cons, end, branch, count}
-use Rattle.calculus.specs.Words.{variableKind, constructorKind, caseKind, branchKind, word, kindOf, payloadOf, countBase, pack, countOf, words, size}
+use Rattle.calculus.specs.Term.{Sort, term, terms, branches, Exp, var, lam, app, con, case, nil, cons, end, branch, count}
+use Rattle.calculus.specs.Words.{variableKind, constructorKind, caseKind, branchKind, word, countBase, pack, words, size}
 use Rattle.calculus.specs.Skip.{following, arity, skip, span}
 use Rattle.calculus.specs.Theorems.{Packable}
 use Rattle.calculus.proofs.WordLaws.{kindOf-word, payloadOf-word, countOf-pack}
 
--- What follows each kind of word whose arity its payload could decide.
+-- The arity of a word made of a kind and a payload.
 arity-word : (k p : ℕ) → k < 8 → arity (word k p) ≡ following k p
 arity-word k p h = rw (kindOf-word k p h, payloadOf-word k p h)
 
@@ -71,7 +71,7 @@ passes-words (cons a xs) k h =
 passes-words end k h = passes-none (zero-add k)
 passes-words (branch t n b bs) k h =
     passes-from (suc-add (count bs) k) (passes-word (omega (arith, arity-branch (pack t n)))
-        (passes-append (passes-words b (count bs + k) (h .1)) (passes-words bs k (h .2))))
+    (passes-append (passes-words b (count bs + k) (h .1)) (passes-words bs k (h .2))))
 
 pub span-words : {s : Sort} (e : Exp s) (k : ℕ) (ws : List ℕ) → Packable e → span (itemsAnd e k) (words e ++ ws) ≡ size e + span k ws
 span-words e k ws h = passes-words e k h .passed ws
