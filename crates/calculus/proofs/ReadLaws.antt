@@ -7,7 +7,7 @@ use mathlib.Core.Logic.{if-pos}
 use mathlib.Core.Option.{some, none, bind}
 use native.Mathlib.Omega.{arith}
 use Rattle.calculus.specs.Term.{Sort, term, terms, branches, Exp, Term, Terms, Branches, var, lam, app, con, case, nil, cons, end, branch, count}
-use Rattle.calculus.specs.Words.{variableKind, abstractionKind, applicationKind, constructorKind, caseKind, branchKind, word, kindOf, payloadOf, pack, countOf, words}
+use Rattle.calculus.specs.Words.{variableKind, abstractionKind, applicationKind, constructorKind, caseKind, branchKind, kindBase, word, kindOf, payloadOf, pack, countOf, words}
 use Rattle.calculus.specs.Accepted.{Accepted}
 use Rattle.calculus.specs.Decide.{accepted?}
 use Rattle.calculus.specs.Read.{Item, whole, arm, takeTerm, takeTerms, takeBranches, readLam, readApp, readCon, readCase, readBranch, item, items, oneTerm, read}
@@ -34,7 +34,7 @@ takeBranches-onto end is = refl
 takeBranches-onto (branch t n b bs) is = rw (takeBranches-onto bs is)
 
 -- A word in front of words that are read as items.
-items-word : (k p : ℕ) (ws : List ℕ) {is js : List Item} → k < 8 → items ws ≡ some is → item k p is ≡ some js → items (word k p ∷ ws) ≡ some js
+items-word : (k p : ℕ) (ws : List ℕ) {is js : List Item} → k < kindBase → items ws ≡ some is → item k p is ≡ some js → items (word k p ∷ ws) ≡ some js
 unfolding items bind
 items-word k p ws {is} {js} h q r = rw (q, kindOf-word k p h, payloadOf-word k p h) r
 

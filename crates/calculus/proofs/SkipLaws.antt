@@ -8,13 +8,13 @@ use native.Mathlib.Omega.{arith}
 use lib.ListN.{length, drop, length-append}
 use lib.Seq.{drop-append-add}
 use Rattle.calculus.specs.Term.{Sort, term, terms, branches, Exp, var, lam, app, con, case, nil, cons, end, branch, count}
-use Rattle.calculus.specs.Words.{variableKind, constructorKind, caseKind, branchKind, word, countBase, pack, words, size}
+use Rattle.calculus.specs.Words.{variableKind, constructorKind, caseKind, branchKind, kindBase, word, countBase, pack, words, size}
 use Rattle.calculus.specs.Skip.{following, arity, skip, span}
 use Rattle.calculus.specs.Theorems.{Packable}
 use Rattle.calculus.proofs.WordLaws.{kindOf-word, payloadOf-word, countOf-pack}
 
 -- The arity of a word made of a kind and a payload.
-arity-word : (k p : ℕ) → k < 8 → arity (word k p) ≡ following k p
+arity-word : (k p : ℕ) → k < kindBase → arity (word k p) ≡ following k p
 arity-word k p h = rw (kindOf-word k p h, payloadOf-word k p h)
 
 pub arity-variable : (i : ℕ) → arity (word variableKind i) ≡ 0

@@ -4,14 +4,14 @@ use Prim.Native.Nat.{ℕ, suc, _≤_, _<_}
 use mathlib.Core.Path.{_≡_}
 use native.Mathlib.Omega.{arith}
 use Rattle.calculus.specs.Term.{Sort, Exp, Term, var, lam, app, con, case, nil, cons, end, branch}
-use Rattle.calculus.specs.Words.{word, kindOf, payloadOf, countBase, pack, tagOf, countOf, size}
+use Rattle.calculus.specs.Words.{kindBase, word, kindOf, payloadOf, countBase, pack, tagOf, countOf, size}
 use Rattle.calculus.specs.Accepted.{Accepted}
 use Rattle.calculus.specs.Theorems.{Packable}
 
-pub kindOf-word : (k p : ℕ) → k < 8 → kindOf (word k p) ≡ k
+pub kindOf-word : (k p : ℕ) → k < kindBase → kindOf (word k p) ≡ k
 kindOf-word k p h = omega arith
 
-pub payloadOf-word : (k p : ℕ) → k < 8 → payloadOf (word k p) ≡ p
+pub payloadOf-word : (k p : ℕ) → k < kindBase → payloadOf (word k p) ≡ p
 payloadOf-word k p h = omega arith
 
 pub word-of-parts : (w : ℕ) → word (kindOf w) (payloadOf w) ≡ w

@@ -5,12 +5,14 @@ pub mod Accepted
 pub mod Decide
 pub mod Read
 pub mod Skip
+pub mod First
 pub mod Shift
 pub mod Substitution
 pub mod Contraction
 pub mod Relation
 pub mod Conversion
 pub mod Leftmost
+pub mod Position
 pub mod Equality
 pub mod Rounds
 pub mod Bench

@@ -10,24 +10,34 @@ pub struct Word(pub u32);
 impl Word {
     // The kinds.
     pub const VARIABLE: u32 = 0;
+
     pub const ABSTRACTION: u32 = 1;
+
     pub const APPLICATION: u32 = 2;
+
     pub const CONSTRUCTOR: u32 = 3;
+
     pub const CASE: u32 = 4;
+
     pub const BRANCH: u32 = 5;
 
     // A payload stands above the kind, a tag above a count.
     pub const KIND_BASE: u32 = 8;
+
     pub const COUNT_BASE: u32 = 16;
 
     // The words of a workspace, least and most.
     pub const WORKSPACE_LEAST: usize = 16;
+
     pub const WORKSPACE_MOST: usize = 2048;
 
     // The largest tag, argument or bound count, number of branches and free number.
     pub const TAG_MOST: u32 = 255;
+
     pub const ARGUMENTS_MOST: u32 = 15;
+
     pub const BRANCHES_MOST: u32 = 15;
+
     pub const FREE_MOST: u32 = 255;
 
     // The word of a kind and a payload.
