@@ -4,6 +4,7 @@ pub mod Words
 pub mod Accepted
 pub mod Decide
 pub mod Read
+pub mod Workspace
 pub mod Shift
 pub mod Substitution
 pub mod Contraction
