@@ -6,6 +6,7 @@ pub mod Decide
 pub mod Read
 pub mod Skip
 pub mod First
+pub mod Workspace
 pub mod Shift
 pub mod Substitution
 pub mod Contraction

@@ -1,13 +1,13 @@
 -- A press ("A press", "Numbers for refused calls"), as a function of everything at entry to everything at exit.
-use Prim.Native.Nat.{ℕ, _+_, _-_}
+use Prim.Native.Nat.{ℕ, _+_}
 use mathlib.Core.Bool.{Bool, cond, _&&_}
-use mathlib.Core.List.{List, _++_}
+use mathlib.Core.List.{List}
 use mathlib.Core.Option.{Option, some, none}
 use lib.Dec.{leb, eqb}
-use lib.ListN.{length, take, replicate}
+use lib.ListN.{length, replicate}
 use Rattle.calculus.specs.Term.{Term}
 use Rattle.calculus.specs.Words.{words, size, workspaceLeast, workspaceMost}
-use Rattle.calculus.specs.Read.{read}
+use Rattle.calculus.specs.Workspace.{termAt, padded}
 use Rattle.calculus.specs.Rounds.{Verdict, Outcome, rounds}
 use Rattle.rounds.specs.Session.{Session}
 
@@ -49,14 +49,6 @@ sized left right scratch = leb workspaceLeast left && (leb left workspaceMost &&
 -- Budget and total pass refusal 9.
 abbrev pub affordable : (budget total : ℕ) → Bool
 affordable budget total = leb budget budgetLimit && leb (total + budget) totalLimit
-
--- The whole term that the first n words of a workspace are; none is refusal 10. No term has 0 words.
-unfoldable pub termAt : List ℕ → ℕ → Option Term
-termAt ws n = cond (leb n (length ws)) (read (take n ws)) none
-
--- Words, and zeros after them to the end of a workspace of C words.
-abbrev pub padded : ℕ → List ℕ → List ℕ
-padded C ws = ws ++ replicate (C - length ws) 0
 
 -- A refused press changes nothing.
 abbrev pub refuse : Memory → Call → ℕ → Pressed
