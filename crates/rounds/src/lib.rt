@@ -1,1 +1,70 @@
-// Comparison, the press and showing.
+// The verdict: comparison of the two terms, the rounds of a press, the press, and showing.
+ghost use mathlib.Core.Path.{_≡_};
+ghost use mathlib.Core.List.{_++_};
+ghost use Prim.Native.Nat.{_≤_, _-_};
+ghost use lib.ListN.{length, take, drop, replicate};
+ghost use Rattle.rounds.specs.Press.{sized, affordable};
+ghost use Rattle.rounds.specs.Compare.{sameWords};
+use words::Word;
+
+pub enum Verdict {
+    Same,
+    Different,
+    Budget,
+    Full,
+}
+
+// What the unit keeps between presses: total spent, both lengths and the last verdict.
+pub struct Session {
+    pub total: u32,
+    pub left: usize,
+    pub right: usize,
+    pub verdict: Verdict,
+}
+
+// A press's answer: the number of the refusal, or what is shown.
+pub enum Answer {
+    Refused(u32),
+    Shown {
+        verdict: Verdict,
+        spent: u32,
+        left: usize,
+        right: usize,
+    },
+}
+
+// The answer with the session as the press leaves it.
+pub struct Pressed {
+    pub answer: Answer,
+    pub session: Session,
+}
+
+// Whether the first n words of one workspace and the first m of another are the same.
+fn same(ws: &[u32], n: usize, vs: &[u32], m: usize) -> bool
+    requires { ⌜ (n ≤ length (now ws)) × (m ≤ length (now vs)) ⌝ }
+    ensures { λ r. ⌜ r ≡ sameWords (take n (now (ws .entry))) (take m (now (vs .entry))) ⌝ }
+{
+    if n != m {
+        return false;
+    }
+    let mut i = 0;
+    while i < n {
+        if ws[i] != vs[i] {
+            return false;
+        }
+        i += 1;
+    }
+    true
+}
+
+// Zeros from a position to the end.
+fn clear(ws: &mut [u32], from: usize)
+    requires { ⌜ from ≤ length (now ws) ⌝ }
+    ensures { λ _. ⌜ now (ws .exit) ≡ take from (now (ws .entry)) ++ replicate (length (now (ws .entry)) - from) 0 ⌝ }
+{
+    let mut i = from;
+    while i < ws.len() {
+        ws[i] = 0;
+        i += 1;
+    }
+}
