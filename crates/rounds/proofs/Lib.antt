@@ -1,2 +1,4 @@
 pub mod Walk
 pub mod Verdicts
+pub mod Workspaces
+pub mod PressLaws

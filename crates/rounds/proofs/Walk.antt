@@ -48,7 +48,7 @@ ruled-contract {C} {t} {u} {next} rest p long h = by (ltb rest p) long h
     by false true h = stops tt
     by false false h = h refl
 
-neither : (a b : Bool) → (a || b) ≡ false → (a ≡ false) × (b ≡ false)
+pub neither : (a b : Bool) → (a || b) ≡ false → (a ≡ false) × (b ≡ false)
 neither true b e = absurd (true≢false e)
 neither false b e = (refl, e)
 
