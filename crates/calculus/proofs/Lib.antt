@@ -1,1 +1,7 @@
 pub mod Bench
+pub mod Scan
+pub mod Inversion
+pub mod LeftmostLaws
+pub mod Decidable
+pub mod Spine
+pub mod AcceptedLaws
