@@ -1,13 +1,14 @@
--- Contraction, inverted: the contractions of an expression, by recursion on the expression, with the positions in the order of its words. They
--- are those of the relation `Contracts`, both ways.
-use Prim.Native.Nat.{ℕ, suc, _+_}
-use mathlib.Core.Path.{_≡_, refl, sym, _∙_, ap, subst, subst₂}
+-- Contraction inverted: which contractions an expression has, by recursion on the expression, in the order of its words. They are exactly those of
+-- the relation `Contracts`.
+use Prim.Native.Nat.{ℕ, _+_}
+use mathlib.Core.Path.{_≡_, refl, sym, subst₂}
 use mathlib.Core.Logic.{inl, inr}
-use mathlib.Core.Option.{Option, some, none, Option·some-injective, Option·none-ne-some}
+use mathlib.Core.Option.{Option, some, Option·some-injective, Option·none-ne-some}
 use native.Mathlib.Omega.{arith}
-use Rattle.calculus.specs.Term.{Sort, term, terms, branches, Exp, var, lam, app, con, case, nil, cons, end, branch, Term, Branches}
+use Rattle.calculus.specs.Term.{Sort, term, Exp, var, lam, app, con, case, nil, cons, end, branch, Term, Branches}
 use Rattle.calculus.specs.Words.{size}
-use Rattle.calculus.specs.Contraction.{Rule, by-beta, by-case, Contracts, at-beta, at-case, in-body, in-function, in-argument, in-arguments, in-subject, in-branches, in-first, in-later, in-branch, in-later-branch}
+use Rattle.calculus.specs.Contraction.{Rule, by-beta, by-case, Contracts, at-beta, at-case, in-body, in-function, in-argument}
+use Rattle.calculus.specs.Contraction.{in-arguments, in-subject, in-branches, in-first, in-later, in-branch, in-later-branch}
 use Rattle.calculus.specs.Leftmost.{beta, inspect}
 use Rattle.calculus.proofs.Scan.{Placed, nowhere, here, through, followed}
 
@@ -15,15 +16,18 @@ abbrev pub contractions : {s : Sort} → Exp s → Placed Rule (Exp s)
 contractions (var i) = nowhere
 contractions (lam b) = followed 1 nowhere (through lam (contractions b))
 contractions (app f a) =
-    followed 1 (here by-beta (beta f a)) (followed (size f) (through (λ f′. app f′ a) (contractions f)) (through (app f) (contractions a)))
+    followed 1 (here by-beta (beta f a))
+    (followed (size f) (through (λ f′. app f′ a) (contractions f)) (through (app f) (contractions a)))
 contractions (con t xs) = followed 1 nowhere (through (con t) (contractions xs))
 contractions (case e bs) =
-    followed 1 (here by-case (inspect e bs)) (followed (size e) (through (λ e′. case e′ bs) (contractions e)) (through (case e) (contractions bs)))
+    followed 1 (here by-case (inspect e bs))
+    (followed (size e) (through (λ e′. case e′ bs) (contractions e)) (through (case e) (contractions bs)))
 contractions nil = nowhere
 contractions (cons a xs) = followed (size a) (through (λ a′. cons a′ xs) (contractions a)) (through (cons a) (contractions xs))
 contractions end = nowhere
 contractions (branch t n b bs) =
-    followed 1 nowhere (followed (size b) (through (λ b′. branch t n b′ bs) (contractions b)) (through (branch t n b) (contractions bs)))
+    followed 1 nowhere
+    (followed (size b) (through (λ b′. branch t n b′ bs) (contractions b)) (through (branch t n b) (contractions bs)))
 
 pub invert : {s : Sort} {p : ℕ} {r : Rule} {e g : Exp s} → Contracts s p r e g → contractions e p r g
 invert at-beta = inl (refl, refl, refl)
@@ -39,7 +43,7 @@ invert (in-later {p = p} {xs′ = xs′} c) = inr (p, refl, (xs′, invert c, re
 invert (in-branch {p = p} {b′ = b′} c) = inr (p, omega arith, inl (b′, invert c, refl))
 invert (in-later-branch {p = p} {b = b} {bs′ = bs′} c) = inr (size b + p, omega arith, inr (p, refl, (bs′, invert c, refl)))
 
--- A contraction stated at an equal position and with an equal result.
+-- A contraction, stated at an equal position and with an equal result.
 moved : {s : Sort} {p q : ℕ} {r : Rule} {e g h : Exp s} → Contracts s q r e h → q ≡ p → h ≡ g → Contracts s p r e g
 moved {s} {r = r} {e} c x y = subst₂ (λ p g. Contracts s p r e g) x y c
 
@@ -57,7 +61,8 @@ contracts-case (app f a) bs {g} h = absurd (Option·none-ne-some g h)
 contracts-case (con t xs) bs h = at-case h
 contracts-case (case e cs) bs {g} h = absurd (Option·none-ne-some g h)
 
-at-root : {p : ℕ} {r rule : Rule} {o : Option Term} {e g : Term} → (o ≡ some g → Contracts term 0 rule e g) → here rule o p r g → Contracts term p r e g
+at-root : {p : ℕ} {r rule : Rule} {o : Option Term} {e g : Term} → (o ≡ some g → Contracts term 0 rule e g) → here rule o p r g
+    → Contracts term p r e g
 at-root {e = e} {g} f c = subst₂ (λ p r. Contracts term p r e g) (sym (c .0)) (sym (c .1)) (f (c .2))
 
 pub contracts : {s : Sort} {p : ℕ} {r : Rule} (e : Exp s) {g : Exp s} → contractions e p r g → Contracts s p r e g

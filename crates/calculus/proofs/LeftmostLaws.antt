@@ -11,7 +11,8 @@ use Rattle.calculus.specs.Contraction.{Rule, by-beta, by-case, Contracts
 use Rattle.calculus.specs.Conversion.{Contracts₁}
 use Rattle.calculus.specs.Leftmost.{beta, inspect, leftmost}
 use Rattle.calculus.specs.Theorems.{Leftmost-step, Leftmost-none, Contraction-deterministic}
-use Rattle.calculus.proofs.Scan.{Scanned, scanned-resize, scanned-nowhere, scanned-here, scanned-through, scanned-followed, scanned-same, first-some, first-none}
+use Rattle.calculus.proofs.Scan.{Scanned, scanned-resize, scanned-nowhere, scanned-here, scanned-through, scanned-followed}
+use Rattle.calculus.proofs.Scan.{scanned-same, first-some, first-none}
 use Rattle.calculus.proofs.Inversion.{contractions, invert, contracts}
 
 -- A walk along the words of an expression meets its redexes in the order of their positions, and `leftmost` takes the first.
@@ -20,25 +21,22 @@ unfolding leftmost orElse
 walk (var i) = scanned-nowhere 1
 walk (lam b) = scanned-resize (omega arith) (scanned-followed (scanned-nowhere 1) (scanned-through lam (walk b)))
 walk (app f a) =
-    scanned-resize (omega (arith, length-append (words f) (words a)))
-    (scanned-followed (scanned-here by-beta (beta f a))
-    (scanned-followed (scanned-through (λ f′. app f′ a) (walk f)) (scanned-through (app f) (walk a))))
+    let parts = scanned-followed (scanned-through (λ f′. app f′ a) (walk f)) (scanned-through (app f) (walk a)) in
+    scanned-resize (omega (arith, length-append (words f) (words a))) (scanned-followed (scanned-here by-beta (beta f a)) parts)
 walk (con t xs) = scanned-resize (omega arith) (scanned-followed (scanned-nowhere 1) (scanned-through (con t) (walk xs)))
 walk (case e bs) =
-    scanned-resize (omega (arith, length-append (words e) (words bs)))
-    (scanned-followed (scanned-here by-case (inspect e bs))
-    (scanned-followed (scanned-through (λ e′. case e′ bs) (walk e)) (scanned-through (case e) (walk bs))))
+    let parts = scanned-followed (scanned-through (λ e′. case e′ bs) (walk e)) (scanned-through (case e) (walk bs)) in
+    scanned-resize (omega (arith, length-append (words e) (words bs))) (scanned-followed (scanned-here by-case (inspect e bs)) parts)
 walk nil = scanned-nowhere 0
 walk (cons a xs) =
-    scanned-resize (sym (length-append (words a) (words xs)))
-    (scanned-followed (scanned-through (λ a′. cons a′ xs) (walk a)) (scanned-through (cons a) (walk xs)))
+    let parts = scanned-followed (scanned-through (λ a′. cons a′ xs) (walk a)) (scanned-through (cons a) (walk xs)) in
+    scanned-resize (sym (length-append (words a) (words xs))) parts
 walk end = scanned-nowhere 0
 walk (branch t n b bs) =
-    scanned-resize (omega (arith, length-append (words b) (words bs)))
-    (scanned-followed (scanned-nowhere 1)
-    (scanned-followed (scanned-through (λ b′. branch t n b′ bs) (walk b)) (scanned-through (branch t n b) (walk bs))))
+    let parts = scanned-followed (scanned-through (λ b′. branch t n b′ bs) (walk b)) (scanned-through (branch t n b) (walk bs)) in
+    scanned-resize (omega (arith, length-append (words b) (words bs))) (scanned-followed (scanned-nowhere 1) parts)
 
--- Of an expression of any sort: each redex starts below the size, its position decides the rule and the result, and `leftmost` gives the first.
+-- At every sort: a redex starts below the size, its position decides the rule and the result, and `leftmost` gives what the first redex gives.
 pub scanned : {s : Sort} (e : Exp s) → Scanned (size e) (leftmost e) (λ p r g. Contracts s p r e g)
 scanned e = scanned-same (λ p r g. (contracts e, invert)) (walk e)
 

@@ -1,5 +1,5 @@
--- The spine of a list of arguments or branches: what shifting, substitution and contraction never change of it. That is how many members it has
--- and, of branches, their tags; the limits on counts and the rise of tags (`Accepted`) are read from it.
+-- The spine of a list of arguments or branches: how many members it has and, of branches, their tags. Shifting, substitution and contraction
+-- leave it as it is; the limits on counts and the rise of tags (`Accepted`) are read from it.
 use Prim.Native.Nat.{ℕ, suc, _≤_, _<_}
 use mathlib.Core.Path.{_≡_, refl, sym, _∙_, ap, transport}
 use mathlib.Core.List.{List, [], _∷_}
@@ -10,7 +10,8 @@ use Rattle.calculus.specs.Term.{Sort, Exp, var, lam, app, con, case, nil
 use Rattle.calculus.specs.Accepted.{StartsAbove, Rising}
 use Rattle.calculus.specs.Shift.{shift}
 use Rattle.calculus.specs.Substitution.{subst}
-use Rattle.calculus.specs.Contraction.{Rule, Contracts, at-beta, at-case, in-body, in-function, in-argument, in-arguments, in-subject, in-branches, in-first, in-later, in-branch, in-later-branch}
+use Rattle.calculus.specs.Contraction.{Rule, Contracts, at-beta, at-case, in-body, in-function, in-argument}
+use Rattle.calculus.specs.Contraction.{in-arguments, in-subject, in-branches, in-first, in-later, in-branch, in-later-branch}
 
 -- An entry for each member: the tag of a branch, 0 for an argument. A term has none.
 abbrev pub spine : {s : Sort} → Exp s → List ℕ
