@@ -22,6 +22,12 @@ pub struct Session {
     pub verdict: Verdict,
 }
 
+impl Session {
+    // The limits of a budget, and of total spent with a budget.
+    pub const BUDGET_MOST: u32 = 1000000;
+    pub const TOTAL_MOST: u64 = 1000000000;
+}
+
 // A press's answer: the number of the refusal, or what is shown.
 pub enum Answer {
     Refused(u32),
@@ -67,4 +73,36 @@ fn clear(ws: &mut [u32], from: usize)
         ws[i] = 0;
         i += 1;
     }
+}
+
+// Whether workspaces and scratch of these lengths pass refusal 7.
+fn sizes_pass(left: usize, right: usize, scratch: usize) -> bool
+    ensures { λ r. ⌜ r ≡ sized left right scratch ⌝ }
+{
+    if left < Word::WORKSPACE_LEAST {
+        return false;
+    }
+    if Word::WORKSPACE_MOST < left {
+        return false;
+    }
+    if right != left {
+        return false;
+    }
+    if scratch != left {
+        return false;
+    }
+    true
+}
+
+// Whether a budget on top of this total passes refusal 9.
+fn budget_passes(budget: u32, total: u32) -> bool
+    ensures { λ r. ⌜ r ≡ affordable budget total ⌝ }
+{
+    if Session::BUDGET_MOST < budget {
+        return false;
+    }
+    if Session::TOTAL_MOST < total as u64 + budget as u64 {
+        return false;
+    }
+    true
 }
