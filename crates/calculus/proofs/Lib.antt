@@ -13,3 +13,8 @@ pub mod RedexWord
 pub mod Decidable
 pub mod Spine
 pub mod AcceptedLaws
+pub mod Rewriting
+pub mod Traversal
+pub mod Substitution
+pub mod Parallel
+pub mod ChurchRosser
