@@ -83,9 +83,9 @@ unfolding press
 answered-here s m c h =
     let C = length (m .left) in
     let size-test : sized C (length (m .right)) (length (c .scratch)) ≡ not (wrongSize C (length (c .scratch)))
-        = ap (λ n. sized C n (length (c .scratch))) (h .right-holds .length-is) ∙ sized-not C (length (c .scratch)) in
+    = ap (λ n. sized C n (length (c .scratch))) (h .right-holds .length-is) ∙ sized-not C (length (c .scratch)) in
     let total-test : affordable (c .budget) (m .session .total) ≡ not (overspent (c .budget) (s .total))
-        = ap (affordable (c .budget)) (h .total-is) ∙ affordable-not (c .budget) (s .total) in
+    = ap (affordable (c .budget)) (h .total-is) ∙ affordable-not (c .budget) (s .total) in
     rw (size-test, total-test, termAt-holds (h .left-holds) (c .leftLength), termAt-holds (h .right-holds) (c .rightLength))
     (answered-tests s m c (wrongSize C (length (c .scratch))) (overspent (c .budget) (s .total))
     (eqb (c .leftLength) (size (s .left))) (eqb (c .rightLength) (size (s .right))) (right-size C (length (c .scratch))))

@@ -37,20 +37,20 @@ module _
     (contraction-keeps-accepted : Contraction-keeps-accepted)
     (joined-normal-equal : Joined-normal-equal)
   where
-  contracts : {t t′ : Term} → leftmost t ≡ some t′ → Contracts₁ t t′
-  contracts {t} {t′} e = let (p, r, c, first) = leftmost-step t t′ .0 e in (p, r, c)
+    contracts : {t t′ : Term} → leftmost t ≡ some t′ → Contracts₁ t t′
+    contracts {t} {t′} e = let (p, r, c, first) = leftmost-step t t′ .0 e in (p, r, c)
 
-  pub walk-accepted : {C s : ℕ} {t u t′ u′ : Term} → Walk C s t u t′ u′ → (Accepted 0 t → Accepted 0 t′) × (Accepted 0 u → Accepted 0 u′)
-  walk-accepted w = walk-keeps {P = Accepted 0} (λ t t′ e f h. let (p, r, c) = contracts e in contraction-keeps-accepted 0 p r t t′ c h) w
+    pub walk-accepted : {C s : ℕ} {t u t′ u′ : Term} → Walk C s t u t′ u′ → (Accepted 0 t → Accepted 0 t′) × (Accepted 0 u → Accepted 0 u′)
+    walk-accepted w = walk-keeps {P = Accepted 0} (λ t t′ e f h. let (p, r, c) = contracts e in contraction-keeps-accepted 0 p r t t′ c h) w
 
-  walk-reaches : {C s : ℕ} {t u t′ u′ : Term} → Walk C s t u t′ u′ → (w : Term) → (Reaches w t → Reaches w t′) × (Reaches w u → Reaches w u′)
-  walk-reaches w x = walk-keeps {P = Reaches x} (λ t t′ e f h. star-then h (contracts e)) w
+    walk-reaches : {C s : ℕ} {t u t′ u′ : Term} → Walk C s t u t′ u′ → (w : Term) → (Reaches w t → Reaches w t′) × (Reaches w u → Reaches w u′)
+    walk-reaches w x = walk-keeps {P = Reaches x} (λ t t′ e f h. star-then h (contracts e)) w
 
-  pub reached : {C s : ℕ} {t u t′ u′ : Term} → Walk C s t u t′ u′ → Reaches t t′ × Reaches u u′
-  reached {t = t} {u = u} w = (walk-reaches w t .0 stop, walk-reaches w u .1 stop)
+    pub reached : {C s : ℕ} {t u t′ u′ : Term} → Walk C s t u t′ u′ → Reaches t t′ × Reaches u u′
+    reached {t = t} {u = u} w = (walk-reaches w t .0 stop, walk-reaches w u .1 stop)
 
-  -- After Different no chain joins the terms at the start.
-  pub different-not-joined : {C s : ℕ} {t u t′ u′ : Term} → Walk C s t u t′ u′ → Tells Different t′ u′ → Joined t u → ⊥
-  different-not-joined {t′ = t′} {u′ = u′} w (n, p, q) c =
-      let (f, g) = reached w in
-      n (joined-normal-equal t′ u′ (chain-to-reached (chain-from-reached f c) g) (leftmost-none t′ .0 p) (leftmost-none u′ .0 q))
+    -- After Different no chain joins the terms at the start.
+    pub different-not-joined : {C s : ℕ} {t u t′ u′ : Term} → Walk C s t u t′ u′ → Tells Different t′ u′ → Joined t u → ⊥
+    different-not-joined {t′ = t′} {u′ = u′} w (n, p, q) c =
+        let (f, g) = reached w in
+        n (joined-normal-equal t′ u′ (chain-to-reached (chain-from-reached f c) g) (leftmost-none t′ .0 p) (leftmost-none u′ .0 q))

@@ -35,7 +35,7 @@ whole-term : {C : ℕ} {t u : Term} {ws : List ℕ} → Holds C t ws → (n : �
 whole-term {t = t} {u = u} {ws = ws} h n k e =
     let (w, a) = read-exact (take n ws) u .0 e in
     let (q, _) = words-prefix-free t u (h .others) (drop n ws) (accepted-packable 0 t (h .accepted)) (accepted-packable 0 u a)
-        (sym (h .contents) ∙ sym (take-append-drop n ws) ∙ ap (λ l. l ++ drop n ws) (sym w)) in
+    (sym (h .contents) ∙ sym (take-append-drop n ws) ∙ ap (λ l. l ++ drop n ws) (sym w)) in
     sym (length-take-le n ws k) ∙ ap length (sym w) ∙ ap size (sym q)
 
 termAt-size : {C : ℕ} {t : Term} {ws : List ℕ} → Holds C t ws → termAt ws (size t) ≡ some t

@@ -1,6 +1,7 @@
 -- What a press does, as a function of everything at entry, and the claim about lists of presses.
 pub mod Session
 pub mod Compare
+pub mod Turn
 pub mod Press
 pub mod Show
 pub mod Types

@@ -8,6 +8,11 @@ use Rattle.rounds.specs.declared.Answer as codeAnswer
 use Rattle.rounds.specs.declared.Answer.the-variants as answer
 use Rattle.rounds.specs.declared.Session as codeSession
 use Rattle.rounds.specs.declared.Pressed as codePressed
+use Rattle.rounds.specs.declared.Plan as codePlan
+use Rattle.rounds.specs.declared.Plan.the-variants as plan
+use Rattle.rounds.specs.declared.Turn as codeTurn
+use Rattle.rounds.specs.declared.Turn.the-variants as turn
+use Rattle.rounds.specs.Turn.{Plan, normal, contract, Turn, ends, goes}
 use Rattle.rounds.specs.Session.{Session}
 use Rattle.rounds.specs.Press.{Answer, refused, shown, Memory, Call, Pressed}
 
@@ -35,3 +40,11 @@ callOf scratch l r b = record { scratch = scratch; leftLength = l; rightLength =
 -- Everything at exit of the covered press: its result and the three lent slices.
 abbrev pub pressedOf : codePressed.Pressed → (left right scratch : List ℕ) → Pressed
 pressedOf p l r s = record { answer = answerOf (p .answer); memory = memoryOf l r (p .session); scratch = s }
+
+abbrev pub planOf : codePlan.Plan → Plan
+planOf plan.Normal = normal
+planOf (plan.Contract p n) = contract p n
+
+abbrev pub turnOf : codeTurn.Turn → Turn
+turnOf (turn.Ends v) = ends (verdictOf v)
+turnOf (turn.Goes p) = goes p

@@ -2,9 +2,13 @@
 ghost use mathlib.Core.Path.{_≡_};
 ghost use mathlib.Core.List.{_++_};
 ghost use Prim.Native.Nat.{_≤_, _-_};
+ghost use mathlib.Core.Bool.{_||_};
+ghost use lib.Dec.{ltb};
 ghost use lib.ListN.{length, take, drop, replicate};
 ghost use Rattle.rounds.specs.Press.{sized, affordable};
 ghost use Rattle.rounds.specs.Compare.{sameWords};
+ghost use Rattle.rounds.specs.Turn.{spend, turn};
+ghost use Rattle.rounds.specs.Types.{turnOf, planOf};
 use words::Word;
 
 pub enum Verdict {
@@ -25,6 +29,7 @@ pub struct Session {
 impl Session {
     // The limits of a budget, and of total spent with a budget.
     pub const BUDGET_MOST: u32 = 1000000;
+
     pub const TOTAL_MOST: u64 = 1000000000;
 }
 
@@ -105,4 +110,61 @@ fn budget_passes(budget: u32, total: u32) -> bool
         return false;
     }
     true
+}
+
+// What a side would do in a round: nothing where it is normal, or contract the redex at a position, to a term of `length` words.
+enum Plan {
+    Normal,
+    Contract { at: usize, length: usize },
+}
+
+// What a round comes to: it ends in a verdict, or makes so many contractions.
+enum Turn {
+    Ends(Verdict),
+    Goes(u32),
+}
+
+// Points 3 to 5 of a round for `count` sides that are not normal, of which one has a next term that is too `long`, or none has.
+fn spend(rest: u32, count: u32, long: bool) -> Turn
+    ensures { λ r. ⌜ turnOf r ≡ spend rest count long ⌝ }
+{
+    if rest < count {
+        return Turn::Ends(Verdict::Budget);
+    }
+    if long {
+        return Turn::Ends(Verdict::Full);
+    }
+    Turn::Goes(count)
+}
+
+// Whether one of two terms is longer than a workspace of c words.
+fn either_long(c: usize, n: usize, m: usize) -> bool
+    ensures { λ r. ⌜ r ≡ (ltb c n || ltb c m) ⌝ }
+{
+    if c < n {
+        return true;
+    }
+    c < m
+}
+
+// One round, points 1 to 5, with `rest` left of the budget and workspaces of c words.
+fn judge(equal: bool, left: Plan, right: Plan, rest: u32, c: usize) -> Turn
+    ensures { λ r. ⌜ turnOf r ≡ turn equal (planOf left) (planOf right) rest c ⌝ }
+{
+    if equal {
+        return Turn::Ends(Verdict::Same);
+    }
+    match left {
+        Plan::Normal => match right {
+            Plan::Normal => Turn::Ends(Verdict::Different),
+            Plan::Contract { at: _, length } => spend(rest, 1, c < length),
+        },
+        Plan::Contract { at: _, length } => match right {
+            Plan::Normal => spend(rest, 1, c < length),
+            Plan::Contract {
+                at: _,
+                length: other,
+            } => spend(rest, 2, either_long(c, length, other)),
+        },
+    }
 }
