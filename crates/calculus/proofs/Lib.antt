@@ -6,3 +6,10 @@ pub mod ReadLaws
 pub mod PrefixFree
 pub mod Move
 pub mod Indices
+pub mod Scan
+pub mod Inversion
+pub mod LeftmostLaws
+pub mod Position
+pub mod Decidable
+pub mod Spine
+pub mod AcceptedLaws
