@@ -13,3 +13,5 @@ pub mod Position
 pub mod Decidable
 pub mod Spine
 pub mod AcceptedLaws
+pub mod Earliest
+pub mod PositionLaws
