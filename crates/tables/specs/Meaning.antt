@@ -58,8 +58,8 @@ isRecord T i = leb 1 i && leb i (T .n)
 abbrev pub Reading : Type 0
 Reading = (s : Sort) → ℕ → Option (Exp s)
 
-unfoldable pub readTerm : Table → Reading → ℕ → Option Term
-readTerm T rec i =
+unfoldable pub meantTerm : Table → Reading → ℕ → Option Term
+meantTerm T rec i =
     elim (isRecord T i) [
       | false ↦ none
       | true ↦ elim (eqb (T .at i .kind) caseKind) [
@@ -68,28 +68,28 @@ readTerm T rec i =
       ]
     ]
 
-unfoldable pub readTerms : Table → Reading → ℕ → Option Terms
-readTerms T rec i =
+unfoldable pub meantTerms : Table → Reading → ℕ → Option Terms
+meantTerms T rec i =
     elim (eqb i 0) [ true ↦ some nil | false ↦ bind (rec term i) (λ a. Option·map (cons a) (rec terms (T .at i .next))) ]
 
-unfoldable pub readBranch : Table → Reading → ℕ → Term → Option Branches
-readBranch T rec i b =
+unfoldable pub meantBranch : Table → Reading → ℕ → Term → Option Branches
+meantBranch T rec i b =
     Option·map (branch (tagOf (T .at i .value)) (countOf (T .at i .value)) b) (rec branches (T .at i .next))
 
-unfoldable pub readBranches : Table → Reading → ℕ → Option Branches
-readBranches T rec i =
+unfoldable pub meantBranches : Table → Reading → ℕ → Option Branches
+meantBranches T rec i =
     elim (eqb i 0) [
       | true ↦ some end
       | false ↦ elim (isRecord T i && eqb (T .at i .kind) branchKind)
-          [ false ↦ none | true ↦ bind (rec terms (T .at i .first)) (λ xs. bind (onlyOne xs) (readBranch T rec i)) ]
+          [ false ↦ none | true ↦ bind (rec terms (T .at i .first)) (λ xs. bind (onlyOne xs) (meantBranch T rec i)) ]
     ]
 
 -- Term and chain by turns, at most `bound` deep.
 unfoldable pub meant : Table → (bound : ℕ) → Reading
 meant T zero s i = none
-meant T (suc k) term i = readTerm T (meant T k) i
-meant T (suc k) terms i = readTerms T (meant T k) i
-meant T (suc k) branches i = readBranches T (meant T k) i
+meant T (suc k) term i = meantTerm T (meant T k) i
+meant T (suc k) terms i = meantTerms T (meant T k) i
+meant T (suc k) branches i = meantBranches T (meant T k) i
 
 -- A chain is read at the record that it starts with, and every other link names a later record: so 2 × n deep is enough.
 unfoldable pub meaning : Table → Option Term
