@@ -4,6 +4,8 @@ pub mod Words
 pub mod Accepted
 pub mod Decide
 pub mod Read
+pub mod Skip
+pub mod First
 pub mod Workspace
 pub mod Shift
 pub mod Substitution
@@ -11,6 +13,7 @@ pub mod Contraction
 pub mod Relation
 pub mod Conversion
 pub mod Leftmost
+pub mod Position
 pub mod Equality
 pub mod Rounds
 pub mod Bench

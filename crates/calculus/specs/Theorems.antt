@@ -3,16 +3,18 @@ use Prim.Native.Nat.{ℕ, _+_, _≤_, _<_}
 use mathlib.Core.Path.{_≡_}
 use mathlib.Core.List.{List, _++_}
 use mathlib.Core.Logic.{_↔_}
-use mathlib.Core.Option.{Option, some, none}
+use mathlib.Core.Option.{some, none, bind}
 use lib.IntN.{ℤ, pos, _+ℤ_}
+use lib.ListN.{getD}
 use Rattle.calculus.specs.Term.{Sort, term, Exp, var, lam, app, con, case, nil, cons, end, branch, Term, count}
-use Rattle.calculus.specs.Words.{countBase, words, size, workspaceMost}
+use Rattle.calculus.specs.Words.{applicationKind, caseKind, kindOf, countBase, words, size, workspaceMost}
 use Rattle.calculus.specs.Accepted.{Accepted}
 use Rattle.calculus.specs.Read.{read}
 use Rattle.calculus.specs.Shift.{move}
-use Rattle.calculus.specs.Contraction.{Rule, Contracts}
+use Rattle.calculus.specs.Contraction.{Rule, by-beta, by-case, Contracts}
 use Rattle.calculus.specs.Conversion.{Reaches, Joined, Normal}
 use Rattle.calculus.specs.Leftmost.{leftmost}
+use Rattle.calculus.specs.Position.{contractAt, redexAt}
 
 -- `read` gives t exactly for the words of t where t is accepted.
 abbrev pub Read-exact : Type 0
@@ -50,6 +52,31 @@ Leftmost-step = (t u : Term) → (leftmost t ≡ some u) ↔ Contracts-leftmost 
 
 abbrev pub Leftmost-none : Type 0
 Leftmost-none = (t : Term) → (leftmost t ≡ none) ↔ Normal t
+
+-- The kind of a redex's first word, by its rule; it stands at the position of the contraction.
+abbrev pub redexKind : Rule → ℕ
+redexKind by-beta = applicationKind
+redexKind by-case = caseKind
+
+abbrev pub Contraction-position : Type 0
+Contraction-position = (p : ℕ) (r : Rule) (t u : Term) → Contracts term p r t u → kindOf (getD (words t) p 0) ≡ redexKind r
+
+-- `contractAt` gives what a contraction at that position gives.
+abbrev pub Contract-at-position : Type 0
+Contract-at-position = (p : ℕ) (t u : Term) → (contractAt p t ≡ some u) ↔ ((r : Rule) × Contracts term p r t u)
+
+-- `redexAt` gives the first position at which a redex starts, and none exactly in a normal term.
+abbrev pub Redex-first : Type 0
+Redex-first =
+    (t : Term) (p : ℕ) → (redexAt t ≡ some p)
+    ↔ (((u : Term) × (contractAt p t ≡ some u)) × ((q : ℕ) → q < p → contractAt q t ≡ none))
+
+abbrev pub Redex-none : Type 0
+Redex-none = (t : Term) → (redexAt t ≡ none) ↔ Normal t
+
+-- The leftmost step contracts at the first redex.
+abbrev pub Leftmost-at-redex : Type 0
+Leftmost-at-redex = (t : Term) → leftmost t ≡ bind (redexAt t) (λ p. contractAt p t)
 
 -- The position of a redex decides the rule and the result.
 abbrev pub Contraction-deterministic : Type 0

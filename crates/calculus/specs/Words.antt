@@ -32,14 +32,17 @@ abbrev pub workspaceMost : ℕ
 workspaceMost = 2048
 
 -- The word of a kind and a payload, and both of a word.
+abbrev pub kindBase : ℕ
+kindBase = 8
+
 abbrev pub word : ℕ → ℕ → ℕ
-word kind payload = payload * 8 + kind
+word kind payload = payload * kindBase + kind
 
 abbrev pub kindOf : ℕ → ℕ
-kindOf w = w % 8
+kindOf w = w % kindBase
 
 abbrev pub payloadOf : ℕ → ℕ
-payloadOf w = w / 8
+payloadOf w = w / kindBase
 
 -- The payload of a tag and a count, and both of a payload. It holds counts below 16.
 abbrev pub countBase : ℕ

@@ -1,0 +1,19 @@
+-- The first items of a word list as trees, whatever words follow them: what the code's positions inside a workspace stand for. Where the list does
+-- not start so, the value is a fixed one that no contract uses.
+use Prim.Native.Nat.{ℕ}
+use mathlib.Core.List.{List, [], _∷_}
+use mathlib.Core.Option.{Option, some, none, bind, Option·map, Option·getD}
+use lib.ListN.{take}
+use Rattle.calculus.specs.Term.{Term, Terms, Branches, var, nil, end}
+use Rattle.calculus.specs.Read.{Item, items, takeTerm, takeTerms, takeBranches}
+use Rattle.calculus.specs.Skip.{span}
+
+-- The first term, the first n terms and the first n branches.
+unfoldable pub firstTerm : List ℕ → Term
+firstTerm ws = Option·getD (Option·map (λ r. r .0) (bind (items (take (span 1 ws) ws)) takeTerm)) (var 0)
+
+unfoldable pub firstTerms : ℕ → List ℕ → Terms
+firstTerms n ws = Option·getD (Option·map (λ r. r .0) (bind (items (take (span n ws) ws)) (takeTerms n))) nil
+
+unfoldable pub firstBranches : ℕ → List ℕ → Branches
+firstBranches n ws = Option·getD (Option·map (λ r. r .0) (bind (items (take (span n ws) ws)) (takeBranches n))) end
