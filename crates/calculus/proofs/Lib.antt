@@ -19,9 +19,5 @@ pub mod Traversal
 pub mod Substitution
 pub mod Parallel
 pub mod ChurchRosser
-pub mod Position
-pub mod Decidable
-pub mod Spine
-pub mod AcceptedLaws
 pub mod Earliest
 pub mod PositionLaws
