@@ -4,3 +4,4 @@ pub mod Walk
 pub mod Verdicts
 pub mod Workspaces
 pub mod PressLaws
+pub mod TurnLaws
