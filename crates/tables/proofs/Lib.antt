@@ -1,1 +1,4 @@
 pub mod Examples
+pub mod Sums
+pub mod Links
+pub mod MeaningLaws
