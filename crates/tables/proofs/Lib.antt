@@ -2,3 +2,4 @@ pub mod Examples
 pub mod Sums
 pub mod Links
 pub mod MeaningLaws
+pub mod Extent
