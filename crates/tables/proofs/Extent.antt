@@ -67,7 +67,7 @@ module _ (T : Table) (L : Linked T) where
   stable (suc k) (suc k′) l (inr h) (inr h′) =
       within-suc T k l (h .0)
       ∙ ap₂ (λ x y. suc (x + y)) (stable k k′ (T .at l .first) (first-enough l k h) (first-enough l k′ h′))
-        (stable k k′ (T .at l .next) (next-enough l k h) (next-enough l k′ h′))
+      (stable k k′ (T .at l .next) (next-enough l k h) (next-enough l k′ h′))
       ∙ sym (within-suc T k′ l (h .0))
 
   pub extent-record : (i : ℕ) → 1 ≤ i → i ≤ T .n → extent T i ≡ suc (extent T (T .at i .first) + extent T (T .at i .next))
@@ -75,10 +75,11 @@ module _ (T : Table) (L : Linked T) where
   extent-record i l u =
       within-suc T (T .n) i l
       ∙ ap₂ (λ x y. suc (x + y)) (stable _ _ _ (first-enough i (T .n) within) (first-enough i (suc (T .n)) within′))
-        (stable _ _ _ (next-enough i (T .n) within) (next-enough i (suc (T .n)) within′))
+      (stable _ _ _ (next-enough i (T .n) within) (next-enough i (suc (T .n)) within′))
     where
       within : (1 ≤ i) × (i ≤ T .n) × (T .n < i + suc (T .n))
       within = omega arith
+
       within′ : (1 ≤ i) × (i ≤ T .n) × (T .n < i + suc (suc (T .n)))
       within′ = omega arith
 
@@ -118,6 +119,7 @@ module _ (T : Table) (L : Linked T) where
     where
       once : sumOf (T .n) (λ i. namings T i * extent T i) ≡ sumOf (T .n) (extent T)
       once = sum-eq (T .n) _ _ (λ i v w. rw (L .named-once i v w) (one-mul (extent T i)))
+
       each : sumOf (T .n) (extent T) ≡ sumOf (T .n) (λ i. 1 + below i)
       each = sum-eq (T .n) _ _ (λ i v w. omega (arith, extent-record i v w))
 
