@@ -2,3 +2,6 @@ pub mod Walk
 pub mod Verdicts
 pub mod Workspaces
 pub mod PressLaws
+pub mod RunLaws
+pub mod Settled
+pub mod Claim

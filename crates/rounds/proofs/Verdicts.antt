@@ -1,16 +1,14 @@
 -- What a walk of rounds keeps and reaches, and so what the verdicts Same and Different say of the terms at its start.
-use Prim.Native.Nat.{ℕ, _≤_}
-use mathlib.Core.Path.{_≡_}
+use Prim.Native.Nat.{ℕ}
 use mathlib.Core.Logic.{inl, inr}
-use mathlib.Core.Option.{some}
 use Rattle.calculus.specs.Term.{Term}
-use Rattle.calculus.specs.Words.{size}
 use Rattle.calculus.specs.Accepted.{Accepted}
-use Rattle.calculus.specs.Leftmost.{leftmost}
 use Rattle.calculus.specs.Relation.{Star, stop, step, Chain, alone, link}
-use Rattle.calculus.specs.Conversion.{Contracts₁, Reaches, Joined}
-use Rattle.calculus.specs.Theorems.{Leftmost-step, Leftmost-none, Contraction-keeps-accepted, Joined-normal-equal}
-use Rattle.calculus.specs.Rounds.{Same, Different}
+use Rattle.calculus.specs.Conversion.{Reaches, Joined}
+use Rattle.calculus.specs.Theorems.{Joined-normal-equal}
+use Rattle.calculus.specs.Rounds.{Different}
+use Rattle.calculus.proofs.LeftmostLaws.{leftmost-none, leftmost-contracts}
+use Rattle.calculus.proofs.AcceptedLaws.{leftmost-keeps-accepted}
 use Rattle.rounds.proofs.Walk.{Walk, walk-keeps, Tells}
 
 -- A chain between two elements gives one between what they reach.
@@ -31,25 +29,18 @@ star-then : {A : Type 0} {R : A → A → Type 0} {a b c : A} → Star R a b →
 star-then stop r = step r stop
 star-then (step q s) r = step q (star-then s r)
 
-module _
-    (leftmost-step : Leftmost-step)
-    (leftmost-none : Leftmost-none)
-    (contraction-keeps-accepted : Contraction-keeps-accepted)
-    (joined-normal-equal : Joined-normal-equal)
-  where
-  contracts : {t t′ : Term} → leftmost t ≡ some t′ → Contracts₁ t t′
-  contracts {t} {t′} e = let (p, r, c, first) = leftmost-step t t′ .0 e in (p, r, c)
+pub walk-accepted : {C s : ℕ} {t u t′ u′ : Term} → Walk C s t u t′ u′ → (Accepted 0 t → Accepted 0 t′) × (Accepted 0 u → Accepted 0 u′)
+walk-accepted w = walk-keeps {P = Accepted 0} (λ t t′ e f. leftmost-keeps-accepted 0 t t′ e) w
 
-  pub walk-accepted : {C s : ℕ} {t u t′ u′ : Term} → Walk C s t u t′ u′ → (Accepted 0 t → Accepted 0 t′) × (Accepted 0 u → Accepted 0 u′)
-  walk-accepted w = walk-keeps {P = Accepted 0} (λ t t′ e f h. let (p, r, c) = contracts e in contraction-keeps-accepted 0 p r t t′ c h) w
+walk-reaches : {C s : ℕ} {t u t′ u′ : Term} → Walk C s t u t′ u′ → (x : Term) → (Reaches x t → Reaches x t′) × (Reaches x u → Reaches x u′)
+walk-reaches w x = walk-keeps {P = Reaches x} (λ t t′ e f h. star-then h (leftmost-contracts t t′ e)) w
 
-  walk-reaches : {C s : ℕ} {t u t′ u′ : Term} → Walk C s t u t′ u′ → (w : Term) → (Reaches w t → Reaches w t′) × (Reaches w u → Reaches w u′)
-  walk-reaches w x = walk-keeps {P = Reaches x} (λ t t′ e f h. star-then h (contracts e)) w
+-- Contractions reach the terms at the end of a walk from those at its start.
+pub reached : {C s : ℕ} {t u t′ u′ : Term} → Walk C s t u t′ u′ → Reaches t t′ × Reaches u u′
+reached {t = t} {u = u} w = (walk-reaches w t .0 stop, walk-reaches w u .1 stop)
 
-  pub reached : {C s : ℕ} {t u t′ u′ : Term} → Walk C s t u t′ u′ → Reaches t t′ × Reaches u u′
-  reached {t = t} {u = u} w = (walk-reaches w t .0 stop, walk-reaches w u .1 stop)
-
-  -- After Different no chain joins the terms at the start.
+-- After Different no chain joins the terms at the start.
+module _ (joined-normal-equal : Joined-normal-equal) where
   pub different-not-joined : {C s : ℕ} {t u t′ u′ : Term} → Walk C s t u t′ u′ → Tells Different t′ u′ → Joined t u → ⊥
   different-not-joined {t′ = t′} {u′ = u′} w (n, p, q) c =
       let (f, g) = reached w in

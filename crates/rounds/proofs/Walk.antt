@@ -170,8 +170,11 @@ module _ {C : ℕ} {P : Term → Type 0} (keeps : (t t′ : Term) → leftmost t
   walk-keeps here = (λ h. h, λ h. h)
   walk-keeps (further m w) = (λ h. walk-keeps w .0 (moves-keep m .0 h), λ h. walk-keeps w .1 (moves-keep m .1 h))
 
+pub walk-fits : {C s : ℕ} {t u t′ u′ : Term} → Walk C s t u t′ u′ → (size t ≤ C → size t′ ≤ C) × (size u ≤ C → size u′ ≤ C)
+walk-fits {C} w = walk-keeps {P = λ t. size t ≤ C} (λ t t′ e f h. f) w
+
 -- Where Same or Different is given, it is given at once with every budget and every C.
-settled : (C b : ℕ) {t u : Term} {v : Verdict} → Decided v → Tells v t u → rounds C b t u ≡ ended v t u
+pub settled : (C b : ℕ) {t u : Term} {v : Verdict} → Decided v → Tells v t u → rounds C b t u ≡ ended v t u
 unfolding round
 settled C b {t} {u} (inl e) h = rw e (rounds-ends C b t u (if-pos (equal? t u) (subst (λ v. Tells v t u) e h) _ _))
 settled C b {t} {u} (inr e) h =
