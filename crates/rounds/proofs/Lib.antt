@@ -5,3 +5,4 @@ pub mod PressLaws
 pub mod RunLaws
 pub mod Settled
 pub mod Claim
+pub mod TwoPresses

@@ -12,8 +12,8 @@ use borrow.Author.Tests.{ltb-true, ltb-false, le-leb, lt-leb, eq-eqb, eqb-true, 
 use Rattle.calculus.specs.Term.{Term}
 use Rattle.calculus.specs.Words.{words, size, workspaceLeast, workspaceMost}
 use Rattle.calculus.specs.Workspace.{termAt, padded}
-use Rattle.calculus.specs.Rounds.{Outcome, rounds}
-use Rattle.rounds.specs.Press.{Memory, Call, Pressed, budgetLimit, totalLimit, sized, affordable, refuse, conclude, pressTerms, press}
+use Rattle.calculus.specs.Rounds.{Verdict, Outcome, rounds}
+use Rattle.rounds.specs.Press.{refused, shown, Memory, Call, Pressed, budgetLimit, totalLimit, sized, affordable, refuse, conclude, pressTerms, press}
 use Rattle.rounds.specs.Claim.{Holds, Reply, refuses, spends, replyOf, Standing, replyTo, advance, LeavesBy}
 use Rattle.rounds.proofs.Walk.{neither, Walk, walked, walk-fits}
 use Rattle.rounds.proofs.Verdicts.{walk-accepted}
@@ -120,6 +120,9 @@ stands-next {C} {s} {c = c} h (made e) =
     let o = rounds C (c .budget) (s .left) (s .right) in
     let (l, r) = holds-walk (h .left-holds) (h .right-holds) (walked C (c .budget) (s .left) (s .right) .walk) in
     record { total-is = ap (λ n. n + o .spent) (h .total-is); left-holds = l; right-holds = r }
+
+pub refused≢shown : {n s l r : ℕ} {v : Verdict} → refused n ≡ shown v s l r → ⊥
+refused≢shown e = let z : _≡_ {A = ℕ} 0 1 = cc in omega arith
 
 -- The answer is the reply.
 pub reply-answered : {C : ℕ} {s : Standing} {m : Memory} {c : Call} {r : Reply} {p : Pressed} → Answered C s m c r p → replyOf (p .answer) ≡ r

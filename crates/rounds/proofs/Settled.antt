@@ -19,7 +19,7 @@ use Rattle.rounds.specs.Runs.{final, history, spentIn}
 use Rattle.rounds.specs.Claim.{Holds, Decided, Reply, Standing, Again, Ended, SameTerms}
 use Rattle.rounds.proofs.Walk.{Tells, walked, settled, rounds-settled, rounds-agree}
 use Rattle.rounds.proofs.Verdicts.{reached, different-not-joined}
-use Rattle.rounds.proofs.PressLaws.{Stands, Answered, turned-down, made, answered, concluded, holds-walk}
+use Rattle.rounds.proofs.PressLaws.{Stands, Answered, turned-down, made, answered, concluded, holds-walk, refused≢shown}
 use Rattle.rounds.proofs.RunLaws.{Reached, untouched, ran, reached-by}
 
 -- The last unrefused press answered this verdict and these lengths: rounds in one go, with some budget, give them and leave this memory.
@@ -93,7 +93,7 @@ module _ {C : ℕ} {t u : Term} {start : Memory} {spent : ℕ} {m : Memory} {v :
       stands = record { total-is = refl; left-holds = lh; right-holds = rh }
       by : {x : Reply} {p : Pressed} → Answered C′ first m′ c x p → p .answer ≡ shown v′ s′ l′ r′
           → (shown v′ s′ l′ r′ ≡ shown v spent l r) × SameTerms l r (p .memory) m
-      by (turned-down n) e = let z : _≡_ {A = ℕ} 0 1 = cc in absurd (omega arith)
+      by (turned-down n) e = absurd (refused≢shown e)
       by (made fits) e =
           let o = rounds C (h .budget) t u in
           let same : rounds C′ (c .budget) t u ≡ o
