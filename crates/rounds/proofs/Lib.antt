@@ -6,3 +6,4 @@ pub mod RunLaws
 pub mod Settled
 pub mod Claim
 pub mod TwoPresses
+pub mod Instance
