@@ -3,6 +3,7 @@ pub mod WordLaws
 pub mod SkipLaws
 pub mod All
 pub mod ReadLaws
+pub mod FirstLaws
 pub mod PrefixFree
 pub mod Move
 pub mod Indices
@@ -13,3 +14,10 @@ pub mod RedexWord
 pub mod Decidable
 pub mod Spine
 pub mod AcceptedLaws
+pub mod Rewriting
+pub mod Traversal
+pub mod Substitution
+pub mod Parallel
+pub mod ChurchRosser
+pub mod Earliest
+pub mod PositionLaws
