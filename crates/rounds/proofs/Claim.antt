@@ -1,27 +1,25 @@
 -- Demand 3: the claim about every list of presses.
 use mathlib.Core.Path.{refl}
-use Rattle.calculus.specs.Theorems.{Joined-normal-equal}
 use Rattle.rounds.specs.Runs.{history}
 use Rattle.rounds.specs.Claim.{Every-list-of-presses}
 use Rattle.rounds.proofs.PressLaws.{Stands}
 use Rattle.rounds.proofs.RunLaws.{reached-by, replies-answered, each-leaves, all-refused, in-one-go}
 use Rattle.rounds.proofs.Settled.{stopped-by, settled-stays, settled-on-first-terms, settled-agree, settled-same, settled-different}
 
-module _ (joined-normal-equal : Joined-normal-equal) where
-  pub every-list-of-presses : Every-list-of-presses
-  every-list-of-presses C t u start lh rh calls =
-      let reached = reached-by lh rh calls in
-      let stands : Stands C (record { total = start .session .total; left = t; right = u }) start
-          = record { total-is = refl; left-holds = lh; right-holds = rh } in
-      record {
-        replies = replies-answered stands calls;
-        leaves = each-leaves stands calls;
-        all-refused = all-refused reached;
-        in-one-go = λ B. in-one-go (history start calls) B reached;
-        stays = λ v l r e. settled-stays lh rh (stopped-by lh rh calls e);
-        on-first-terms = λ v l r e. settled-on-first-terms (stopped-by lh rh calls e);
-        agree = λ v l r e d C′ start′ calls′ lh′ rh′ v′ l′ r′ e′ d′.
-            settled-agree (stopped-by lh rh calls e) (stopped-by lh′ rh′ calls′ e′) d d′;
-        same = λ l r e. settled-same (stopped-by lh rh calls e) refl;
-        different = λ l r e. settled-different (stopped-by lh rh calls e) joined-normal-equal refl;
-      }
+pub every-list-of-presses : Every-list-of-presses
+every-list-of-presses C t u start lh rh calls =
+    let reached = reached-by lh rh calls in
+    let stands : Stands C (record { total = start .session .total; left = t; right = u }) start
+        = record { total-is = refl; left-holds = lh; right-holds = rh } in
+    record {
+      replies = replies-answered stands calls;
+      leaves = each-leaves stands calls;
+      all-refused = all-refused reached;
+      in-one-go = λ B. in-one-go (history start calls) B reached;
+      stays = λ v l r e. settled-stays lh rh (stopped-by lh rh calls e);
+      on-first-terms = λ v l r e. settled-on-first-terms (stopped-by lh rh calls e);
+      agree = λ v l r e d C′ start′ calls′ lh′ rh′ v′ l′ r′ e′ d′.
+          settled-agree (stopped-by lh rh calls e) (stopped-by lh′ rh′ calls′ e′) d d′;
+      same = λ l r e. settled-same (stopped-by lh rh calls e) refl;
+      different = λ l r e. settled-different (stopped-by lh rh calls e) refl;
+    }

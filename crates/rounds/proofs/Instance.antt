@@ -19,7 +19,6 @@ use Rattle.rounds.specs.Session.{Session}
 use Rattle.rounds.specs.Press.{Answer, refused, shown, Memory, Call, press}
 use Rattle.rounds.specs.Runs.{final, history, spentIn, budgetInOneGo}
 use Rattle.rounds.specs.Claim.{Holds, Claim}
-use Rattle.calculus.specs.Theorems.{Joined-normal-equal}
 use Rattle.rounds.proofs.Claim.{every-list-of-presses}
 
 abbrev leftTerm : Term
@@ -70,6 +69,5 @@ left-holds = record { accepted = omega arith; others = replicate 9 7; contents =
 pub right-holds : Holds 16 rightTerm (start .right)
 right-holds = record { accepted = omega arith; others = replicate 15 7; contents = refl; length-is = refl }
 
-module _ (joined-normal-equal : Joined-normal-equal) where
-  pub claimed : Claim 16 leftTerm rightTerm start calls
-  claimed = every-list-of-presses joined-normal-equal 16 leftTerm rightTerm start left-holds right-holds calls
+pub claimed : Claim 16 leftTerm rightTerm start calls
+claimed = every-list-of-presses 16 leftTerm rightTerm start left-holds right-holds calls

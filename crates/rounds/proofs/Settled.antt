@@ -13,7 +13,6 @@ use Rattle.calculus.specs.Words.{words, size}
 use Rattle.calculus.specs.Workspace.{padded}
 use Rattle.calculus.specs.Rounds.{Verdict, Same, Different, Outcome, ended, rounds}
 use Rattle.calculus.specs.Conversion.{Reaches, Joined}
-use Rattle.calculus.specs.Theorems.{Joined-normal-equal}
 use Rattle.rounds.specs.Press.{Answer, refused, shown, Memory, Call, Pressed, press}
 use Rattle.rounds.specs.Runs.{final, history, spentIn}
 use Rattle.rounds.specs.Claim.{Holds, Decided, Reply, Standing, Again, Ended, SameTerms}
@@ -124,8 +123,8 @@ module _ {C : ℕ} {t u : Term} {start : Memory} {spent : ℕ} {m : Memory} {v :
       (o .left, f, subst (Reaches u) (sym equal) g, ap (λ k. k .left) (h .memory-is),
       ap (λ k. k .right) (h .memory-is) ∙ ap (λ k. padded C (words k)) (sym equal))
 
-  pub settled-different : Joined-normal-equal → v ≡ Different → Joined t u → ⊥
-  settled-different joined-normal-equal e =
+  pub settled-different : v ≡ Different → Joined t u → ⊥
+  settled-different e =
       let o = rounds C (h .budget) t u in
       let w = walked C (h .budget) t u in
-      different-not-joined joined-normal-equal (w .walk) (subst (λ k. Tells k (o .left) (o .right)) (sym (h .verdict-is) ∙ e) (w .tells))
+      different-not-joined (w .walk) (subst (λ k. Tells k (o .left) (o .right)) (sym (h .verdict-is) ∙ e) (w .tells))

@@ -5,8 +5,9 @@ use Rattle.calculus.specs.Term.{Term}
 use Rattle.calculus.specs.Accepted.{Accepted}
 use Rattle.calculus.specs.Relation.{Star, stop, step, Chain, alone, link}
 use Rattle.calculus.specs.Conversion.{Reaches, Joined}
-use Rattle.calculus.specs.Theorems.{Joined-normal-equal}
 use Rattle.calculus.specs.Rounds.{Different}
+use Rattle.calculus.proofs.Rewriting.{star-append}
+use Rattle.calculus.proofs.ChurchRosser.{joined-normal-equal}
 use Rattle.calculus.proofs.LeftmostLaws.{leftmost-none, leftmost-contracts}
 use Rattle.calculus.proofs.AcceptedLaws.{leftmost-keeps-accepted}
 use Rattle.rounds.proofs.Walk.{Walk, walk-keeps, Tells}
@@ -24,24 +25,18 @@ chain-to-reached : {A : Type 0} {R : A → A → Type 0} {a b b′ : A} → Chai
 chain-to-reached alone s = chain-of-steps s
 chain-to-reached (link l c) s = link l (chain-to-reached c s)
 
--- One more step after steps.
-star-then : {A : Type 0} {R : A → A → Type 0} {a b c : A} → Star R a b → R b c → Star R a c
-star-then stop r = step r stop
-star-then (step q s) r = step q (star-then s r)
-
 pub walk-accepted : {C s : ℕ} {t u t′ u′ : Term} → Walk C s t u t′ u′ → (Accepted 0 t → Accepted 0 t′) × (Accepted 0 u → Accepted 0 u′)
 walk-accepted w = walk-keeps {P = Accepted 0} (λ t t′ e f. leftmost-keeps-accepted 0 t t′ e) w
 
 walk-reaches : {C s : ℕ} {t u t′ u′ : Term} → Walk C s t u t′ u′ → (x : Term) → (Reaches x t → Reaches x t′) × (Reaches x u → Reaches x u′)
-walk-reaches w x = walk-keeps {P = Reaches x} (λ t t′ e f h. star-then h (leftmost-contracts t t′ e)) w
+walk-reaches w x = walk-keeps {P = Reaches x} (λ t t′ e f h. star-append h (step (leftmost-contracts t t′ e) stop)) w
 
 -- Contractions reach the terms at the end of a walk from those at its start.
 pub reached : {C s : ℕ} {t u t′ u′ : Term} → Walk C s t u t′ u′ → Reaches t t′ × Reaches u u′
 reached {t = t} {u = u} w = (walk-reaches w t .0 stop, walk-reaches w u .1 stop)
 
 -- After Different no chain joins the terms at the start.
-module _ (joined-normal-equal : Joined-normal-equal) where
-  pub different-not-joined : {C s : ℕ} {t u t′ u′ : Term} → Walk C s t u t′ u′ → Tells Different t′ u′ → Joined t u → ⊥
-  different-not-joined {t′ = t′} {u′ = u′} w (n, p, q) c =
-      let (f, g) = reached w in
-      n (joined-normal-equal t′ u′ (chain-to-reached (chain-from-reached f c) g) (leftmost-none t′ .0 p) (leftmost-none u′ .0 q))
+pub different-not-joined : {C s : ℕ} {t u t′ u′ : Term} → Walk C s t u t′ u′ → Tells Different t′ u′ → Joined t u → ⊥
+different-not-joined {t′ = t′} {u′ = u′} w (n, p, q) c =
+    let (f, g) = reached w in
+    n (joined-normal-equal t′ u′ (chain-to-reached (chain-from-reached f c) g) (leftmost-none t′ .0 p) (leftmost-none u′ .0 q))
