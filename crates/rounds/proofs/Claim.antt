@@ -2,15 +2,14 @@
 use mathlib.Core.Path.{refl}
 use Rattle.rounds.specs.Runs.{history}
 use Rattle.rounds.specs.Claim.{Every-list-of-presses}
-use Rattle.rounds.proofs.PressLaws.{Stands}
+use Rattle.rounds.proofs.PressLaws.{stands-first}
 use Rattle.rounds.proofs.RunLaws.{reached-by, replies-answered, each-leaves, all-refused, in-one-go}
 use Rattle.rounds.proofs.Settled.{stopped-by, settled-stays, settled-on-first-terms, settled-agree, settled-same, settled-different}
 
 pub every-list-of-presses : Every-list-of-presses
 every-list-of-presses C t u start lh rh calls =
     let reached = reached-by lh rh calls in
-    let stands : Stands C (record { total = start .session .total; left = t; right = u }) start
-        = record { total-is = refl; left-holds = lh; right-holds = rh } in
+    let stands = stands-first start lh rh in
     record {
       replies = replies-answered stands calls;
       leaves = each-leaves stands calls;

@@ -1,21 +1,22 @@
 -- A press in the words of the claim: on workspaces that hold two terms it answers as `replyTo` says, and leaves workspaces that hold the terms that
 -- `advance` says.
-use Prim.Native.Nat.{ℕ, _+_, _≤_}
+use Prim.Native.Nat.{ℕ, _+_}
 use mathlib.Core.Path.{_≡_, refl, sym, _∙_, ap, subst}
 use mathlib.Core.Bool.{Bool, true, false, cond, not, _&&_, _||_}
 use mathlib.Core.List.{List}
-use mathlib.Core.Option.{Option, some, none}
+use mathlib.Core.Option.{some, none}
+use mathlib.Mathlib.Data.Bool.Basic.{or-eq-false-eq-eq-false-and-eq-false as or-false-iff}
 use native.Mathlib.Omega.{arith}
 use lib.Dec.{leb, ltb, eqb}
 use lib.ListN.{length, replicate}
 use borrow.Author.Tests.{ltb-true, ltb-false, le-leb, lt-leb, eq-eqb, eqb-true, not-false}
 use Rattle.calculus.specs.Term.{Term}
 use Rattle.calculus.specs.Words.{words, size, workspaceLeast, workspaceMost}
-use Rattle.calculus.specs.Workspace.{termAt, padded}
+use Rattle.calculus.specs.Workspace.{padded}
 use Rattle.calculus.specs.Rounds.{Verdict, Outcome, rounds}
 use Rattle.rounds.specs.Press.{refused, shown, Memory, Call, Pressed, budgetLimit, totalLimit, sized, affordable, refuse, conclude, pressTerms, press}
 use Rattle.rounds.specs.Claim.{Holds, Reply, refuses, spends, replyOf, Standing, replyTo, advance, LeavesBy}
-use Rattle.rounds.proofs.Walk.{neither, Walk, walked, walk-fits}
+use Rattle.rounds.proofs.Walk.{Walk, walked, walk-fits}
 use Rattle.rounds.proofs.Verdicts.{walk-accepted}
 use Rattle.rounds.proofs.Workspaces.{termAt-holds, holds-padded, holds-fits}
 
@@ -66,7 +67,7 @@ affordable-not budget total =
 
 right-size : (C scratch : ℕ) → wrongSize C scratch ≡ false → scratch ≡ C
 right-size C scratch e =
-    eqb-true scratch C (not-false (eqb scratch C) (neither (ltb workspaceMost C) _ (neither (ltb C workspaceLeast) _ e .1) .1))
+    eqb-true scratch C (not-false (eqb scratch C) (or-false-iff (ltb workspaceMost C) _ .0 (or-false-iff (ltb C workspaceLeast) _ .0 e .1) .1))
 
 answered-tests : (s : Standing) (m : Memory) (c : Call) (wrong over l r : Bool) → (wrong ≡ false → length (c .scratch) ≡ length (m .left))
     → Answered (length (m .left)) s m c
@@ -84,9 +85,9 @@ unfolding press
 answered-here s m c h =
     let C = length (m .left) in
     let size-test : sized C (length (m .right)) (length (c .scratch)) ≡ not (wrongSize C (length (c .scratch)))
-        = ap (λ n. sized C n (length (c .scratch))) (h .right-holds .length-is) ∙ sized-not C (length (c .scratch)) in
+    = ap (λ n. sized C n (length (c .scratch))) (h .right-holds .length-is) ∙ sized-not C (length (c .scratch)) in
     let total-test : affordable (c .budget) (m .session .total) ≡ not (overspent (c .budget) (s .total))
-        = ap (affordable (c .budget)) (h .total-is) ∙ affordable-not (c .budget) (s .total) in
+    = ap (affordable (c .budget)) (h .total-is) ∙ affordable-not (c .budget) (s .total) in
     rw (size-test, total-test, termAt-holds (h .left-holds) (c .leftLength), termAt-holds (h .right-holds) (c .rightLength))
     (answered-tests s m c (wrongSize C (length (c .scratch))) (overspent (c .budget) (s .total))
     (eqb (c .leftLength) (size (s .left))) (eqb (c .rightLength) (size (s .right))) (right-size C (length (c .scratch))))
@@ -111,6 +112,16 @@ holds-walk h k w =
     let (f, g) = walk-fits w in
     let (a, b) = walk-accepted w in
     (holds-padded (a (h .accepted)) (f (holds-fits h)), holds-padded (b (k .accepted)) (g (holds-fits k)))
+
+pub stands-first : {C : ℕ} {t u : Term} (m : Memory) → Holds C t (m .left) → Holds C u (m .right)
+    → Stands C (record { total = m .session .total; left = t; right = u }) m
+stands-first m h k = record { total-is = refl; left-holds = h; right-holds = k }
+
+pub stands-concluded : {C : ℕ} {t u : Term} {ws vs : List ℕ} → Holds C t ws → Holds C u vs → (B total : ℕ)
+    → (let o = rounds C B t u in Stands C (record { total = total; left = o .left; right = o .right }) (concluded C total o))
+stands-concluded {C} {t} {u} h k B total =
+    let (l, r) = holds-walk h k (walked C B t u .walk) in
+    record { total-is = refl; left-holds = l; right-holds = r }
 
 -- After the press the memory is where `advance` says.
 pub stands-next : {C : ℕ} {s : Standing} {m : Memory} {c : Call} {r : Reply} {p : Pressed} → Stands C s m → Answered C s m c r p

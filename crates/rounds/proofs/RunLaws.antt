@@ -1,19 +1,17 @@
 -- Lists of presses on workspaces that hold two terms: what they answer, and where they get from the first terms.
-use Prim.Native.Nat.{ℕ, _+_, _≤_}
+use Prim.Native.Nat.{ℕ, _+_}
 use mathlib.Core.Path.{_≡_, refl, sym, _∙_, ap, ap₂, subst}
 use mathlib.Core.List.{List, [], _∷_, map}
-use mathlib.Core.Logic.{_⊎_, inl, inr}
-use mathlib.Core.Option.{Option, some, none}
+use mathlib.Core.Option.{Option, some, none, Option·none-ne-some}
 use native.Mathlib.Nat.{zero-add, add-zero, add-assoc}
-use native.Mathlib.Omega.{arith}
 use Rattle.calculus.specs.Term.{Term}
-use Rattle.calculus.specs.Words.{words, size}
-use Rattle.calculus.specs.Rounds.{Verdict, Outcome, after, rounds}
-use Rattle.rounds.specs.Press.{Answer, refused, shown, Memory, Call, Pressed, press}
+use Rattle.calculus.specs.Words.{size}
+use Rattle.calculus.specs.Rounds.{after, rounds}
+use Rattle.rounds.specs.Press.{Answer, shown, Memory, Call, Pressed, press}
 use Rattle.rounds.specs.Runs.{final, history, spentOf, spentIn, noteBudget, budgetFrom, budgetInOneGo, noteAnswer, answerFrom, lastAnswer}
-use Rattle.rounds.specs.Claim.{Holds, Reply, replyOf, Standing, replyTo, repliesTo, EachLeaves, InOneGo}
+use Rattle.rounds.specs.Claim.{Holds, Reply, replyOf, Standing, repliesTo, EachLeaves, InOneGo}
 use Rattle.rounds.proofs.Walk.{Walk, here, walked, rounds-walk}
-use Rattle.rounds.proofs.PressLaws.{Stands, Answered, turned-down, made, answered, concluded, holds-walk, stands-next, reply-answered, leaves-answered}
+use Rattle.rounds.proofs.PressLaws.{Stands, Answered, turned-down, made, answered, concluded, stands-first, stands-concluded, stands-next, reply-answered, leaves-answered}
 
 pub replies-answered : {C : ℕ} {s : Standing} {m : Memory} → Stands C s m → (calls : List Call)
     → map (λ e. replyOf (e .1)) (history m calls) ≡ repliesTo C s calls
@@ -51,18 +49,16 @@ module _ {C : ℕ} {t u : Term} {start : Memory} (left-holds : Holds C t (start 
         standing = record { total = start .session .total; left = t; right = u };
         walk = here;
         total-is = sym (add-zero (start .session .total));
-        stands = record { total-is = refl; left-holds = left-holds; right-holds = right-holds };
+        stands = stands-first start left-holds right-holds;
       })
   at (ran B last e f a q) =
       let o = rounds C B t u in
-      let w = walked C B t u .walk in
-      let (l, r) = holds-walk left-holds right-holds w in
       rw (e, q)
       (record {
         standing = record { total = start .session .total + o .spent; left = o .left; right = o .right };
-        walk = w;
+        walk = walked C B t u .walk;
         total-is = refl;
-        stands = record { total-is = refl; left-holds = l; right-holds = r };
+        stands = stands-concluded left-holds right-holds B (start .session .total + o .spent);
       })
 
   -- A press after that.
@@ -99,11 +95,11 @@ module _ {C : ℕ} {t u : Term} {start : Memory} (left-holds : Holds C t (start 
 pub all-refused : {C : ℕ} {t u : Term} {start : Memory} {spent : ℕ} {found : Option ℕ} {answer : Option Answer} {m : Memory}
     → Reached C t u start spent found answer m → found ≡ none → m ≡ start
 all-refused (untouched e f a q) h = q
-all-refused (ran B last e f a q) h = let z : _≡_ {A = ℕ} 0 1 = cc in absurd (omega arith)
+all-refused (ran B last e f a q) h = absurd (Option·none-ne-some B (sym h ∙ f))
 
 pub in-one-go : {C : ℕ} {t u : Term} {start : Memory} {m : Memory} (es : List (Call × Answer)) (B : ℕ)
     → Reached C t u start (spentIn es) (budgetInOneGo es) (lastAnswer es) m → budgetInOneGo es ≡ some B → InOneGo C (rounds C B t u) start m es
-in-one-go es B (untouched e f a q) h = let z : _≡_ {A = ℕ} 0 1 = cc in absurd (omega arith)
+in-one-go es B (untouched e f a q) h = absurd (Option·none-ne-some B (sym f ∙ h))
 in-one-go {C} {t} {u} {start} {m} es B (ran B′ last e f a q) h =
     let b : B′ ≡ B = cc in
     subst (λ B. InOneGo C (rounds C B t u) start m es) b

@@ -3,22 +3,21 @@ use Prim.Native.Nat.{ℕ, _+_, _-_, _≤_}
 use mathlib.Core.Path.{_≡_, refl, sym, _∙_, ap, subst}
 use mathlib.Core.List.{List, [], _∷_, _++_}
 use mathlib.Core.Logic.{_⊎_, inl, inr}
-use mathlib.Core.Option.{Option, some, none}
+use mathlib.Core.Option.{Option, some, Option·none-ne-some}
 use native.Mathlib.Nat.{add-zero}
-use native.Mathlib.Omega.{arith}
 use lib.ListN.{length, take, replicate}
 use lib.Seq.{take-append-seam}
 use Rattle.calculus.specs.Term.{Term}
 use Rattle.calculus.specs.Words.{words, size}
 use Rattle.calculus.specs.Workspace.{padded}
-use Rattle.calculus.specs.Rounds.{Verdict, Same, Different, Outcome, ended, rounds}
+use Rattle.calculus.specs.Rounds.{Verdict, Same, Different, ended, rounds}
 use Rattle.calculus.specs.Conversion.{Reaches, Joined}
 use Rattle.rounds.specs.Press.{Answer, refused, shown, Memory, Call, Pressed, press}
 use Rattle.rounds.specs.Runs.{final, history, spentIn}
 use Rattle.rounds.specs.Claim.{Holds, Decided, Reply, Standing, Again, Ended, SameTerms}
-use Rattle.rounds.proofs.Walk.{Tells, walked, settled, rounds-settled, rounds-agree}
+use Rattle.rounds.proofs.Walk.{Tells, walked, rounds-at-once, rounds-stable, rounds-agree}
 use Rattle.rounds.proofs.Verdicts.{reached, different-not-joined}
-use Rattle.rounds.proofs.PressLaws.{Stands, Answered, turned-down, made, answered, concluded, holds-walk, refused≢shown}
+use Rattle.rounds.proofs.PressLaws.{Answered, turned-down, made, answered, concluded, stands-first, stands-concluded, refused≢shown}
 use Rattle.rounds.proofs.RunLaws.{Reached, untouched, ran, reached-by}
 
 -- The last unrefused press answered this verdict and these lengths: rounds in one go, with some budget, give them and leave this memory.
@@ -32,7 +31,7 @@ pub record Stopped (C : ℕ) (t u : Term) (start : Memory) (spent : ℕ) (m : Me
 
 stopped : {C : ℕ} {t u : Term} {start : Memory} {spent : ℕ} {found : Option ℕ} {answer : Option Answer} {m : Memory} {v : Verdict} {s l r : ℕ}
     → Reached C t u start spent found answer m → answer ≡ some (shown v s l r) → Stopped C t u start spent m v l r
-stopped (untouched e f a q) h = let z : _≡_ {A = ℕ} 0 1 = cc in absurd (omega arith)
+stopped (untouched e f a q) h = absurd (Option·none-ne-some _ (sym a ∙ h))
 stopped (ran B last e f a q) h =
     record { budget = B; verdict-is = cc; spent-is = e; left-is = cc; right-is = cc; memory-is = q }
 
@@ -59,21 +58,19 @@ idle-settled : {C : ℕ} {s : Standing} {m : Memory} {v : Verdict} {c : Call} {r
 idle-settled d h e (turned-down n) = record { answer-is = inl (n, refl); memory-is = refl }
 idle-settled {C} {s} {m} {v} {c} d h e (made q) =
     let o = ended v (s .left) (s .right) in
-    rw (settled C (c .budget) d h)
+    rw (rounds-at-once C (c .budget) d h)
     (record { answer-is = inr refl; memory-is = ap (λ n. concluded C n o) (add-zero _ ∙ ap (λ k. k .session .total) e) ∙ sym e })
 
 module _ {C : ℕ} {t u : Term} {start : Memory} (left-holds : Holds C t (start .left)) (right-holds : Holds C u (start .right)) where
   pub settled-stays : {spent : ℕ} {m : Memory} {v : Verdict} {l r : ℕ} → Stopped C t u start spent m v l r → Decided v → (later : List Call)
       → Again v l r (history m later) × (final m later ≡ m)
-  settled-stays {m = m} h d later =
+  settled-stays h d later =
       let o = rounds C (h .budget) t u in
-      let w = walked C (h .budget) t u in
-      let d′ : Decided (o .verdict) = subst Decided (h .verdict-is) d in
-      let (l, r) = holds-walk left-holds right-holds (w .walk) in
-      let s : Standing = record { total = start .session .total + o .spent; left = o .left; right = o .right } in
-      let stands : Stands C s (concluded C (s .total) o) = record { total-is = refl; left-holds = l; right-holds = r } in
+      let total = start .session .total + o .spent in
+      let settled : Decided (o .verdict) = subst Decided (h .verdict-is) d in
+      let stands = stands-concluded left-holds right-holds (h .budget) total in
       rw (h .memory-is, h .verdict-is, h .left-is, h .right-is)
-      (idle-always (λ c. idle-settled {s = s} d′ (w .tells) refl (answered stands c)) later)
+      (idle-always (λ c. idle-settled settled (walked C (h .budget) t u .tells) refl (answered stands c)) later)
 
 -- The same words stand at the start of workspaces of any two lengths.
 same-words : (C C′ : ℕ) (ws : List ℕ) → take (length ws) (padded C ws) ≡ take (length ws) (padded C′ ws)
@@ -84,21 +81,15 @@ module _ {C : ℕ} {t u : Term} {start : Memory} {spent : ℕ} {m : Memory} {v :
   pub settled-on-first-terms : Decided v → (C′ : ℕ) (m′ : Memory) (c : Call) → C ≤ C′ → Holds C′ t (m′ .left) → Holds C′ u (m′ .right)
       → spent ≤ c .budget → (v′ : Verdict) (s′ l′ r′ : ℕ) → press m′ c .answer ≡ shown v′ s′ l′ r′
       → (shown v′ s′ l′ r′ ≡ shown v spent l r) × SameTerms l r (press m′ c .memory) m
-  settled-on-first-terms d C′ m′ c wide lh rh enough v′ s′ l′ r′ q = by (answered stands c) q
+  settled-on-first-terms d C′ m′ c wide lh rh enough v′ s′ l′ r′ = by (answered (stands-first m′ lh rh) c)
     where
-      first : Standing
-      first = record { total = m′ .session .total; left = t; right = u }
-      stands : Stands C′ first m′
-      stands = record { total-is = refl; left-holds = lh; right-holds = rh }
-      by : {x : Reply} {p : Pressed} → Answered C′ first m′ c x p → p .answer ≡ shown v′ s′ l′ r′
-          → (shown v′ s′ l′ r′ ≡ shown v spent l r) × SameTerms l r (p .memory) m
+      by : {x : Reply} {p : Pressed} → Answered C′ (record { total = m′ .session .total; left = t; right = u }) m′ c x p
+          → p .answer ≡ shown v′ s′ l′ r′ → (shown v′ s′ l′ r′ ≡ shown v spent l r) × SameTerms l r (p .memory) m
       by (turned-down n) e = absurd (refused≢shown e)
       by (made fits) e =
           let o = rounds C (h .budget) t u in
-          let same : rounds C′ (c .budget) t u ≡ o
-              = rounds-settled C (h .budget) t u (subst Decided (h .verdict-is) d) C′ (c .budget) wide (omega (arith, h .spent-is)) in
-          rw (same, h .memory-is, h .verdict-is, h .spent-is, h .left-is, h .right-is)
-          (sym e ∙ ap (λ k. shown (k .verdict) (k .spent) (size (k .left)) (size (k .right))) same, (same-words C′ C (words (o .left)), same-words C′ C (words (o .right))))
+          let same : rounds C′ (c .budget) t u ≡ o = rounds-stable C (h .budget) t u (subst Decided (h .verdict-is) d) C′ (c .budget) wide (rw (← h .spent-is) enough) in
+          (cc, rw (same, h .memory-is, h .left-is, h .right-is) (same-words C′ C (words (o .left)), same-words C′ C (words (o .right))))
 
   -- Another list that gives Same or Different agrees.
   pub settled-agree : {C′ : ℕ} {start′ : Memory} {spent′ : ℕ} {m′ : Memory} {v′ : Verdict} {l′ r′ : ℕ} → Stopped C′ t u start′ spent′ m′ v′ l′ r′
@@ -106,12 +97,13 @@ module _ {C : ℕ} {t u : Term} {start : Memory} {spent : ℕ} {m : Memory} {v :
   settled-agree {C′} {start′} h′ d d′ =
       let o = rounds C (h .budget) t u in
       let o′ = rounds C′ (h′ .budget) t u in
-      let e : o ≡ o′ = rounds-agree C (h .budget) C′ (h′ .budget) t u (subst Decided (h .verdict-is) d) (subst Decided (h′ .verdict-is) d′) in
-      (h .verdict-is ∙ ap (λ k. k .verdict) e ∙ sym (h′ .verdict-is),
-      h .spent-is ∙ ap (λ k. k .spent) e ∙ sym (h′ .spent-is),
-      h .left-is ∙ ap (λ k. size (k .left)) e ∙ sym (h′ .left-is),
-      h .right-is ∙ ap (λ k. size (k .right)) e ∙ sym (h′ .right-is),
-      rw (h .left-is, h .right-is, h .memory-is, h′ .memory-is, ← e) (same-words C C′ (words (o .left)), same-words C C′ (words (o .right))))
+      let e : o ≡ o′ = rounds-agree C (h .budget) C′ (h′ .budget) t u (subst Decided (h .verdict-is) d) (subst Decided (h′ .verdict-is) d′) in (
+        h .verdict-is ∙ ap (λ k. k .verdict) e ∙ sym (h′ .verdict-is),
+        h .spent-is ∙ ap (λ k. k .spent) e ∙ sym (h′ .spent-is),
+        h .left-is ∙ ap (λ k. size (k .left)) e ∙ sym (h′ .left-is),
+        h .right-is ∙ ap (λ k. size (k .right)) e ∙ sym (h′ .right-is),
+        rw (h .left-is, h .right-is, h .memory-is, h′ .memory-is, ← e) (same-words C C′ (words (o .left)), same-words C C′ (words (o .right))),
+      )
 
   pub settled-same : v ≡ Same → (w : Term) × Reaches t w × Reaches u w × (m .left ≡ words w ++ replicate (C - size w) 0)
       × (m .right ≡ words w ++ replicate (C - size w) 0)
@@ -119,9 +111,13 @@ module _ {C : ℕ} {t u : Term} {start : Memory} {spent : ℕ} {m : Memory} {v :
       let o = rounds C (h .budget) t u in
       let w = walked C (h .budget) t u in
       let equal : o .left ≡ o .right = subst (λ k. Tells k (o .left) (o .right)) (sym (h .verdict-is) ∙ e) (w .tells) in
-      let (f, g) = reached (w .walk) in
-      (o .left, f, subst (Reaches u) (sym equal) g, ap (λ k. k .left) (h .memory-is),
-      ap (λ k. k .right) (h .memory-is) ∙ ap (λ k. padded C (words k)) (sym equal))
+      let (f, g) = reached (w .walk) in (
+        o .left,
+        f,
+        subst (Reaches u) (sym equal) g,
+        ap (λ k. k .left) (h .memory-is),
+        ap (λ k. k .right) (h .memory-is) ∙ ap (λ k. padded C (words k)) (sym equal),
+      )
 
   pub settled-different : v ≡ Different → Joined t u → ⊥
   settled-different e =

@@ -1,7 +1,7 @@
 -- The two-press rule of document 01: two presses end where one press with the first's spent and the second's budget for a budget ends.
 use Prim.Native.Nat.{ℕ, _+_, _≤_}
 use mathlib.Core.Path.{_≡_, refl, sym, _∙_, ap, subst}
-use mathlib.Core.Bool.{Bool, true, false, cond, _&&_, and-eq-true-iff}
+use mathlib.Core.Bool.{Bool, true, false, cond, and-eq-true-iff}
 use mathlib.Core.Option.{Option, some, none}
 use native.Mathlib.Nat.{add-assoc}
 use native.Mathlib.Omega.{arith}
@@ -9,12 +9,12 @@ use lib.Dec.{leb, eqb}
 use lib.ListN.{length}
 use borrow.Author.Tests.{leb-true, le-leb, eqb-true}
 use Rattle.calculus.specs.Term.{Term}
-use Rattle.calculus.specs.Words.{size, workspaceLeast, workspaceMost}
+use Rattle.calculus.specs.Words.{workspaceLeast, workspaceMost}
 use Rattle.calculus.specs.Workspace.{termAt}
 use Rattle.calculus.specs.Rounds.{Verdict, Outcome, after, rounds}
-use Rattle.rounds.specs.Press.{Answer, shown, Memory, Call, Pressed, budgetLimit, totalLimit, sized, affordable, refuse, conclude, pressTerms, press}
+use Rattle.rounds.specs.Press.{shown, Memory, Call, budgetLimit, totalLimit, sized, affordable, refuse, conclude, pressTerms, press}
 use Rattle.rounds.specs.Claim.{Holds, together, Two-presses}
-use Rattle.rounds.proofs.Walk.{walked, rounds-walk}
+use Rattle.rounds.proofs.Walk.{walked, rounds-add}
 use Rattle.rounds.proofs.Workspaces.{termAt-size, holds-termAt}
 use Rattle.rounds.proofs.PressLaws.{refused≢shown, concluded, holds-walk}
 
@@ -81,44 +81,45 @@ module _ {m : Memory} {c : Call} {t u : Term} (h : Passed m c t u) (d : Call) wh
       (first : conclude C (m .session) o .answer ≡ shown v s l r) (left-is : d .leftLength ≡ l) (right-is : d .rightLength ≡ r)
       (second : press next d .answer ≡ shown v′ s′ l′ r′) (fits : s + d .budget ≤ budgetLimit)
     where
-    -- The second press is made on the terms that the first ended in.
-    passed-next : Passed next d (o .left) (o .right)
-    passed-next =
-        let (_, _, q) = passed next d second in
-        let (hl, hr) = holds-next in
-        record {
-          size-passes = q .size-passes;
-          budget-passes = q .budget-passes;
-          left-term = ap (termAt (next .left)) (cc) ∙ termAt-size hl;
-          right-term = ap (termAt (next .right)) (cc) ∙ termAt-size hr;
-        }
+      -- The second press is made on the terms that the first ended in.
+      passed-next : Passed next d (o .left) (o .right)
+      passed-next =
+          let (_, _, q) = passed next d second in
+          let (hl, hr) = holds-next in
+          record {
+            size-passes = q .size-passes;
+            budget-passes = q .budget-passes;
+            left-term = ap (termAt (next .left)) (cc) ∙ termAt-size hl;
+            right-term = ap (termAt (next .right)) (cc) ∙ termAt-size hr;
+          }
 
-    press-next : press next d ≡ conclude C (next .session) o′
-    press-next =
-        subst (λ n. press next d ≡ conclude n (next .session) (rounds n (d .budget) (o .left) (o .right))) (holds-next .0 .length-is)
-        (press-passed passed-next)
+      press-next : press next d ≡ conclude C (next .session) o′
+      press-next =
+          subst (λ n. press next d ≡ conclude n (next .session) (rounds n (d .budget) (o .left) (o .right))) (holds-next .0 .length-is)
+          (press-passed passed-next)
 
-    passed-together : Passed m (together c (o .spent) (d .budget)) t u
-    passed-together =
-        let spent-is : o .spent ≡ s = cc in
-        record {
-          size-passes = h .size-passes;
-          budget-passes = afforded-together (o .spent) (d .budget) (m .session .total) (passed-next .budget-passes) (omega arith);
-          left-term = h .left-term;
-          right-term = h .right-term;
-        }
+      passed-together : Passed m (together c (o .spent) (d .budget)) t u
+      passed-together =
+          let spent-is : o .spent ≡ s = cc in
+          record {
+            size-passes = h .size-passes;
+            budget-passes = afforded-together (o .spent) (d .budget) (m .session .total) (passed-next .budget-passes) (omega arith);
+            left-term = h .left-term;
+            right-term = h .right-term;
+          }
 
-    press-together : press m (together c (o .spent) (d .budget)) ≡ conclude C (m .session) (after (o .spent) o′)
-    press-together = press-passed passed-together ∙ ap (conclude C (m .session)) (rounds-walk (walked C (c .budget) t u .walk) (d .budget))
+      press-together : press m (together c (o .spent) (d .budget)) ≡ conclude C (m .session) (after (o .spent) o′)
+      press-together = press-passed passed-together ∙ ap (conclude C (m .session)) (rounds-add C (c .budget) (d .budget) t u)
 
-    both-presses : (press m (together c s (d .budget)) .answer ≡ shown v′ (s + s′) l′ r′) × (press m (together c s (d .budget)) .memory ≡ press next d .memory)
-    both-presses =
-        let spent-is : o .spent ≡ s = cc in
-        let answers : conclude C (next .session) o′ .answer ≡ shown v′ s′ l′ r′ = sym (ap (λ p. p .answer) press-next) ∙ second in
-        rw (← spent-is)
-        (ap (λ p. p .answer) press-together ∙ cc,
-        ap (λ p. p .memory) press-together ∙ ap (λ n. concluded C n o′) (sym (add-assoc (m .session .total) (o .spent) (o′ .spent)))
-        ∙ sym (ap (λ p. p .memory) press-next))
+      both-presses : (press m (together c s (d .budget)) .answer ≡ shown v′ (s + s′) l′ r′) × (press m (together c s (d .budget)) .memory ≡ press next d .memory)
+      both-presses =
+          let spent-is : o .spent ≡ s = cc in
+          let answers : conclude C (next .session) o′ .answer ≡ shown v′ s′ l′ r′ = sym (ap (λ p. p .answer) press-next) ∙ second in
+          rw (← spent-is) (
+            ap (λ p. p .answer) press-together ∙ cc,
+            ap (λ p. p .memory) press-together ∙ ap (λ n. concluded C n o′) (sym (add-assoc (m .session .total) (o .spent) (o′ .spent)))
+                ∙ sym (ap (λ p. p .memory) press-next),
+          )
 
 pub two-presses : Two-presses
 two-presses m c d v v′ s l r s′ l′ r′ e dl dr e′ fits =

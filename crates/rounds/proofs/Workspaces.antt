@@ -1,10 +1,10 @@
--- Workspaces that hold a term: which lengths are its length, and the workspace of its words and zeros.
+-- Workspaces that hold a term: the term that their first words are, by how many are taken, and the workspace of a term's words and zeros.
 use Prim.Native.Nat.{ℕ, _+_, _-_, _≤_}
 use mathlib.Core.Path.{_≡_, refl, sym, _∙_, ap}
 use mathlib.Core.Bool.{Bool, true, false, cond}
 use mathlib.Core.List.{List, _++_}
-use mathlib.Core.Option.{Option, some, none}
-use native.Mathlib.Nat.{le-of-eq, add-sub-of-le}
+use mathlib.Core.Option.{Option, some, none, Option·none-ne-some}
+use native.Mathlib.Nat.{add-sub-of-le}
 use native.Mathlib.Omega.{arith}
 use lib.Dec.{leb, eqb}
 use lib.ListN.{length, take, drop, replicate, length-append, length-replicate, take-append-drop}
@@ -30,13 +30,13 @@ holds-padded {C} {t} a h =
 pub holds-fits : {C : ℕ} {t : Term} {ws : List ℕ} → Holds C t ws → size t ≤ C
 holds-fits {t = t} h = omega (arith, length-append (words t) (h .others), ap length (h .contents), h .length-is)
 
--- The first n words of a workspace that holds a term are that term or none, for the term's words are never the start of another's.
+-- Of a workspace that holds a term, only as many words as the term has are a whole term: its words are never the start of another's.
 whole-term : {C : ℕ} {t u : Term} {ws : List ℕ} → Holds C t ws → (n : ℕ) → n ≤ length ws → read (take n ws) ≡ some u → n ≡ size t
 whole-term {t = t} {u = u} {ws = ws} h n k e =
     let w = read-sound (take n ws) e in
     let a = read-accepted (take n ws) e in
     let (q, _) = words-prefix-free t u (h .others) (drop n ws) (accepted-packable 0 t (h .accepted)) (accepted-packable 0 u a)
-        (sym (h .contents) ∙ sym (take-append-drop n ws) ∙ ap (λ l. l ++ drop n ws) (sym w)) in
+    (sym (h .contents) ∙ sym (take-append-drop n ws) ∙ ap (λ l. l ++ drop n ws) (sym w)) in
     sym (length-take-le n ws k) ∙ ap length (sym w) ∙ ap size (sym q)
 
 pub termAt-size : {C : ℕ} {t : Term} {ws : List ℕ} → Holds C t ws → termAt ws (size t) ≡ some t
@@ -75,4 +75,4 @@ holds-termAt {t} ws n = by (leb n (length ws))
           contents = sym (take-append-drop n ws) ∙ ap (λ l. l ++ drop n ws) (sym (read-sound (take n ws) e));
           length-is = refl;
         }
-    by false e = let z : _≡_ {A = ℕ} 0 1 = cc in absurd (omega arith)
+    by false e = absurd (Option·none-ne-some t e)
