@@ -3,7 +3,7 @@
 -- not through the functions that define a press.
 use Prim.Native.Nat.{ℕ, _+_, _-_, _≤_}
 use mathlib.Core.Path.{_≡_}
-use mathlib.Core.Bool.{Bool, cond, not, _||_}
+use mathlib.Core.Bool.{cond, not, _||_}
 use mathlib.Core.List.{List, [], _∷_, _++_, map}
 use mathlib.Core.Logic.{_⊎_}
 use mathlib.Core.Option.{some, none}
@@ -14,7 +14,6 @@ use Rattle.calculus.specs.Words.{words, size, workspaceLeast, workspaceMost}
 use Rattle.calculus.specs.Accepted.{Accepted}
 use Rattle.calculus.specs.Conversion.{Reaches, Joined}
 use Rattle.calculus.specs.Rounds.{Verdict, Same, Different, Outcome, rounds}
-use Rattle.rounds.specs.Session.{Session}
 use Rattle.rounds.specs.Press.{Answer, refused, shown, Memory, Call, Pressed, budgetLimit, totalLimit, press}
 use Rattle.rounds.specs.Runs.{final, history, spentIn, budgetInOneGo, lastAnswer}
 
