@@ -80,16 +80,17 @@ module _ {C : ℕ} {t u : Term} {start : Memory} {spent : ℕ} {m : Memory} {v :
   -- A press on the first terms in workspaces at least as long, with what was spent for a budget or more, gives the same.
   pub settled-on-first-terms : Decided v → (C′ : ℕ) (m′ : Memory) (c : Call) → C ≤ C′ → Holds C′ t (m′ .left) → Holds C′ u (m′ .right)
       → spent ≤ c .budget → (v′ : Verdict) (s′ l′ r′ : ℕ) → press m′ c .answer ≡ shown v′ s′ l′ r′
-      → (shown v′ s′ l′ r′ ≡ shown v spent l r) × SameTerms l r (press m′ c .memory) m
+      → (press m′ c .answer ≡ shown v spent l r) × SameTerms l r (press m′ c .memory) m
   settled-on-first-terms d C′ m′ c wide lh rh enough v′ s′ l′ r′ = by (answered (stands-first m′ lh rh) c)
     where
       by : {x : Reply} {p : Pressed} → Answered C′ (record { total = m′ .session .total; left = t; right = u }) m′ c x p
-          → p .answer ≡ shown v′ s′ l′ r′ → (shown v′ s′ l′ r′ ≡ shown v spent l r) × SameTerms l r (p .memory) m
+          → p .answer ≡ shown v′ s′ l′ r′ → (p .answer ≡ shown v spent l r) × SameTerms l r (p .memory) m
       by (turned-down n) e = absurd (refused≢shown e)
       by (made fits) e =
           let o = rounds C (h .budget) t u in
           let same : rounds C′ (c .budget) t u ≡ o = rounds-stable C (h .budget) t u (subst Decided (h .verdict-is) d) C′ (c .budget) wide (rw (← h .spent-is) enough) in
-          (cc, rw (same, h .memory-is, h .left-is, h .right-is) (same-words C′ C (words (o .left)), same-words C′ C (words (o .right))))
+          let q : shown v′ s′ l′ r′ ≡ shown v spent l r = cc in
+          (e ∙ q, rw (same, h .memory-is, h .left-is, h .right-is) (same-words C′ C (words (o .left)), same-words C′ C (words (o .right))))
 
   -- Another list that gives Same or Different agrees.
   pub settled-agree : {C′ : ℕ} {start′ : Memory} {spent′ : ℕ} {m′ : Memory} {v′ : Verdict} {l′ r′ : ℕ} → Stopped C′ t u start′ spent′ m′ v′ l′ r′
@@ -106,7 +107,7 @@ module _ {C : ℕ} {t u : Term} {start : Memory} {spent : ℕ} {m : Memory} {v :
       )
 
   pub settled-same : v ≡ Same → (w : Term) × Reaches t w × Reaches u w × (m .left ≡ words w ++ replicate (C - size w) 0)
-      × (m .right ≡ words w ++ replicate (C - size w) 0)
+      × (m .right ≡ words w ++ replicate (C - size w) 0) × (l ≡ size w) × (r ≡ size w)
   settled-same e =
       let o = rounds C (h .budget) t u in
       let w = walked C (h .budget) t u in
@@ -117,6 +118,8 @@ module _ {C : ℕ} {t u : Term} {start : Memory} {spent : ℕ} {m : Memory} {v :
         subst (Reaches u) (sym equal) g,
         ap (λ k. k .left) (h .memory-is),
         ap (λ k. k .right) (h .memory-is) ∙ ap (λ k. padded C (words k)) (sym equal),
+        h .left-is,
+        h .right-is ∙ ap size (sym equal),
       )
 
   pub settled-different : v ≡ Different → Joined t u → ⊥
