@@ -5,3 +5,8 @@ pub mod Verdicts
 pub mod Workspaces
 pub mod PressLaws
 pub mod TurnLaws
+pub mod RunLaws
+pub mod Settled
+pub mod Claim
+pub mod TwoPresses
+pub mod Instance

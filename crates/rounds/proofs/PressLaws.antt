@@ -1,21 +1,23 @@
 -- A press in the words of the claim: on workspaces that hold two terms it answers as `replyTo` says, and leaves workspaces that hold the terms that
 -- `advance` says.
-use Prim.Native.Nat.{ℕ, _+_, _≤_}
+use Prim.Native.Nat.{ℕ, _+_}
 use mathlib.Core.Path.{_≡_, refl, sym, _∙_, ap, subst}
 use mathlib.Core.Bool.{Bool, true, false, cond, not, _&&_, _||_}
 use mathlib.Core.List.{List}
-use mathlib.Core.Option.{Option, some, none}
+use mathlib.Core.Option.{some, none}
+use mathlib.Mathlib.Data.Bool.Basic.{or-eq-false-eq-eq-false-and-eq-false as or-false-iff}
 use native.Mathlib.Omega.{arith}
 use lib.Dec.{leb, ltb, eqb}
-use lib.ListN.{length}
+use lib.ListN.{length, replicate}
 use borrow.Author.Tests.{ltb-true, ltb-false, le-leb, lt-leb, eq-eqb, eqb-true, not-false}
 use Rattle.calculus.specs.Term.{Term}
 use Rattle.calculus.specs.Words.{words, size, workspaceLeast, workspaceMost}
-use Rattle.calculus.specs.Workspace.{termAt}
-use Rattle.calculus.specs.Rounds.{rounds}
-use Rattle.rounds.specs.Press.{Memory, Call, Pressed, budgetLimit, totalLimit, sized, affordable, refuse, conclude, pressTerms, press}
-use Rattle.rounds.specs.Claim.{Holds, Reply, refuses, spends, Standing, replyTo, advance}
-use Rattle.rounds.proofs.Walk.{neither}
+use Rattle.calculus.specs.Workspace.{padded}
+use Rattle.calculus.specs.Rounds.{Verdict, Outcome, rounds}
+use Rattle.rounds.specs.Press.{refused, shown, Memory, Call, Pressed, budgetLimit, totalLimit, sized, affordable, refuse, conclude, pressTerms, press}
+use Rattle.rounds.specs.Claim.{Holds, Reply, refuses, spends, replyOf, Standing, replyTo, advance, LeavesBy}
+use Rattle.rounds.proofs.Walk.{Walk, walked, walk-fits}
+use Rattle.rounds.proofs.Verdicts.{walk-accepted}
 use Rattle.rounds.proofs.Workspaces.{termAt-holds, holds-padded, holds-fits}
 
 -- The memory is where the list of calls stands.
@@ -65,7 +67,7 @@ affordable-not budget total =
 
 right-size : (C scratch : ℕ) → wrongSize C scratch ≡ false → scratch ≡ C
 right-size C scratch e =
-    eqb-true scratch C (not-false (eqb scratch C) (neither (ltb workspaceMost C) _ (neither (ltb C workspaceLeast) _ e .1) .1))
+    eqb-true scratch C (not-false (eqb scratch C) (or-false-iff (ltb workspaceMost C) _ .0 (or-false-iff (ltb C workspaceLeast) _ .0 e .1) .1))
 
 answered-tests : (s : Standing) (m : Memory) (c : Call) (wrong over l r : Bool) → (wrong ≡ false → length (c .scratch) ≡ length (m .left))
     → Answered (length (m .left)) s m c
@@ -93,3 +95,51 @@ answered-here s m c h =
 pub answered : {C : ℕ} {s : Standing} {m : Memory} → Stands C s m → (c : Call) → Answered C s m c (replyTo C s c) (press m c)
 answered {C} {s} {m} h c =
     subst (λ k. Stands k s m → Answered k s m c (replyTo k s c) (press m c)) (h .left-holds .length-is) (answered-here s m c) h
+
+-- Workspaces and session as rounds leave them, by the session's total then.
+abbrev pub concluded : (C total : ℕ) → Outcome → Memory
+concluded C total o =
+    record {
+      left = padded C (words (o .left));
+      right = padded C (words (o .right));
+      session = record { total = total; left = size (o .left); right = size (o .right); verdict = o .verdict };
+    }
+
+-- Workspaces that hold two terms hold, with zeros after them, those that a walk leads to.
+pub holds-walk : {C s : ℕ} {t u t′ u′ : Term} {ws vs : List ℕ} → Holds C t ws → Holds C u vs → Walk C s t u t′ u′
+    → Holds C t′ (padded C (words t′)) × Holds C u′ (padded C (words u′))
+holds-walk h k w =
+    let (f, g) = walk-fits w in
+    let (a, b) = walk-accepted w in
+    (holds-padded (a (h .accepted)) (f (holds-fits h)), holds-padded (b (k .accepted)) (g (holds-fits k)))
+
+pub stands-first : {C : ℕ} {t u : Term} (m : Memory) → Holds C t (m .left) → Holds C u (m .right)
+    → Stands C (record { total = m .session .total; left = t; right = u }) m
+stands-first m h k = record { total-is = refl; left-holds = h; right-holds = k }
+
+pub stands-concluded : {C : ℕ} {t u : Term} {ws vs : List ℕ} → Holds C t ws → Holds C u vs → (B total : ℕ)
+    → (let o = rounds C B t u in Stands C (record { total = total; left = o .left; right = o .right }) (concluded C total o))
+stands-concluded {C} {t} {u} h k B total =
+    let (l, r) = holds-walk h k (walked C B t u .walk) in
+    record { total-is = refl; left-holds = l; right-holds = r }
+
+-- After the press the memory is where `advance` says.
+pub stands-next : {C : ℕ} {s : Standing} {m : Memory} {c : Call} {r : Reply} {p : Pressed} → Stands C s m → Answered C s m c r p
+    → Stands C (advance C s c r) (p .memory)
+stands-next h (turned-down n) = h
+stands-next {C} {s} {c = c} h (made e) =
+    let o = rounds C (c .budget) (s .left) (s .right) in
+    let (l, r) = holds-walk (h .left-holds) (h .right-holds) (walked C (c .budget) (s .left) (s .right) .walk) in
+    record { total-is = ap (λ n. n + o .spent) (h .total-is); left-holds = l; right-holds = r }
+
+pub refused≢shown : {n s l r : ℕ} {v : Verdict} → refused n ≡ shown v s l r → ⊥
+refused≢shown e = let z : _≡_ {A = ℕ} 0 1 = cc in omega arith
+
+-- The answer is the reply.
+pub reply-answered : {C : ℕ} {s : Standing} {m : Memory} {c : Call} {r : Reply} {p : Pressed} → Answered C s m c r p → replyOf (p .answer) ≡ r
+reply-answered (turned-down n) = refl
+reply-answered (made e) = refl
+
+pub leaves-answered : {C : ℕ} {s : Standing} {m : Memory} {c : Call} {r : Reply} {p : Pressed} → Answered C s m c r p → LeavesBy m c p (p .answer)
+leaves-answered (turned-down n) = (refl, refl, refl, refl)
+leaves-answered (made e) = ap (λ n. replicate n 0) (sym e)

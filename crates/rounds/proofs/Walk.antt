@@ -1,10 +1,11 @@
--- The rounds as a walk over pairs of terms that no budget bounds: rounds with a budget make a walk and stop, and a budget of what a walk spends and
--- more makes that walk first. So budgets add up, and a verdict of Same or Different stays.
+-- The rounds as a walk over pairs of terms, which no budget bounds. Rounds with a budget make a walk and stop, and every walk is made if the budget
+-- is enough for it. So budgets add up, and Same and Different depend on neither the budget nor C once they are given.
 use Prim.Native.Nat.{ℕ, zero, suc, _+_, _-_, _≤_}
 use mathlib.Core.Path.{_≡_, refl, sym, _∙_, ap, ap₂, subst}
-use mathlib.Core.Bool.{Bool, true, false, cond, _||_, true≢false}
+use mathlib.Core.Bool.{Bool, true, false, cond, _||_}
 use mathlib.Core.Logic.{ite, if-pos, if-neg, inl, inr}
 use mathlib.Core.Option.{Option, some, none}
+use mathlib.Mathlib.Data.Bool.Basic.{or-eq-false-eq-eq-false-and-eq-false as or-false-iff}
 use native.Mathlib.Nat.{zero-add, add-zero, add-assoc, add-sub-of-le, le-trans}
 use native.Mathlib.Omega.{arith}
 use lib.Dec.{ltb}
@@ -16,7 +17,7 @@ use Rattle.calculus.specs.Equality.{equal?}
 use Rattle.calculus.specs.Rounds.{Verdict, Same, Different, Budget, Full, Outcome, Round, ends, one, two, contract, unequal, round, ended, after, rounds}
 use Rattle.rounds.specs.Claim.{Decided}
 
--- A round that makes contractions, by their number: the terms are not equal, and the next terms have at most C words.
+-- A round that makes contractions, by their number: the terms are not equal, and the next terms fit C words.
 pub data Moves (C : ℕ) : (spent : ℕ) (t u t′ u′ : Term) → Type 0 where
   left-moves : {t u t′ : Term} → (t ≡ u → ⊥) → leftmost t ≡ some t′ → leftmost u ≡ none → size t′ ≤ C → Moves C 1 t u t′ u
   right-moves : {t u u′ : Term} → (t ≡ u → ⊥) → leftmost t ≡ none → leftmost u ≡ some u′ → size u′ ≤ C → Moves C 1 t u t u′
@@ -34,6 +35,7 @@ Tells Different t u = (t ≡ u → ⊥) × (leftmost t ≡ none) × (leftmost u 
 Tells Budget t u = Unit {0}
 Tells Full t u = Unit {0}
 
+-- What a round of either kind says.
 data Ruled (C : ℕ) (t u : Term) : Round → Type 0 where
   stops : {v : Verdict} → Tells v t u → Ruled C t u (ends v)
   goes-one : {t′ u′ : Term} → Moves C 1 t u t′ u′ → Ruled C t u (one t′ u′)
@@ -48,10 +50,6 @@ ruled-contract {C} {t} {u} {next} rest p long h = by (ltb rest p) long h
     by false true h = stops tt
     by false false h = h refl
 
-pub neither : (a b : Bool) → (a || b) ≡ false → (a ≡ false) × (b ≡ false)
-neither true b e = absurd (true≢false e)
-neither false b e = (refl, e)
-
 ruled-unequal : (C rest : ℕ) (t u : Term) → (t ≡ u → ⊥) → (x y : Option Term) → leftmost t ≡ x → leftmost u ≡ y → Ruled C t u (unequal C rest t u x y)
 ruled-unequal C rest t u n none none p q = stops {v = Different} (n, p, q)
 ruled-unequal C rest t u n (some t′) none p q =
@@ -60,7 +58,7 @@ ruled-unequal C rest t u n none (some u′) p q =
     ruled-contract rest 1 (ltb C (size u′)) (λ e. goes-one (right-moves n p q (ltb-false C (size u′) e)))
 ruled-unequal C rest t u n (some t′) (some u′) p q =
     ruled-contract rest 2 (ltb C (size t′) || ltb C (size u′)) (λ e.
-    let f = neither _ _ e in
+    let f = or-false-iff _ _ .0 e in
     goes-two (both-move n p q (ltb-false C (size t′) (f .0)) (ltb-false C (size u′) (f .1))))
 
 ruled : (C rest : ℕ) (t u : Term) → Ruled C t u (round C rest t u)
@@ -98,20 +96,20 @@ pub record Walked (C : ℕ) (t u : Term) (o : Outcome) : Type 0 where
 walked-on : {C p : ℕ} {t u t′ u′ : Term} {o : Outcome} → Moves C p t u t′ u′ → Walked C t′ u′ o → Walked C t u (after p o)
 walked-on m w = record { walk = further m (w .walk); tells = w .tells }
 
-walked-not : {C : ℕ} {t u : Term} {v : Verdict} → Tells v t u → Walked C t u (ended v t u)
-walked-not h = record { walk = here; tells = h }
+walked-nowhere : {C : ℕ} {t u : Term} {v : Verdict} → Tells v t u → Walked C t u (ended v t u)
+walked-nowhere h = record { walk = here; tells = h }
 
 walked-resume : {C : ℕ} {t u : Term} {f g : Term → Term → Outcome} {x : Round} → Ruled C t u x
     → ((t′ u′ : Term) → Moves C 1 t u t′ u′ → Walked C t u (f t′ u′)) → ((t′ u′ : Term) → Moves C 2 t u t′ u′ → Walked C t u (g t′ u′))
     → Walked C t u (resume t u f g x)
-walked-resume (stops {v = v} h) a b = walked-not {v = v} h
+walked-resume (stops {v = v} h) a b = walked-nowhere {v = v} h
 walked-resume (goes-one {t′ = t′} {u′ = u′} m) a b = a t′ u′ m
 walked-resume (goes-two {t′ = t′} {u′ = u′} m) a b = b t′ u′ m
 
 pub walked : (C b : ℕ) (t u : Term) → Walked C t u (rounds C b t u)
 unfolding rounds
-walked C zero t u = walked-resume (ruled C zero t u) (λ t′ u′ m. walked-not tt) (λ t′ u′ m. walked-not tt)
-walked C (suc zero) t u = walked-resume (ruled C (suc zero) t u) (λ t′ u′ m. walked-on m (walked C zero t′ u′)) (λ t′ u′ m. walked-not tt)
+walked C zero t u = walked-resume (ruled C zero t u) (λ t′ u′ m. walked-nowhere tt) (λ t′ u′ m. walked-nowhere tt)
+walked C (suc zero) t u = walked-resume (ruled C (suc zero) t u) (λ t′ u′ m. walked-on m (walked C zero t′ u′)) (λ t′ u′ m. walked-nowhere tt)
 walked C (suc (suc b)) t u =
     walked-resume (ruled C (suc (suc b)) t u) (λ t′ u′ m. walked-on m (walked C (suc b) t′ u′)) (λ t′ u′ m. walked-on m (walked C b t′ u′))
 
@@ -144,12 +142,12 @@ after-zero o = ap (spending o) (zero-add (o .spent))
 pub after-after : (p n : ℕ) (o : Outcome) → after p (after n o) ≡ after (p + n) o
 after-after p n o = ap (spending o) (sym (add-assoc p n (o .spent)))
 
--- Rounds with a budget of what a walk spends, and more, make the walk and go on with the rest.
+-- Rounds whose budget is what a walk spends plus b make the walk, and then the rounds with b.
 pub rounds-walk : {C s : ℕ} {t u t′ u′ : Term} → Walk C s t u t′ u′ → (b : ℕ) → rounds C (s + b) t u ≡ after s (rounds C b t′ u′)
-rounds-walk {C} {t = t} {u = u} here b = rw zero-add (sym (after-zero (rounds C b t u)))
+rounds-walk {C} {t = t} {u = u} here b = ap (λ n. rounds C n t u) (zero-add b) ∙ sym (after-zero (rounds C b t u))
 rounds-walk {C} (further {p = p} {n = n} m w) b = rw (add-assoc p n b) (rounds-move m (n + b) ∙ ap (after p) (rounds-walk w b) ∙ after-after p n _)
 
--- A wider workspace makes the same walk.
+-- Longer workspaces allow the same walk.
 moves-wider : {C C′ p : ℕ} {t u t′ u′ : Term} → C ≤ C′ → Moves C p t u t′ u′ → Moves C′ p t u t′ u′
 moves-wider h (left-moves n p q f) = left-moves n p q (le-trans f h)
 moves-wider h (right-moves n p q f) = right-moves n p q (le-trans f h)
@@ -170,23 +168,26 @@ module _ {C : ℕ} {P : Term → Type 0} (keeps : (t t′ : Term) → leftmost t
   walk-keeps here = (λ h. h, λ h. h)
   walk-keeps (further m w) = (λ h. walk-keeps w .0 (moves-keep m .0 h), λ h. walk-keeps w .1 (moves-keep m .1 h))
 
+pub walk-fits : {C s : ℕ} {t u t′ u′ : Term} → Walk C s t u t′ u′ → (size t ≤ C → size t′ ≤ C) × (size u ≤ C → size u′ ≤ C)
+walk-fits {C} w = walk-keeps {P = λ t. size t ≤ C} (λ t t′ e f h. f) w
+
 -- Where Same or Different is given, it is given at once with every budget and every C.
-settled : (C b : ℕ) {t u : Term} {v : Verdict} → Decided v → Tells v t u → rounds C b t u ≡ ended v t u
+pub rounds-at-once : (C b : ℕ) {t u : Term} {v : Verdict} → Decided v → Tells v t u → rounds C b t u ≡ ended v t u
 unfolding round
-settled C b {t} {u} (inl e) h = rw e (rounds-ends C b t u (if-pos (equal? t u) (subst (λ v. Tells v t u) e h) _ _))
-settled C b {t} {u} (inr e) h =
+rounds-at-once C b {t} {u} (inl e) h = rw e (rounds-ends C b t u (if-pos (equal? t u) (subst (λ v. Tells v t u) e h) _ _))
+rounds-at-once C b {t} {u} (inr e) h =
     let (n, p, q) = subst (λ v. Tells v t u) e h in
     rw e (rounds-ends C b t u (round-unequal C b n p q))
 
--- Rounds that give Same or Different end in the same with every larger C and every budget that is at least what they spent.
-pub rounds-settled : (C B : ℕ) (t u : Term) → Decided (rounds C B t u .verdict) → (C′ B′ : ℕ) → C ≤ C′ → rounds C B t u .spent ≤ B′
+-- Rounds that give Same or Different end in the same with every C at least as large and every budget of at least what they spent.
+pub rounds-stable : (C B : ℕ) (t u : Term) → Decided (rounds C B t u .verdict) → (C′ B′ : ℕ) → C ≤ C′ → rounds C B t u .spent ≤ B′
     → rounds C′ B′ t u ≡ rounds C B t u
-rounds-settled C B t u d C′ B′ h k =
+rounds-stable C B t u d C′ B′ h k =
     let o = rounds C B t u in
     let w = walked C B t u in
     ap (λ b. rounds C′ b t u) (sym (add-sub-of-le k))
     ∙ rounds-walk (walk-wider h (w .walk)) (B′ - o .spent)
-    ∙ ap (after (o .spent)) (settled C′ (B′ - o .spent) d (w .tells))
+    ∙ ap (after (o .spent)) (rounds-at-once C′ (B′ - o .spent) d (w .tells))
     ∙ ap (spending o) (add-zero (o .spent))
 
 -- Rounds on the same terms that each give Same or Different agree, whatever their budgets and their C.
@@ -194,10 +195,10 @@ pub rounds-agree : (C B C′ B′ : ℕ) (t u : Term) → Decided (rounds C B t 
 rounds-agree C B C′ B′ t u d d′ =
     let s = rounds C B t u .spent in
     let s′ = rounds C′ B′ t u .spent in
-    sym (rounds-settled C B t u d (C + C′) (s + s′) (omega arith) (omega arith))
-    ∙ rounds-settled C′ B′ t u d′ (C + C′) (s + s′) (omega arith) (omega arith)
+    sym (rounds-stable C B t u d (C + C′) (s + s′) (omega arith) (omega arith))
+    ∙ rounds-stable C′ B′ t u d′ (C + C′) (s + s′) (omega arith) (omega arith)
 
--- Further rounds, from where rounds stopped, end where one go with what was spent and the further budget for a budget ends.
+-- Budgets add up: rounds from where rounds stopped end where one go ends whose budget is what was spent plus the further budget.
 pub rounds-add : (C B b : ℕ) (t u : Term)
     → rounds C (rounds C B t u .spent + b) t u ≡ after (rounds C B t u .spent) (rounds C b (rounds C B t u .left) (rounds C B t u .right))
 rounds-add C B b t u = rounds-walk (walked C B t u .walk) b

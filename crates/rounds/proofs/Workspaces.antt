@@ -1,10 +1,10 @@
--- Workspaces that hold a term: which lengths are its length, and the workspace of its words and zeros.
+-- Workspaces that hold a term: the term that their first words are, by how many are taken, and the workspace of a term's words and zeros.
 use Prim.Native.Nat.{ℕ, _+_, _-_, _≤_}
 use mathlib.Core.Path.{_≡_, refl, sym, _∙_, ap}
 use mathlib.Core.Bool.{Bool, true, false, cond}
 use mathlib.Core.List.{List, _++_}
-use mathlib.Core.Option.{Option, some, none}
-use native.Mathlib.Nat.{le-of-eq, add-sub-of-le}
+use mathlib.Core.Option.{Option, some, none, Option·none-ne-some}
+use native.Mathlib.Nat.{add-sub-of-le}
 use native.Mathlib.Omega.{arith}
 use lib.Dec.{leb, eqb}
 use lib.ListN.{length, take, drop, replicate, length-append, length-replicate, take-append-drop}
@@ -16,7 +16,7 @@ use Rattle.calculus.specs.Accepted.{Accepted}
 use Rattle.calculus.specs.Read.{read}
 use Rattle.calculus.specs.Workspace.{termAt, padded}
 use Rattle.calculus.proofs.WordLaws.{accepted-packable}
-use Rattle.calculus.proofs.ReadLaws.{read-exact, read-words}
+use Rattle.calculus.proofs.ReadLaws.{read-words, read-sound, read-accepted}
 use Rattle.calculus.proofs.PrefixFree.{words-prefix-free}
 use Rattle.rounds.specs.Claim.{Holds}
 
@@ -30,15 +30,16 @@ holds-padded {C} {t} a h =
 pub holds-fits : {C : ℕ} {t : Term} {ws : List ℕ} → Holds C t ws → size t ≤ C
 holds-fits {t = t} h = omega (arith, length-append (words t) (h .others), ap length (h .contents), h .length-is)
 
--- The first n words of a workspace that holds a term are that term or none, for the term's words are never the start of another's.
+-- Of a workspace that holds a term, only as many words as the term has are a whole term: its words are never the start of another's.
 whole-term : {C : ℕ} {t u : Term} {ws : List ℕ} → Holds C t ws → (n : ℕ) → n ≤ length ws → read (take n ws) ≡ some u → n ≡ size t
 whole-term {t = t} {u = u} {ws = ws} h n k e =
-    let (w, a) = read-exact (take n ws) u .0 e in
+    let w = read-sound (take n ws) e in
+    let a = read-accepted (take n ws) e in
     let (q, _) = words-prefix-free t u (h .others) (drop n ws) (accepted-packable 0 t (h .accepted)) (accepted-packable 0 u a)
     (sym (h .contents) ∙ sym (take-append-drop n ws) ∙ ap (λ l. l ++ drop n ws) (sym w)) in
     sym (length-take-le n ws k) ∙ ap length (sym w) ∙ ap size (sym q)
 
-termAt-size : {C : ℕ} {t : Term} {ws : List ℕ} → Holds C t ws → termAt ws (size t) ≡ some t
+pub termAt-size : {C : ℕ} {t : Term} {ws : List ℕ} → Holds C t ws → termAt ws (size t) ≡ some t
 unfolding termAt
 termAt-size {t = t} {ws = ws} h =
     let first : take (size t) ws ≡ words t = ap (take (size t)) (h .contents) ∙ take-append-seam (words t) (h .others) in
@@ -60,3 +61,18 @@ termAt-holds {t = t} {ws = ws} h n = by (eqb n (size t)) refl
     by : (b : Bool) → eqb n (size t) ≡ b → termAt ws n ≡ cond b (some t) none
     by true e = rw (eqb-true n (size t) e) (termAt-size h)
     by false e = termAt-other h n (eqb-false n (size t) e)
+
+-- A workspace holds the term that its first words are.
+pub holds-termAt : {t : Term} (ws : List ℕ) (n : ℕ) → termAt ws n ≡ some t → Holds (length ws) t ws
+unfolding termAt
+holds-termAt {t} ws n = by (leb n (length ws))
+  where
+    by : (b : Bool) → cond b (read (take n ws)) none ≡ some t → Holds (length ws) t ws
+    by true e =
+        record {
+          accepted = read-accepted (take n ws) e;
+          others = drop n ws;
+          contents = sym (take-append-drop n ws) ∙ ap (λ l. l ++ drop n ws) (sym (read-sound (take n ws) e));
+          length-is = refl;
+        }
+    by false e = absurd (Option·none-ne-some t e)

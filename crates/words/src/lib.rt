@@ -9,6 +9,8 @@ ghost use Rattle.calculus.specs.Accepted.{tagLimit, argumentLimit, branchLimit,
 ghost use Rattle.calculus.specs.Skip.{arity, span};
 ghost use Rattle.words.specs.Limits.{payloadBound};
 
+pub mod refusal;
+
 // A word by value. A workspace holds its number, so a word read there is `Word(w)`.
 pub struct Word(pub u32);
 

@@ -1,0 +1,144 @@
+-- The number of records that hang at a link: the record that it names, all that belongs to it, and its later siblings with theirs. Where links name
+-- later records and every record is named once, all records hang at the root.
+use Prim.Native.Nat.{ℕ, zero, suc, _+_, _*_, _≤_, _<_}
+use mathlib.Core.Path.{_≡_, refl, ap, ap₂, sym, _∙_}
+use mathlib.Core.Bool.{cond}
+use mathlib.Core.List.{[], _++_}
+use mathlib.Core.Logic.{_⊎_, inl, inr}
+use native.Mathlib.Nat.{one-mul, add-mul}
+use native.Mathlib.Omega.{arith}
+use lib.Dec.{eqb}
+use borrow.Author.Tests.{ne-eqb}
+use lib.ListN.{length-append}
+use Rattle.calculus.specs.Term.{Sort, term, terms, branches, Exp}
+use Rattle.calculus.specs.Words.{words, size}
+use Rattle.tables.specs.Records.{Table}
+use Rattle.tables.specs.Meaning.{Means, variable, abstraction, application, constructor, case-of, no-term, a-term, no-branch, a-branch}
+use Rattle.tables.specs.Refusals.{sumOf, naming, namings}
+use Rattle.tables.proofs.Sums.{sum-eq, sum-ones, sum-add, sum-times, sum-swap, sum-unnamed, sum-named}
+use Rattle.tables.proofs.Links.{Ahead, Linked}
+
+-- A bound on the steps from a link that is never reached.
+abbrev pub Enough : Table → (link bound : ℕ) → Type 0
+Enough T l k = (l ≡ 0) ⊎ ((1 ≤ l) × (l ≤ T .n) × (T .n < l + k))
+
+pub enough-ahead : (T : Table) (i l k : ℕ) → T .n < i + suc k → Ahead T i l → Enough T l k
+enough-ahead T i l k h (inl e) = inl e
+enough-ahead T i l k h (inr a) = inr (omega arith, a .1, omega arith)
+
+extentWithin : Table → (bound link : ℕ) → ℕ
+extentWithin T zero l = 0
+extentWithin T (suc k) l = cond (eqb l 0) 0 (suc (extentWithin T k (T .at l .first) + extentWithin T k (T .at l .next)))
+
+within-zero : (T : Table) (k : ℕ) → extentWithin T k 0 ≡ 0
+unfolding extentWithin
+within-zero T zero = refl
+within-zero T (suc k) = refl
+
+within-suc : (T : Table) (k l : ℕ) → 1 ≤ l
+    → extentWithin T (suc k) l ≡ suc (extentWithin T k (T .at l .first) + extentWithin T k (T .at l .next))
+unfolding extentWithin
+within-suc T k l h = rw (ne-eqb l 0 (λ e. omega arith))
+
+pub extent : Table → (link : ℕ) → ℕ
+extent T l = extentWithin T (suc (T .n)) l
+
+pub extent-zero : (T : Table) → extent T 0 ≡ 0
+unfolding extent
+extent-zero T = within-zero T (suc (T .n))
+
+nothing-left : (T : Table) (l : ℕ) → Enough T l zero → l ≡ 0
+nothing-left T l (inl e) = e
+nothing-left T l (inr h) = absurd (omega arith)
+
+module _ (T : Table) (L : Linked T) where
+  first-enough : (l k : ℕ) → (1 ≤ l) × (l ≤ T .n) × (T .n < l + suc k) → Enough T (T .at l .first) k
+  first-enough l k h = enough-ahead T l (T .at l .first) k (h .2) (L .first-ahead l (h .0) (h .1))
+
+  next-enough : (l k : ℕ) → (1 ≤ l) × (l ≤ T .n) × (T .n < l + suc k) → Enough T (T .at l .next) k
+  next-enough l k h = enough-ahead T l (T .at l .next) k (h .2) (L .next-ahead l (h .0) (h .1))
+
+  -- Any two bounds that are enough give the same.
+  stable : (k k′ l : ℕ) → Enough T l k → Enough T l k′ → extentWithin T k l ≡ extentWithin T k′ l
+  stable zero k′ l h h′ = rw (nothing-left T l h) (within-zero T zero ∙ sym (within-zero T k′))
+  stable (suc k) zero l h h′ = rw (nothing-left T l h′) (within-zero T (suc k) ∙ sym (within-zero T zero))
+  stable (suc k) (suc k′) l h (inl e) = rw e (within-zero T (suc k) ∙ sym (within-zero T (suc k′)))
+  stable (suc k) (suc k′) l (inl e) (inr h′) = rw e (within-zero T (suc k) ∙ sym (within-zero T (suc k′)))
+  stable (suc k) (suc k′) l (inr h) (inr h′) =
+      within-suc T k l (h .0)
+      ∙ ap₂ (λ x y. suc (x + y)) (stable k k′ (T .at l .first) (first-enough l k h) (first-enough l k′ h′))
+      (stable k k′ (T .at l .next) (next-enough l k h) (next-enough l k′ h′))
+      ∙ sym (within-suc T k′ l (h .0))
+
+  pub extent-record : (i : ℕ) → 1 ≤ i → i ≤ T .n → extent T i ≡ suc (extent T (T .at i .first) + extent T (T .at i .next))
+  unfolding extent
+  extent-record i l u =
+      within-suc T (T .n) i l
+      ∙ ap₂ (λ x y. suc (x + y)) (stable _ _ _ (first-enough i (T .n) within) (first-enough i (suc (T .n)) within′))
+      (stable _ _ _ (next-enough i (T .n) within) (next-enough i (suc (T .n)) within′))
+    where
+      within : (1 ≤ i) × (i ≤ T .n) × (T .n < i + suc (T .n))
+      within = omega arith
+
+      within′ : (1 ≤ i) × (i ≤ T .n) × (T .n < i + suc (suc (T .n)))
+      within′ = omega arith
+
+  -- What hangs at a link, as a sum over the records that it names.
+  over-named : (l : ℕ) → (l ≡ 0) ⊎ ((1 ≤ l) × (l ≤ T .n)) → sumOf (T .n) (λ i. naming l i * extent T i) ≡ extent T l
+  over-named l (inl e) = rw e (sum-unnamed (T .n) 0 (extent T) (λ i v u z. omega arith) ∙ sym (extent-zero T))
+  over-named l (inr h) = sum-named (T .n) l (extent T) (h .0) (h .1)
+
+  named : (i l : ℕ) → Ahead T i l → (l ≡ 0) ⊎ ((1 ≤ l) × (l ≤ T .n))
+  named i l (inl e) = inl e
+  named i l (inr a) = inr (omega arith, a .1)
+
+  -- What hangs at both links of a record.
+  below : ℕ → ℕ
+  below j = extent T (T .at j .first) + extent T (T .at j .next)
+
+  over-links : (j : ℕ) → 1 ≤ j → j ≤ T .n
+      → sumOf (T .n) (λ i. (naming (T .at j .first) i + naming (T .at j .next) i) * extent T i) ≡ below j
+  unfolding below
+  over-links j l u =
+      sum-eq (T .n) _ _ (λ i v w. add-mul (naming (T .at j .first) i) (naming (T .at j .next) i) (extent T i))
+      ∙ sum-add (T .n) _ _
+      ∙ ap₂ _+_ (over-named _ (named j _ (L .first-ahead j l u))) (over-named _ (named j _ (L .next-ahead j l u)))
+
+  -- Each record counted as often as links name it.
+  over-namings : 1 ≤ T .root → T .root ≤ T .n → sumOf (T .n) (λ i. namings T i * extent T i) ≡ extent T (T .root) + sumOf (T .n) below
+  unfolding namings
+  over-namings l u =
+      sum-eq (T .n) _ _ (λ i v w. add-mul (naming (T .root) i) _ (extent T i) ∙ ap (λ x. naming (T .root) i * extent T i + x) (sum-times (T .n) _ (extent T i)))
+      ∙ sum-add (T .n) _ _
+      ∙ ap₂ _+_ (over-named (T .root) (inr (l, u))) (sum-swap (T .n) (T .n) _ ∙ sum-eq (T .n) _ _ over-links)
+
+  -- Counted once each, the records are as many as what hangs at the root.
+  pub root-extent : 1 ≤ T .root → T .root ≤ T .n → extent T (T .root) ≡ T .n
+  unfolding below
+  root-extent l u = omega (arith, over-namings l u, once, each, sum-add (T .n) (λ i. 1) below, sum-ones (T .n))
+    where
+      once : sumOf (T .n) (λ i. namings T i * extent T i) ≡ sumOf (T .n) (extent T)
+      once = sum-eq (T .n) _ _ (λ i v w. rw (L .named-once i v w) (one-mul (extent T i)))
+
+      each : sumOf (T .n) (extent T) ≡ sumOf (T .n) (λ i. 1 + below i)
+      each = sum-eq (T .n) _ _ (λ i v w. omega (arith, extent-record i v w))
+
+  -- The words of a meaning are the records that it is read from.
+  abbrev Sized : {s : Sort} → ℕ → Exp s → Type 0
+  Sized {s = term} i e = extent T i ≡ size e + extent T (T .at i .next)
+  Sized {s = terms} l e = extent T l ≡ size e
+  Sized {s = branches} l e = extent T l ≡ size e
+
+  pub means-sized : {s : Sort} {i : ℕ} {e : Exp s} → Means T s i e → Sized i e
+  means-sized {i = i} (variable k m) = omega (arith, extent-record i (k .0) (k .1), means-sized m)
+  means-sized {i = i} (abstraction {b = b} k m) = omega (arith, extent-record i (k .0) (k .1), means-sized m, length-append (words b) [])
+  means-sized {i = i} (application {f = f} {a = a} k m) =
+      omega (arith, extent-record i (k .0) (k .1), means-sized m, length-append (words f) (words a ++ []), length-append (words a) [], length-append (words f) (words a))
+  means-sized {i = i} (constructor k m) = omega (arith, extent-record i (k .0) (k .1), means-sized m)
+  means-sized {i = i} (case-of {e = e} {bs = bs} k m ms) =
+      omega (arith, extent-record i (k .0) (k .1), means-sized m, means-sized ms, length-append (words e) (words bs))
+  means-sized no-term = extent-zero T
+  means-sized (a-term {a = a} {xs = xs} m ms) = omega (arith, means-sized m, means-sized ms, length-append (words a) (words xs))
+  means-sized no-branch = extent-zero T
+  means-sized {i = i} (a-branch {b = b} {bs = bs} k m ms) =
+      omega (arith, extent-record i (k .0) (k .1), means-sized m, means-sized ms, length-append (words b) [], length-append (words b) (words bs))
