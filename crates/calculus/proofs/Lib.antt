@@ -15,3 +15,4 @@ pub mod Spine
 pub mod AcceptedLaws
 pub mod Earliest
 pub mod PositionLaws
+pub mod Focus
