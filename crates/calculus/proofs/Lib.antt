@@ -21,3 +21,4 @@ pub mod Parallel
 pub mod ChurchRosser
 pub mod Earliest
 pub mod PositionLaws
+pub mod Focus
