@@ -5,6 +5,7 @@ pub mod Verdicts
 pub mod Workspaces
 pub mod PressLaws
 pub mod TurnLaws
+pub mod PressCode
 pub mod RunLaws
 pub mod Settled
 pub mod Claim

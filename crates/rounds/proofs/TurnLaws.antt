@@ -3,6 +3,7 @@ use Prim.Native.Nat.{ℕ, _+_, _-_, _≤_}
 use mathlib.Core.Path.{_≡_, refl, sym, _∙_, ap, ap₂}
 use mathlib.Core.Bool.{Bool, true, false, cond, _||_}
 use mathlib.Core.Logic.{ite, if-pos}
+use mathlib.Mathlib.Data.Bool.Basic.{or-eq-false-eq-eq-false-and-eq-false as or-false-iff}
 use mathlib.Core.Option.{Option, some, none, bind, Option·getD}
 use native.Mathlib.Omega.{arith}
 use lib.Dec.{ltb}
@@ -16,7 +17,7 @@ use Rattle.calculus.specs.Rounds.{Verdict, Same, Different, Budget, Full, Round
 use Rattle.calculus.specs.Rounds as calculus
 use Rattle.calculus.proofs.PositionLaws.{redex-first, leftmost-at-redex}
 use Rattle.rounds.specs.Turn.{next, Plan, normal, contract, planAt, planned, Turn, ends, goes, spend, turn}
-use Rattle.rounds.proofs.Walk.{Moves, left-moves, right-moves, both-move, neither, rounds-ends, rounds-move, round-unequal}
+use Rattle.rounds.proofs.Walk.{Moves, left-moves, right-moves, both-move, rounds-ends, rounds-move, round-unequal}
 
 -- What a side's plan tells of its term.
 pub data Planned (t : Term) : Plan → Type 0 where
@@ -69,7 +70,7 @@ module _ {C rest : ℕ} {t u : Term} where
       (λ s. rw (next-normal t e, next-is u f) (right-moves n e f (ltb-false C (size u′) s)))
   turned-unequal n (contracts p t′ x c e) (contracts q u′ y d f) =
       turned-spend 2 (ltb C (size t′) || ltb C (size u′)) (two t′ u′) (omega arith) (round-unequal C rest n e f)
-      (λ s. let z = neither (ltb C (size t′)) (ltb C (size u′)) s in
+      (λ s. let z = or-false-iff (ltb C (size t′)) (ltb C (size u′)) .0 s in
       rw (next-is t e, next-is u f) (both-move n e f (ltb-false C (size t′) (z .0)) (ltb-false C (size u′) (z .1))))
 
   pub turned : (equal : Bool) → (equal ≡ true → t ≡ u) → (equal ≡ false → t ≡ u → ⊥)

@@ -2,6 +2,9 @@
 pub mod Session
 pub mod Compare
 pub mod Turn
+pub mod Held
+pub mod Run
+pub mod IsTerm
 pub mod Press
 pub mod Show
 pub mod Types

