@@ -6,21 +6,21 @@ use mathlib.Core.List.{List, _++_}
 use mathlib.Core.Option.{Option, some, none, Option·getD, Option·elim, Option·none-ne-some}
 use native.Mathlib.Nat.{le-trans}
 use native.Mathlib.Omega.{arith}
-use lib.Dec.{leb}
+use lib.Dec.{leb, eqb}
 use lib.ListN.{length, take, replicate, length-append}
 use lib.Seq.{take-append-seam}
-use borrow.Author.Tests.{le-leb, leb-true}
+use borrow.Author.Tests.{le-leb, leb-true, eqb-true}
 use Rattle.calculus.specs.Term.{Term, var}
-use Rattle.calculus.specs.Words.{words, size, workspaceMost}
+use Rattle.calculus.specs.Words.{words, size, workspaceLeast, workspaceMost}
 use Rattle.calculus.specs.Read.{read}
 use Rattle.calculus.specs.Workspace.{termAt, padded}
 use Rattle.calculus.specs.Refusal.{wrongWorkspaceNumber, overBudgetNumber, noTermNumber}
 use Rattle.calculus.specs.Rounds.{Verdict, Outcome, rounds}
 use Rattle.rounds.specs.Held.{held, Holds}
-use Rattle.rounds.specs.Run.{Ran}
-use Rattle.rounds.specs.IsTerm.{isTerm}
+use Rattle.rounds.specs.Run.{Runs, Ran}
+use Rattle.words.specs.IsTerm.{isTerm}
 use Rattle.rounds.specs.Session.{Session}
-use Rattle.rounds.specs.Press.{shown, Memory, Call, Pressed, sized, affordable, refuse, conclude, pressTerms, press}
+use Rattle.rounds.specs.Press.{shown, Memory, Call, Pressed, budgetLimit, totalLimit, sized, affordable, refuse, conclude, pressTerms, press}
 
 take-zero-append : (xs ys : List ℕ) → take 0 xs ++ ys ≡ ys
 take-zero-append xs ys = refl
@@ -43,12 +43,12 @@ module _ {budget : ℕ} {o : Outcome} {v : Verdict} {spent m n : ℕ} {ws vs : L
   pub ran-concludes : (C : ℕ) (s : Session) (cs : List ℕ) {l r c : List ℕ} → length ws ≡ C → length vs ≡ C → length cs ≡ C
       → l ≡ take m ws ++ replicate (length ws - m) 0 → r ≡ take n vs ++ replicate (length vs - n) 0 → c ≡ take 0 cs ++ replicate (length cs - 0) 0
       → _≡_ {A = Pressed}
-        (record {
-          answer = shown v spent m n;
-          memory = record { left = l; right = r; session = record { total = s .total + spent; left = m; right = n; verdict = v } };
-          scratch = c;
-        })
-        (conclude C s o)
+      (record {
+        answer = shown v spent m n;
+        memory = record { left = l; right = r; session = record { total = s .total + spent; left = m; right = n; verdict = v } };
+        scratch = c;
+      })
+      (conclude C s o)
   ran-concludes C s cs {l} {r} {c} lw lv lc el er ec i =
       let left : l ≡ padded C (words (o .left)) = el ∙ cleared-padded C ws (h .left-others) (o .left) m (h .left-words) (h .left-length) lw in
       let right : r ≡ padded C (words (o .right)) = er ∙ cleared-padded C vs (h .right-others) (o .right) n (h .right-words) (h .right-length) lv in
@@ -61,11 +61,11 @@ module _ {budget : ℕ} {o : Outcome} {v : Verdict} {spent m n : ℕ} {ws vs : L
       record {
         answer = shown (verdict i) (spent′ i) (m′ i) (n′ i);
         memory =
-          record {
-            left = left i;
-            right = right i;
-            session = record { total = s .total + spent′ i; left = m′ i; right = n′ i; verdict = verdict i };
-          };
+            record {
+              left = left i;
+              right = right i;
+              session = record { total = s .total + spent′ i; left = m′ i; right = n′ i; verdict = verdict i };
+            };
         scratch = scratch i;
       }
 
@@ -102,6 +102,45 @@ module _ (ws : List ℕ) (n : ℕ) (limit : length ws ≤ workspaceMost) where
   unfolding isTerm held
   is-held h = record { term = tells-some (leb n workspaceMost) (termAt ws n) h; limit = limit }
 
+-- What the tests behind refusals 7 and 9 say.
+both : (a b : Bool) → (a && b) ≡ true → (a ≡ true) × (b ≡ true)
+both true b e = (refl, e)
+both false b e = absurd (false≢true e)
+
+module _ (l r s : ℕ) (fits : sized l r s ≡ true) where
+  below : leb l workspaceMost && (eqb r l && eqb s l) ≡ true
+  below = both (leb workspaceLeast l) (leb l workspaceMost && (eqb r l && eqb s l)) fits .1
+
+  equal : eqb r l && eqb s l ≡ true
+  equal = both (leb l workspaceMost) (eqb r l && eqb s l) below .1
+
+  pub sized-limit : l ≤ workspaceMost
+  sized-limit = leb-true l workspaceMost (both (leb l workspaceMost) (eqb r l && eqb s l) below .0)
+
+  pub sized-right : r ≡ l
+  sized-right = eqb-true r l (both (eqb r l) (eqb s l) equal .0)
+
+  pub sized-scratch : s ≡ l
+  sized-scratch = eqb-true s l (both (eqb r l) (eqb s l) equal .1)
+
+pub affords-total : (budget total : ℕ) → affordable budget total ≡ true → total + budget ≤ totalLimit
+affords-total budget total e =
+    leb-true (total + budget) totalLimit (both (leb budget budgetLimit) (leb (total + budget) totalLimit) e .1)
+
+-- What the press on two terms asks, from the four tests.
+pub runs : (left right scratch : List ℕ) (l r : ℕ) → sized (length left) (length right) (length scratch) ≡ true → isTerm left l ≡ true
+    → isTerm right r ≡ true → Runs left right scratch l r
+runs left right scratch l r fits is-left is-right =
+    let limit = sized-limit (length left) (length right) (length scratch) fits in
+    let right-limit : length right ≤ workspaceMost = rw (sized-right (length left) (length right) (length scratch) fits) limit in
+    record {
+      left-holds = is-held left l limit is-left;
+      right-holds = is-held right r right-limit is-right;
+      right-length = sized-right (length left) (length right) (length scratch) fits;
+      scratch-length = sized-scratch (length left) (length right) (length scratch) fits;
+    }
+
+-- A press, by its tests in their order.
 module _ (m : Memory) (c : Call) where
   pub refused-workspace : sized (length (m .left)) (length (m .right)) (length (c .scratch)) ≡ false → press m c ≡ refuse m c wrongWorkspaceNumber
   unfolding press
@@ -117,13 +156,27 @@ module _ (m : Memory) (c : Call) where
       unfolding press
       by-terms = rw (fits, affords)
 
-      pub refused-left : termAt (m .left) (c .leftLength) ≡ none → press m c ≡ refuse m c noTermNumber
-      refused-left e = by-terms ∙ ap (λ t. pressTerms m c t (termAt (m .right) (c .rightLength))) e
+      limit : length (m .left) ≤ workspaceMost
+      limit = sized-limit (length (m .left)) (length (m .right)) (length (c .scratch)) fits
 
-      pub refused-right : {t : Term} → termAt (m .left) (c .leftLength) ≡ some t → termAt (m .right) (c .rightLength) ≡ none
-          → press m c ≡ refuse m c noTermNumber
-      refused-right e f = by-terms ∙ ap₂ (pressTerms m c) e f
+      right-limit : length (m .right) ≤ workspaceMost
+      right-limit = rw (sized-right (length (m .left)) (length (m .right)) (length (c .scratch)) fits) limit
 
-      pub made-press : {t u : Term} → termAt (m .left) (c .leftLength) ≡ some t → termAt (m .right) (c .rightLength) ≡ some u
-          → press m c ≡ conclude (length (m .left)) (m .session) (rounds (length (m .left)) (c .budget) t u)
-      made-press e f = by-terms ∙ ap₂ (pressTerms m c) e f
+      pub refused-left : isTerm (m .left) (c .leftLength) ≡ false → press m c ≡ refuse m c noTermNumber
+      refused-left e =
+          by-terms ∙ ap (λ t. pressTerms m c t (termAt (m .right) (c .rightLength))) (not-term (m .left) (c .leftLength) limit e)
+
+      module _ (is-left : isTerm (m .left) (c .leftLength) ≡ true) where
+        pub refused-right : isTerm (m .right) (c .rightLength) ≡ false → press m c ≡ refuse m c noTermNumber
+        refused-right e =
+            by-terms
+            ∙ ap₂ (pressTerms m c) (is-held (m .left) (c .leftLength) limit is-left .term) (not-term (m .right) (c .rightLength) right-limit e)
+
+        pub pressed-terms : isTerm (m .right) (c .rightLength) ≡ true
+            → press m c
+            ≡ conclude (length (m .left)) (m .session)
+            (rounds (length (m .left)) (c .budget) (held (m .left) (c .leftLength)) (held (m .right) (c .rightLength)))
+        pressed-terms e =
+            by-terms
+            ∙ ap₂ (pressTerms m c) (is-held (m .left) (c .leftLength) limit is-left .term)
+            (is-held (m .right) (c .rightLength) right-limit e .term)

@@ -4,7 +4,6 @@ pub mod Compare
 pub mod Turn
 pub mod Held
 pub mod Run
-pub mod IsTerm
 pub mod Press
 pub mod Show
 pub mod Types

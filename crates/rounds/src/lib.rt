@@ -12,7 +12,6 @@ ghost use Rattle.rounds.specs.Types.{turnOf, planOf, verdictOf, answerOf
 ghost use Rattle.rounds.specs.Run.{Runs, Ran};
 ghost use Rattle.calculus.specs.Rounds.{rounds};
 ghost use Rattle.rounds.specs.Held.{held};
-ghost use Rattle.rounds.specs.IsTerm.{isTerm};
 use words::Word;
 use words::refusal::Refusal;
 
@@ -183,7 +182,14 @@ struct Ended {
 }
 
 // The rounds of a press, on both workspaces through the scratch.
-fn run(left: &mut [u32], right: &mut [u32], scratch: &mut [u32], l: usize, r: usize, budget: u32) -> Ended
+fn run(
+    left: &mut [u32],
+    right: &mut [u32],
+    scratch: &mut [u32],
+    l: usize,
+    r: usize,
+    budget: u32,
+) -> Ended
     requires { ⌜ Runs (now left) (now right) (now scratch) l r ⌝ }
     ensures { λ o. ⌜ Ran budget (rounds (length (now (left .entry))) budget (held (now (left .entry)) l) (held (now (right .entry)) r)) (verdictOf (o .verdict)) (o .spent) (o .left) (o .right) (now (left .exit)) (now (right .exit)) ⌝ }
 {
@@ -233,12 +239,6 @@ fn press_terms(
     }
 }
 
-fn is_term(ws: &[u32], n: usize) -> bool
-    ensures { λ r. ⌜ r ≡ isTerm (now (ws .entry)) n ⌝ }
-{
-    false
-}
-
 // A press: refusals 7, 9, 10 on the left and 10 on the right, in this order, which change nothing; otherwise the rounds. Words beyond the given
 // lengths don't matter, and of the session only the total is read.
 pub fn press(
@@ -264,17 +264,25 @@ pub fn press(
             session,
         };
     }
-    if !is_term(left, left_length) {
+    if !words::is_term(left, left_length) {
         return Pressed {
             answer: Answer::Refused(Refusal::TERM),
             session,
         };
     }
-    if !is_term(right, right_length) {
+    if !words::is_term(right, right_length) {
         return Pressed {
             answer: Answer::Refused(Refusal::TERM),
             session,
         };
     }
-    press_terms(left, right, scratch, left_length, right_length, budget, session)
+    press_terms(
+        left,
+        right,
+        scratch,
+        left_length,
+        right_length,
+        budget,
+        session,
+    )
 }
