@@ -11,3 +11,4 @@ pub mod Settled
 pub mod Claim
 pub mod TwoPresses
 pub mod Instance
+pub mod ShowLaws

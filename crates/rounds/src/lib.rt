@@ -7,6 +7,7 @@ ghost use lib.Dec.{ltb};
 ghost use lib.ListN.{length, take, drop, replicate};
 ghost use Rattle.rounds.specs.Press.{sized, affordable, press, conclude, totalLimit};
 ghost use Rattle.rounds.specs.Compare.{sameWords};
+ghost use Rattle.rounds.specs.Show.{show, partOf};
 ghost use Rattle.rounds.specs.Turn.{spend, turn};
 ghost use Rattle.rounds.specs.Types.{turnOf, planOf, verdictOf, answerOf, sessionOf, memoryOf, callOf, pressedOf};
 ghost use Rattle.rounds.specs.Run.{Runs, Ran};
@@ -285,4 +286,29 @@ pub fn press(
         budget,
         session,
     )
+}
+
+// The shorter current form, a part of the workspace that holds it, the left one at equal lengths; the empty start of the left one where a press
+// would be refused with 7 or 10.
+pub fn show<'a>(
+    left: &'a [u32],
+    right: &'a [u32],
+    left_length: usize,
+    right_length: usize,
+) -> &'a [u32]
+    ensures { λ r. ⌜ (r .ptr, now r) ≡ partOf (left .entry .ptr) (right .entry .ptr) (now (left .entry)) (now (right .entry)) (show (now (left .entry)) (now (right .entry)) «left_length» «right_length») ⌝ }
+{
+    if !sizes_pass(left.len(), right.len(), left.len()) {
+        return &left[..0];
+    }
+    if !words::is_term(left, left_length) {
+        return &left[..0];
+    }
+    if !words::is_term(right, right_length) {
+        return &left[..0];
+    }
+    if right_length < left_length {
+        return &right[..right_length];
+    }
+    &left[..left_length]
 }
