@@ -3,6 +3,9 @@ pub mod Session
 pub mod Compare
 pub mod Turn
 pub mod Held
+pub mod Next
+pub mod Search
+pub mod Advance
 pub mod Run
 pub mod Press
 pub mod Show

@@ -8,11 +8,17 @@ ghost use lib.ListN.{length, take, drop, replicate};
 ghost use Rattle.rounds.specs.Press.{sized, affordable, press, conclude, totalLimit};
 ghost use Rattle.rounds.specs.Compare.{sameWords};
 ghost use Rattle.rounds.specs.Show.{show, partOf};
-ghost use Rattle.rounds.specs.Turn.{spend, turn};
+ghost use Rattle.rounds.specs.Turn.{spend, turn, planned};
 ghost use Rattle.rounds.specs.Types.{turnOf, planOf, verdictOf, answerOf, sessionOf, memoryOf, callOf, pressedOf};
 ghost use Rattle.rounds.specs.Run.{Runs, Ran};
 ghost use Rattle.calculus.specs.Rounds.{rounds};
-ghost use Rattle.rounds.specs.Held.{held};
+ghost use Rattle.rounds.specs.Held.{held, Holds};
+ghost use Rattle.rounds.specs.Search.{found, Searched};
+ghost use Rattle.rounds.specs.Next.{HoldsRedex, HasRoom, Contracted};
+ghost use Rattle.rounds.specs.Next as stepNext;
+ghost use Rattle.rounds.specs.Advance.{Advances, Advanced};
+ghost use Rattle.calculus.specs.Position.{redexAt};
+ghost use Rattle.calculus.specs.Words.{size};
 use words::Word;
 use words::refusal::Refusal;
 
@@ -174,6 +180,59 @@ fn judge(equal: bool, left: Plan, right: Plan, rest: u32, c: usize) -> Turn
     }
 }
 
+// STUB-BEGIN
+pub enum Found {
+    At(usize),
+    Nothing,
+}
+
+fn find(ws: &[u32], n: usize, from: usize) -> Found
+    requires { ⌜ Searched (now ws) n from ⌝ }
+    ensures { λ r. ⌜ r ≡ found (redexAt (held (now (ws .entry)) n)) ⌝ }
+{
+    Found::Nothing
+}
+
+fn next_length(ws: &[u32], n: usize, at: usize) -> usize
+    requires { ⌜ HoldsRedex (now ws) n at ⌝ }
+    ensures { λ r. ⌜ r ≡ size (stepNext.next (now (ws .entry)) n at) ⌝ }
+{
+    n
+}
+
+fn contract(ws: &mut [u32], n: usize, at: usize, scratch: &mut [u32]) -> usize
+    requires { ⌜ HasRoom (now ws) n at (now scratch) ⌝ }
+    ensures { λ r. ⌜ Contracted (now (ws .entry)) n at (now (scratch .entry)) r (now (ws .exit)) (now (scratch .exit)) ⌝ }
+{
+    n
+}
+// STUB-END
+
+// What a side would do in a round.
+fn plan_for(ws: &[u32], n: usize) -> Plan
+    requires { ⌜ Holds (now ws) n ⌝ }
+    ensures { λ r. ⌜ planOf r ≡ planned (held (now (ws .entry)) n) ⌝ }
+{
+    match find(ws, n, 0) {
+        Found::At(at) => Plan::Contract {
+            at,
+            length: next_length(ws, n, at),
+        },
+        Found::Nothing => Plan::Normal,
+    }
+}
+
+// A side's part in a round that goes on, through the scratch; the length of its next term.
+fn advance(ws: &mut [u32], n: usize, todo: Plan, scratch: &mut [u32]) -> usize
+    requires { ⌜ Advances (now ws) n (planOf todo) (now scratch) ⌝ }
+    ensures { λ r. ⌜ Advanced (now (ws .entry)) n (now (scratch .entry)) r (now (ws .exit)) (now (scratch .exit)) ⌝ }
+{
+    match todo {
+        Plan::Normal => n,
+        Plan::Contract { at, length: _ } => contract(ws, n, at, scratch),
+    }
+}
+
 // What the rounds of a press end in.
 struct Ended {
     verdict: Verdict,
@@ -183,22 +242,32 @@ struct Ended {
 }
 
 // The rounds of a press, on both workspaces through the scratch.
-fn run(
-    left: &mut [u32],
-    right: &mut [u32],
-    scratch: &mut [u32],
-    l: usize,
-    r: usize,
-    budget: u32,
-) -> Ended
+fn run(left: &mut [u32], right: &mut [u32], scratch: &mut [u32], l: usize, r: usize, budget: u32) -> Ended
     requires { ⌜ Runs (now left) (now right) (now scratch) l r ⌝ }
     ensures { λ o. ⌜ Ran budget (rounds (length (now (left .entry))) budget (held (now (left .entry)) l) (held (now (right .entry)) r)) (verdictOf (o .verdict)) (o .spent) (o .left) (o .right) (now (left .exit)) (now (right .exit)) ⌝ }
 {
-    Ended {
-        verdict: Verdict::Budget,
-        spent: 0,
-        left: l,
-        right: r,
+    let mut m = l;
+    let mut n = r;
+    let mut spent: u32 = 0;
+    loop {
+        let equal = same(left, m, right, n);
+        let a = plan_for(left, m);
+        let b = plan_for(right, n);
+        match judge(equal, a, b, budget - spent, left.len()) {
+            Turn::Ends(verdict) => {
+                return Ended {
+                    verdict,
+                    spent,
+                    left: m,
+                    right: n,
+                };
+            }
+            Turn::Goes(count) => {
+                m = advance(left, m, a, scratch);
+                n = advance(right, n, b, scratch);
+                spent += count;
+            }
+        }
     }
 }
 
