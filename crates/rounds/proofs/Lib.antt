@@ -7,6 +7,7 @@ pub mod PressLaws
 pub mod HeldLaws
 pub mod TurnLaws
 pub mod RunCode
+pub mod RunLoop
 pub mod PressCode
 pub mod RunLaws
 pub mod Settled

@@ -242,7 +242,14 @@ struct Ended {
 }
 
 // The rounds of a press, on both workspaces through the scratch.
-fn run(left: &mut [u32], right: &mut [u32], scratch: &mut [u32], l: usize, r: usize, budget: u32) -> Ended
+fn run(
+    left: &mut [u32],
+    right: &mut [u32],
+    scratch: &mut [u32],
+    l: usize,
+    r: usize,
+    budget: u32,
+) -> Ended
     requires { ⌜ Runs (now left) (now right) (now scratch) l r ⌝ }
     ensures { λ o. ⌜ Ran budget (rounds (length (now (left .entry))) budget (held (now (left .entry)) l) (held (now (right .entry)) r)) (verdictOf (o .verdict)) (o .spent) (o .left) (o .right) (now (left .exit)) (now (right .exit)) ⌝ }
 {

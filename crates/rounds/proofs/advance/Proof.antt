@@ -1,37 +1,31 @@
+-- `advance` meets its contract, by the plan. Assumes nothing.
+use mathlib.Core.Path.{_≡_, ap}
 use borrow.Author.Needs.{needs}
+use Rattle.rounds.specs.Types.{planOf}
+use Rattle.rounds.proofs.RunCode.{advance-normal, advance-room, advance-contracted}
 use Rattle.rounds.proofs.advance.Statement.{statement}
 use Rattle.rounds.proofs.advance.Tie as tie
-use Rattle.rounds.proofs.advance.Reads as reads
-use Rattle.rounds.proofs.advance.Lts as lts
-use Rattle.rounds.proofs.contract.Reads as contract-reads
 
--- src/lib.rt:231:25
 enum-told : tie.Need-enum-told
 enum-told c = search needs
 
--- src/lib.rt:232:26
 enum-known-todo : tie.Need-enum-known-todo
 enum-known-todo c = search needs
 
--- src/lib.rt:232:45
 contract-requires : tie.Need-contract-requires
-contract-requires c κs = ?
+contract-requires c κs = advance-room (c .before .before .before .before .before .before .before .pre) (ap planOf (c .before .before .before .todo .given .1))
 
--- src/lib.rt:226:1
 returns : tie.Need-returns
-returns c = ?
+returns c = advance-normal (c .before .before .before .before .pre) (ap planOf (c .enum-told .given .1))
 
--- src/lib.rt:226:1
 same-length : tie.Need-same-length
 same-length c = search needs
 
--- src/lib.rt:226:1
 same-length-2 : tie.Need-same-length-2
 same-length-2 c = search needs
 
--- src/lib.rt:226:1
 returns-2 : tie.Need-returns-2
-returns-2 c = ?
+returns-2 c = advance-contracted (c .before .before .before .before .before .before .before .before .before .before .before .before .pre) (ap planOf (c .before .before .before .before .before .before .before .before .todo .given .1)) (c .before .before .before .before .contract .ensures)
 
 pub advance-spec : {M : Type 1} → statement M
 advance-spec =
