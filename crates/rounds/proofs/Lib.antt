@@ -4,7 +4,6 @@ pub mod Walk
 pub mod Verdicts
 pub mod Workspaces
 pub mod PressLaws
-pub mod HeldLaws
 pub mod TurnLaws
 pub mod RunCode
 pub mod RunLoop

@@ -16,7 +16,7 @@ use Rattle.calculus.specs.Read.{read}
 use Rattle.calculus.specs.Workspace.{termAt, padded}
 use Rattle.calculus.specs.Refusal.{wrongWorkspaceNumber, overBudgetNumber, noTermNumber}
 use Rattle.calculus.specs.Rounds.{Verdict, Outcome, rounds}
-use Rattle.rounds.specs.Held.{held, Holds}
+use Rattle.step.specs.Held.{held, Holds}
 use Rattle.rounds.specs.Run.{Runs, Ran}
 use Rattle.words.specs.IsTerm.{isTerm}
 use Rattle.rounds.specs.Session.{Session}

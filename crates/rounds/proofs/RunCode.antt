@@ -15,15 +15,15 @@ use Rattle.calculus.specs.Workspace.{termAt}
 use Rattle.calculus.specs.Leftmost.{leftmost}
 use Rattle.calculus.specs.Position.{contractAt, redexAt}
 use Rattle.calculus.proofs.PositionLaws.{redex-first}
-use Rattle.rounds.specs.declared.Found.{Found}
-use Rattle.rounds.specs.declared.Found.the-variants.{At, Nothing}
-use Rattle.rounds.specs.Held.{held, Holds}
-use Rattle.rounds.specs.Search.{found, Searched}
-use Rattle.rounds.specs.Next.{HoldsRedex, HasRoom, Contracted}
-use Rattle.rounds.specs.Next as stepNext
+use Rattle.step.specs.declared.Found.{Found}
+use Rattle.step.specs.declared.Found.the-variants.{At, Nothing}
+use Rattle.step.specs.Held.{held, Holds}
+use Rattle.step.specs.Search.{found, Searched}
+use Rattle.step.specs.Next.{HoldsRedex, HasRoom, Contracted}
+use Rattle.step.specs.Next as stepNext
 use Rattle.rounds.specs.Turn.{next, Plan, normal, contract, planAt, planned}
 use Rattle.rounds.specs.Advance.{Advances, scratchAfter, Advanced}
-use Rattle.rounds.proofs.HeldLaws.{next-term, Start, termAt-start}
+use Rattle.step.proofs.HeldLaws.{next-term, Start, termAt-start}
 use Rattle.rounds.proofs.TurnLaws.{Planned, is-normal, contracts, planned-tells, next-is, next-normal}
 
 -- The search may start at the first word.

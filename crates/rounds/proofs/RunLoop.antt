@@ -16,14 +16,14 @@ use Rattle.calculus.specs.Rounds.{Verdict, Outcome, ended, after, rounds}
 use Rattle.calculus.proofs.WordLaws.{accepted-packable}
 use Rattle.calculus.proofs.ReadLaws.{words-injective}
 use Rattle.calculus.proofs.AcceptedLaws.{leftmost-keeps-accepted}
-use Rattle.rounds.specs.Held.{held, Holds}
+use Rattle.step.specs.Held.{held, Holds}
 use Rattle.rounds.specs.Compare.{sameWords}
 use Rattle.rounds.specs.Turn.{next, Plan, planned, Turn, ends, goes, turn}
 use Rattle.rounds.specs.Advance.{Advances, Advanced}
 use Rattle.rounds.specs.Run.{Runs, Ran}
 use Rattle.rounds.specs.Claim as claim
 use Rattle.rounds.proofs.CompareLaws.{sameWords-refl, sameWords-equal}
-use Rattle.rounds.proofs.HeldLaws.{held-term, holds-term, Start, termAt-start}
+use Rattle.step.proofs.HeldLaws.{held-term, holds-term, Start, termAt-start}
 use Rattle.rounds.proofs.Workspaces.{termAt-size}
 use Rattle.rounds.proofs.Walk.{Moves, here, further, walk-fits, after-zero, after-after}
 use Rattle.rounds.proofs.TurnLaws.{Planned, is-normal, contracts, planned-tells, next-is, next-normal, Turned, stopped, going, turned, rounds-stopped, rounds-going}

@@ -2,9 +2,6 @@
 pub mod Session
 pub mod Compare
 pub mod Turn
-pub mod Held
-pub mod Next
-pub mod Search
 pub mod Advance
 pub mod Run
 pub mod Press

@@ -5,7 +5,7 @@ use mathlib.Core.List.{List, _++_}
 use lib.ListN.{length}
 use Rattle.calculus.specs.Words.{words, size}
 use Rattle.calculus.specs.Rounds.{Verdict, Outcome}
-use Rattle.rounds.specs.Held.{Holds}
+use Rattle.step.specs.Held.{Holds}
 
 -- Both workspaces hold terms, and the three lengths are equal.
 pub record Runs (left right scratch : List ℕ) (l r : ℕ) : Type 0 where

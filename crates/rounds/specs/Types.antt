@@ -8,10 +8,10 @@ use Rattle.rounds.specs.declared.Answer as codeAnswer
 use Rattle.rounds.specs.declared.Answer.the-variants as answer
 use Rattle.rounds.specs.declared.Session as codeSession
 use Rattle.rounds.specs.declared.Pressed as codePressed
-use Rattle.rounds.specs.declared.Plan as codePlan
-use Rattle.rounds.specs.declared.Plan.the-variants as plan
-use Rattle.rounds.specs.declared.Turn as codeTurn
-use Rattle.rounds.specs.declared.Turn.the-variants as turn
+use Rattle.rounds.specs.declared.turn.Plan as codePlan
+use Rattle.rounds.specs.declared.turn.Plan.the-variants as plan
+use Rattle.rounds.specs.declared.turn.Turn as codeTurn
+use Rattle.rounds.specs.declared.turn.Turn.the-variants as turn
 use Rattle.rounds.specs.Turn.{Plan, normal, contract, Turn, ends, goes}
 use Rattle.rounds.specs.Session.{Session}
 use Rattle.rounds.specs.Press.{Answer, refused, shown, Memory, Call, Pressed}

@@ -3,8 +3,8 @@ use mathlib.Core.Path.{_≡_, ap}
 use borrow.Author.Needs.{needs}
 use Rattle.rounds.specs.Types.{planOf}
 use Rattle.rounds.proofs.RunCode.{advance-normal, advance-room, advance-contracted}
-use Rattle.rounds.proofs.advance.Statement.{statement}
-use Rattle.rounds.proofs.advance.Tie as tie
+use Rattle.rounds.proofs.turn.advance.Statement.{statement}
+use Rattle.rounds.proofs.turn.advance.Tie as tie
 
 enum-told : tie.Need-enum-told
 enum-told c = search needs

@@ -6,8 +6,8 @@ use native.Mathlib.Omega.{arith}
 use borrow.Author.Needs.{needs}
 use Rattle.rounds.specs.Types.{turnOf}
 use Rattle.rounds.proofs.RunLoop.{Going, going-first, left-fits, right-fits, judged, ran, spends, left-advances, right-advances, going-on}
-use Rattle.rounds.proofs.run.Statement.{statement}
-use Rattle.rounds.proofs.run.Tie as tie
+use Rattle.rounds.proofs.run.run.Statement.{statement}
+use Rattle.rounds.proofs.run.run.Tie as tie
 
 abbrev Inv-loop : tie.InvT-loop
 Inv-loop left₀ right₀ scratch₀ l r budget m₀ n₀ spent₀ left right scratch m n spent =

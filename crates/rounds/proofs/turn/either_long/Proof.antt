@@ -1,7 +1,7 @@
 -- `either_long` meets its contract. Assumes nothing.
 use borrow.Author.Tests.{lt-ltb, le-ltb}
-use Rattle.rounds.proofs.either_long.Statement.{statement}
-use Rattle.rounds.proofs.either_long.Tie as tie
+use Rattle.rounds.proofs.turn.either_long.Statement.{statement}
+use Rattle.rounds.proofs.turn.either_long.Tie as tie
 
 returns : tie.Need-returns
 returns c = rw (lt-ltb _ _ (c .if1 .taken))

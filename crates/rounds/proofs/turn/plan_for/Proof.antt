@@ -4,8 +4,8 @@ use borrow.Author.Needs.{needs}
 use Rattle.rounds.specs.Turn.{contract}
 use Rattle.rounds.specs.Types.{planOf}
 use Rattle.rounds.proofs.RunCode.{searched, plan-redex, plan-contracts, plan-normal}
-use Rattle.rounds.proofs.plan_for.Statement.{statement}
-use Rattle.rounds.proofs.plan_for.Tie as tie
+use Rattle.rounds.proofs.turn.plan_for.Statement.{statement}
+use Rattle.rounds.proofs.turn.plan_for.Tie as tie
 
 find-requires : tie.Need-find-requires
 find-requires c κs = searched (c .before .pre)

@@ -4,8 +4,8 @@ use mathlib.Core.Path.{_≡_, refl}
 use native.Mathlib.Omega.{arith}
 use lib.ListN.{length}
 use Rattle.rounds.proofs.CompareLaws.{Left, compare-lengths, compare-more, compare-other, compare-end}
-use Rattle.rounds.proofs.same.Statement.{statement}
-use Rattle.rounds.proofs.same.Tie as tie
+use Rattle.rounds.proofs.compare.same.Statement.{statement}
+use Rattle.rounds.proofs.compare.same.Tie as tie
 
 abbrev Inv-loop : tie.InvT-loop
 Inv-loop ws n vs m i₀ i = (n ≡ m) × (i ≤ n) × Left ws vs n m i

@@ -1,7 +1,7 @@
 -- `spend` meets its contract. Assumes nothing.
 use borrow.Author.Tests.{lt-ltb, le-ltb}
-use Rattle.rounds.proofs.spend.Statement.{statement}
-use Rattle.rounds.proofs.spend.Tie as tie
+use Rattle.rounds.proofs.turn.spend.Statement.{statement}
+use Rattle.rounds.proofs.turn.spend.Tie as tie
 
 returns : tie.Need-returns
 returns c = rw (lt-ltb _ _ (c .if1 .taken))

@@ -2,12 +2,12 @@
 use borrow.Author.Needs.{needs}
 use mathlib.Core.Path.{_∙_, ap}
 use Rattle.rounds.specs.Turn.{spend}
-use Rattle.rounds.proofs.judge.Statement.{statement}
-use Rattle.rounds.proofs.judge.Tie as tie
-use Rattle.rounds.proofs.judge.Reads as reads
-use Rattle.rounds.proofs.judge.Lts as lts
-use Rattle.rounds.proofs.either_long.Reads as either-long-reads
-use Rattle.rounds.proofs.spend.Reads as spend-reads
+use Rattle.rounds.proofs.turn.judge.Statement.{statement}
+use Rattle.rounds.proofs.turn.judge.Tie as tie
+use Rattle.rounds.proofs.turn.judge.Reads as reads
+use Rattle.rounds.proofs.turn.judge.Lts as lts
+use Rattle.rounds.proofs.turn.either_long.Reads as either-long-reads
+use Rattle.rounds.proofs.turn.spend.Reads as spend-reads
 
 -- src/lib.rt:154:9
 returns : tie.Need-returns
