@@ -1,5 +1,11 @@
 pub mod Examples
+pub mod Tests
 pub mod Sums
 pub mod Links
 pub mod MeaningLaws
 pub mod Extent
+pub mod Children
+pub mod Fits
+pub mod Exists
+pub mod Accepts
+pub mod SoundMeans
