@@ -9,3 +9,4 @@ pub mod Fits
 pub mod Exists
 pub mod Accepts
 pub mod SoundMeans
+pub mod LoadLaws
