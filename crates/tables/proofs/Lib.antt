@@ -10,3 +10,4 @@ pub mod Exists
 pub mod Accepts
 pub mod SoundMeans
 pub mod LoadLaws
+pub mod PrefixLinks
