@@ -11,3 +11,4 @@ pub mod Accepts
 pub mod SoundMeans
 pub mod LoadLaws
 pub mod PrefixLinks
+pub mod Standing
