@@ -12,3 +12,4 @@ pub mod SoundMeans
 pub mod LoadLaws
 pub mod PrefixLinks
 pub mod Standing
+pub mod StandingFits

@@ -68,7 +68,8 @@ start {s = term} i e = i
 start {s = terms} i e = linkTo i e
 start {s = branches} i e = linkTo i e
 
-then : {T : Table} {i l : ℕ} {a : Term} {xs : Terms} → Means T term i a → T .at i .next ≡ l → Means T terms l xs → Means T terms i (cons a xs)
+-- A term and the chain that its next link starts.
+pub then : {T : Table} {i l : ℕ} {a : Term} {xs : Terms} → Means T term i a → T .at i .next ≡ l → Means T terms l xs → Means T terms i (cons a xs)
 then {xs = xs} m e ms = a-term {xs = xs} m (rw e ms)
 
 pub stand-means : (T : Table) {s : Sort} (e : Exp s) (i x : ℕ) → 1 ≤ i → i + size e ≤ suc (T .n) → Packable e → Stand T i (records i x e)
