@@ -13,3 +13,6 @@ pub mod LoadLaws
 pub mod PrefixLinks
 pub mod Standing
 pub mod StandingFits
+pub mod TableWords
+pub mod WrittenTable
+pub mod RoundTrips
