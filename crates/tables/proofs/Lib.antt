@@ -14,5 +14,6 @@ pub mod PrefixLinks
 pub mod Standing
 pub mod StandingFits
 pub mod TableWords
+pub mod PrefixStanding
 pub mod WrittenTable
 pub mod RoundTrips

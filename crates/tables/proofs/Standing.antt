@@ -20,11 +20,11 @@ Stand T i [] = Unit {0}
 Stand T i (r ∷ rs) = (T .at i ≡ r) × Stand T (suc i) rs
 
 -- Records one after the other.
-pub stand-split : (T : Table) (rs rs′ : List Record) (i j : ℕ) → j ≡ i + length rs → Stand T i (rs ++ rs′) → Stand T i rs × Stand T j rs′
+stand-split : (T : Table) (rs rs′ : List Record) (i j : ℕ) → j ≡ i + length rs → Stand T i (rs ++ rs′) → Stand T i rs × Stand T j rs′
 stand-split T [] rs′ i j e h = let same : j ≡ i = omega arith in (tt, rw same h)
 stand-split T (r ∷ rs) rs′ i j e h = let both = stand-split T rs rs′ (suc i) j (omega arith) (h .1) in ((h .0, both .0), both .1)
 
-pub stand-join : (T : Table) (rs rs′ : List Record) (i j : ℕ) → j ≡ i + length rs → Stand T i rs → Stand T j rs′ → Stand T i (rs ++ rs′)
+stand-join : (T : Table) (rs rs′ : List Record) (i j : ℕ) → j ≡ i + length rs → Stand T i rs → Stand T j rs′ → Stand T i (rs ++ rs′)
 stand-join T [] rs′ i j e h h′ = let same : i ≡ j = omega arith in rw same h′
 stand-join T (r ∷ rs) rs′ i j e h h′ = (h .0, stand-join T rs rs′ (suc i) j (omega arith) (h .1) h′)
 
@@ -46,6 +46,10 @@ records-length (branch t n b bs) i x =
 pub stand-both : (T : Table) {s s′ : Sort} (e : Exp s) (g : Exp s′) (i x y : ℕ) → Stand T i (records i x e ++ records (i + size e) y g)
     → Stand T i (records i x e) × Stand T (i + size e) (records (i + size e) y g)
 stand-both T e g i x y h = stand-split T (records i x e) _ i (i + size e) (omega (arith, records-length e i x)) h
+
+pub stand-with : (T : Table) {s s′ : Sort} (e : Exp s) (g : Exp s′) (i x y : ℕ) → Stand T i (records i x e)
+    → Stand T (i + size e) (records (i + size e) y g) → Stand T i (records i x e ++ records (i + size e) y g)
+stand-with T e g i x y h h′ = stand-join T (records i x e) _ i (i + size e) (omega (arith, records-length e i x)) h h′
 
 -- The record of a term has the next sibling that it is given.
 pub stand-next : (T : Table) (t : Term) (i x : ℕ) → Stand T i (records i x t) → T .at i .next ≡ x
