@@ -12,12 +12,10 @@ use Rattle.calculus.specs.Accepted.{tagLimit, argumentLimit, branchLimit, freeL
 use Rattle.tables.specs.Records.{Table, OfKind}
 use Rattle.tables.specs.Meaning.{Means, variable, abstraction, application, constructor, case-of, no-term, a-term, no-branch, a-branch}
 use Rattle.tables.specs.Refusals.{isTag, valueFits, children, allTerms, childrenFit, freeFits}
+use Rattle.tables.proofs.Tests.{both-true}
 use Rattle.tables.proofs.Links.{Linked, children-enough}
 use Rattle.tables.proofs.Children.{terms-chain, case-chain}
 use Rattle.tables.proofs.Fits.{Valued, Fitted}
-
-both-true : (a b : Bool) → (a && b) ≡ true → (a ≡ true) × (b ≡ true)
-both-true a b h = and-eq-true-iff a b .0 h
 
 alone : {b : Bool} → b ≡ true → (b && true) ≡ true
 alone {b} h = and-eq-true-iff b true .1 (h, refl)
