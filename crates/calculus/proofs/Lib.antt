@@ -3,6 +3,7 @@ pub mod WordLaws
 pub mod SkipLaws
 pub mod All
 pub mod ReadLaws
+pub mod FirstLaws
 pub mod PrefixFree
 pub mod Move
 pub mod Indices
@@ -18,3 +19,5 @@ pub mod Traversal
 pub mod Substitution
 pub mod Parallel
 pub mod ChurchRosser
+pub mod Earliest
+pub mod PositionLaws
