@@ -1,14 +1,13 @@
 -- What a table means is accepted where the table meets none of refusals 3 to 6: tags by 3, counts and rising tags by 5, free numbers by 6.
 use Prim.Native.Nat.{ℕ, suc, _+_, _≤_}
-use mathlib.Core.Path.{_≡_, refl, sym}
+use mathlib.Core.Path.{_≡_, refl}
 use mathlib.Core.Bool.{Bool, true, _&&_, and-eq-true-iff}
 use lib.Dec.{leb}
-use native.Mathlib.Omega.{arith}
 use lib.ListN.{length}
-use borrow.Author.Tests.{leb-true, le-leb}
+use borrow.Author.Tests.{leb-true}
 use Rattle.calculus.specs.Term.{Sort, term, terms, branches, Exp, Term, Terms, Branches, count}
 use Rattle.calculus.specs.Words.{constructorKind, caseKind, branchKind, tagOf, countOf}
-use Rattle.calculus.specs.Accepted.{tagLimit, argumentLimit, branchLimit, freeLimit, IsTag, Rising, Accepted}
+use Rattle.calculus.specs.Accepted.{tagLimit, argumentLimit, branchLimit, IsTag, Rising, Accepted}
 use Rattle.tables.specs.Records.{Table, OfKind}
 use Rattle.tables.specs.Meaning.{Means, variable, abstraction, application, constructor, case-of, no-term, a-term, no-branch, a-branch}
 use Rattle.tables.specs.Refusals.{isTag, valueFits, children, allTerms, childrenFit, freeFits}

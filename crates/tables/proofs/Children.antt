@@ -1,15 +1,15 @@
 -- The chain of records that refusal 5 follows, and what the chain means: as many records as there are arguments or branches, each of the right
 -- kind, with the same tags.
-use Prim.Native.Nat.{ℕ, zero, suc, _≤_, _<_}
+use Prim.Native.Nat.{ℕ, zero, suc, _≤_}
 use mathlib.Core.Path.{_≡_, refl, ap}
-use mathlib.Core.Bool.{Bool, true, false, not, and-eq-true-iff}
+use mathlib.Core.Bool.{true, false, and-eq-true-iff}
 use mathlib.Core.List.{[], _∷_}
-use mathlib.Core.Logic.{_↔_, inl, inr}
+use mathlib.Core.Logic.{_↔_}
 use native.Mathlib.Omega.{arith}
 use lib.Dec.{leb, eqb}
 use lib.ListN.{length}
 use borrow.Author.Tests.{leb-true, le-leb, ltb-true, lt-ltb, ne-eqb}
-use Rattle.calculus.specs.Term.{Sort, term, terms, branches, Exp, Term, Terms, Branches, end, branch, count}
+use Rattle.calculus.specs.Term.{term, terms, branches, Term, Terms, Branches, count}
 use Rattle.calculus.specs.Words.{tagOf}
 use Rattle.calculus.specs.Accepted.{branchLimit, StartsAbove, Rising}
 use Rattle.tables.specs.Records.{Table}

@@ -12,10 +12,10 @@ use Rattle.calculus.specs.Read.{takeTerm, takeTerms, takeBranches, readLam, rea
 use Rattle.calculus.specs.Workspace.{termAt}
 use Rattle.tables.specs.Meaning.{termOf, meantTerm, meantTerms, meantBranch, meantBranches, meant, meaning}
 use Rattle.tables.specs.Refusals.{wrongLength, wrongHeader, valueFits, wrongValue, namings, wrongLink, childrenFit, wrongChildren}
-use Rattle.tables.specs.Load.{Answer, refused, returned, Loaded, load}
+use Rattle.tables.specs.Load.{refused, returned, Loaded, load}
 use Rattle.tables.specs.PrefixOrder.{InPrefixOrder, nothing, chained}
 use Rattle.tables.specs.Records.{view1}
-use Rattle.tables.specs.Write.{Written, write}
+use Rattle.tables.specs.Write.{write}
 
 -- A table is written by its records, the header first.
 abbrev Four : Type 0

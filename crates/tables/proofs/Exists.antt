@@ -1,13 +1,13 @@
 -- A table that meets none of refusals 3 to 5 means a term: the records from the last to the first, each from those that its links name.
 use Prim.Native.Nat.{ℕ, zero, suc, _+_, _≤_, _<_}
 use mathlib.Core.Path.{_≡_, refl, sym, _∙_}
-use mathlib.Core.Bool.{Bool, true, false, false≢true, not, _&&_, and-eq-true-iff}
+use mathlib.Core.Bool.{true, false, false≢true, not, _&&_, and-eq-true-iff}
 use mathlib.Core.List.{List, [], _∷_}
 use mathlib.Core.Logic.{inl, inr}
 use native.Mathlib.Omega.{arith}
 use lib.Dec.{leb, eqb}
 use lib.ListN.{length}
-use borrow.Author.Tests.{eqb-true, eq-eqb, eqb-false, not-true}
+use borrow.Author.Tests.{eqb-true, eqb-false, not-true}
 use Rattle.calculus.specs.Term.{term, terms, branches, Term, Terms, Branches, var, lam, app, con, case, nil, cons, end, branch, count}
 use Rattle.calculus.specs.Words.{branchKind}
 use Rattle.calculus.specs.Accepted.{argumentLimit, branchLimit}

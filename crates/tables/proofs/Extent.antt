@@ -1,6 +1,6 @@
 -- The number of records that hang at a link: the record that it names, all that belongs to it, and its later siblings with theirs. Where links name
 -- later records and every record is named once, all records hang at the root.
-use Prim.Native.Nat.{ℕ, zero, suc, _+_, _*_, _≤_, _<_}
+use Prim.Native.Nat.{ℕ, zero, suc, _+_, _*_, _≤_}
 use mathlib.Core.Path.{_≡_, refl, ap, ap₂, sym, _∙_}
 use mathlib.Core.Bool.{cond}
 use mathlib.Core.List.{[], _++_}

@@ -7,7 +7,7 @@ use native.Mathlib.Omega.{arith}
 use lib.Dec.{leb, ltb, eqb}
 use borrow.Author.Tests.{leb-true, le-leb, ltb-true, lt-ltb, eqb-true, eq-eqb, not-false}
 use Rattle.tables.specs.Records.{Table}
-use Rattle.tables.specs.Refusals.{everyOf, linkFits, namings, wrongLink}
+use Rattle.tables.specs.Refusals.{linkFits, namings, wrongLink}
 use Rattle.tables.proofs.Sums.{every-at, every-of}
 
 -- A link of record i that is not 0 names a later record.

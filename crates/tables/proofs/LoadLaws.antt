@@ -4,7 +4,7 @@ use mathlib.Core.Path.{_≡_, refl, sym, ap, _∙_}
 use mathlib.Core.Bool.{Bool, true, false, cond, _&&_, and-eq-true-iff}
 use mathlib.Core.List.{List, [], _∷_, _++_}
 use mathlib.Core.Logic.{_⊎_, inl, inr}
-use mathlib.Core.Option.{Option, some, none}
+use mathlib.Core.Option.{some, none}
 use native.Mathlib.Omega.{arith}
 use lib.Dec.{eqb}
 use lib.ListN.{length, replicate}
@@ -13,9 +13,9 @@ use Rattle.calculus.specs.Term.{term, Term}
 use Rattle.calculus.specs.Words.{words, size}
 use Rattle.calculus.specs.Workspace.{padded}
 use Rattle.tables.specs.Records.{form, recordAt, view1}
-use Rattle.tables.specs.Meaning.{Means, isRecord, meaning}
+use Rattle.tables.specs.Meaning.{Means, isRecord}
 use Rattle.tables.specs.Refusals.{wrongHeader}
-use Rattle.tables.specs.Load.{Answer, refused, returned, Loaded, checks, firstMet, refuseLoad, place, loadUnless, load}
+use Rattle.tables.specs.Load.{refused, returned, checks, firstMet, refuseLoad, place, loadUnless, load}
 use Rattle.tables.specs.Theorems.{Sound, Meant, FirstMet, NoneMet, LoadsExactly, Loading-exact}
 use Rattle.tables.proofs.MeaningLaws.{meaning-complete}
 use Rattle.tables.proofs.SoundMeans.{sound-means}

@@ -1,14 +1,14 @@
 -- `meaning` follows the relation `Means`, and an index means at most one expression of a sort.
-use Prim.Native.Nat.{ℕ, zero, suc, _+_, _*_, _-_, _≤_, _<_, max}
+use Prim.Native.Nat.{ℕ, zero, suc, _+_, _*_, _≤_, _<_, max}
 use mathlib.Core.Path.{_≡_, refl, _∙_}
-use mathlib.Core.Bool.{Bool, true, false, _&&_, and-eq-true-iff}
-use mathlib.Core.Option.{Option, some, none, Option·map, bind, Option·some-injective}
+use mathlib.Core.Bool.{_&&_, and-eq-true-iff}
+use mathlib.Core.Option.{some, Option·map, bind}
 use mathlib.Core.Logic.{inl, inr}
 use native.Mathlib.Omega.{arith}
 use lib.Dec.{eqb}
 use borrow.Author.Tests.{eqb-true, eq-eqb, ne-eqb}
-use Rattle.calculus.specs.Term.{Sort, term, terms, branches, Exp, var, lam, app, con, case, nil, cons, end, branch, Term, Terms, Branches}
-use Rattle.calculus.specs.Words.{variableKind, abstractionKind, applicationKind, constructorKind, caseKind, branchKind, tagOf, countOf}
+use Rattle.calculus.specs.Term.{Sort, term, terms, branches, Exp, lam, case, nil, cons, Term, Terms}
+use Rattle.calculus.specs.Words.{variableKind, abstractionKind, applicationKind, constructorKind, caseKind, branchKind}
 use Rattle.calculus.proofs.All.{All, holds, nothing, all-map, all-bind, all-eqb, all-some}
 use Rattle.tables.specs.Records.{Table, OfKind}
 use Rattle.tables.specs.Meaning.{Means, variable, abstraction, application, constructor, case-of, no-term, a-term, no-branch, a-branch, variableOf, onlyOne, applicationOf, termOf, isRecord, Reading, meantTerm, meantTerms, meantBranch, meantBranches, meant, meaning}

@@ -1,25 +1,24 @@
 -- Loading what was written gives the term again, and writing what was loaded gives the table again exactly when its records are in prefix order.
-use Prim.Native.Nat.{ℕ, suc, _+_, _-_, _*_, _≤_, _<_}
+use Prim.Native.Nat.{ℕ, suc, _+_, _-_, _*_, _≤_}
 use mathlib.Core.Path.{_≡_, refl, sym, ap, subst, _∙_}
-use mathlib.Core.Bool.{Bool, true, false, _&&_}
-use mathlib.Core.List.{List, [], _∷_, _++_}
-use mathlib.Core.Option.{Option, some, none}
+use mathlib.Core.Bool.{false, _&&_}
+use mathlib.Core.List.{List, _∷_, _++_}
+use mathlib.Core.Option.{some}
 use native.Mathlib.Omega.{arith}
 use lib.Dec.{leb, ltb, eqb}
-use lib.ListN.{length, take, replicate, length-append, length-replicate}
+use lib.ListN.{length, replicate, length-append, length-replicate}
 use lib.Seq.{take-append-seam}
 use borrow.Author.Tests.{le-leb, ltb-false, eqb-true, eq-eqb, not-false}
 use Rattle.calculus.specs.Term.{term, Term}
 use Rattle.calculus.specs.Words.{words, size, workspaceLeast, workspaceMost}
 use Rattle.calculus.specs.Accepted.{Accepted}
-use Rattle.calculus.specs.Read.{read}
 use Rattle.calculus.specs.Workspace.{termAt}
 use Rattle.calculus.proofs.ReadLaws.{read-words}
 use Rattle.tables.specs.Records.{form, recordWords, recordAt, view1}
 use Rattle.tables.specs.Meaning.{Means}
 use Rattle.tables.specs.Refusals.{wrongWorkspace, wrongLength, wrongHeader}
-use Rattle.tables.specs.Load.{Answer, returned, load}
-use Rattle.tables.specs.Write.{entry, records, Written, tableOf, writeTerm, refuseWrite, write}
+use Rattle.tables.specs.Load.{returned, load}
+use Rattle.tables.specs.Write.{entry, records, tableOf, write}
 use Rattle.tables.specs.Theorems.{Sound, Load-after-write, Write-after-load}
 use Rattle.tables.specs.PrefixOrder.{InPrefixOrder}
 use Rattle.tables.proofs.Tests.{both-true, both-false}

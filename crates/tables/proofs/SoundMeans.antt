@@ -1,14 +1,10 @@
 -- A table that meets no refusal means a term, which is accepted and has as many words as the table has records.
-use Prim.Native.Nat.{ℕ, _+_}
 use mathlib.Core.Path.{_≡_, ap, _∙_}
-use mathlib.Core.Bool.{true, false}
 use mathlib.Core.Option.{some}
 use native.Mathlib.Omega.{arith}
 use borrow.Author.Tests.{not-false}
-use Rattle.calculus.specs.Term.{Term}
-use Rattle.tables.specs.Records.{Table}
 use Rattle.tables.specs.Meaning.{meaning}
-use Rattle.tables.specs.Refusals.{freeFits, freeAbove}
+use Rattle.tables.specs.Refusals.{freeFits}
 use Rattle.tables.specs.Theorems.{Sound-means}
 use Rattle.tables.proofs.Tests.{isRecord-true}
 use Rattle.tables.proofs.Links.{linked}

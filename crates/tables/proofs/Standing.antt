@@ -1,16 +1,15 @@
 -- The records of an expression standing in a table from an index on: what they mean, and that they are in prefix order.
-use Prim.Native.Nat.{ℕ, zero, suc, _+_, _≤_, _<_}
-use mathlib.Core.Path.{_≡_, refl, sym, ap, ap₂, _∙_}
+use Prim.Native.Nat.{ℕ, suc, _+_, _≤_}
+use mathlib.Core.Path.{_≡_, refl, ap}
 use mathlib.Core.List.{List, [], _∷_, _++_}
 use native.Mathlib.Omega.{arith}
-use lib.Dec.{eqb}
 use lib.ListN.{length, length-append}
 use borrow.Author.Tests.{ne-eqb}
 use Rattle.calculus.specs.Term.{Sort, term, terms, branches, Exp, var, lam, app, con, case, nil, cons, end, branch, Term, Terms, Branches, count}
-use Rattle.calculus.specs.Words.{words, size, pack, tagOf, countOf}
+use Rattle.calculus.specs.Words.{words, size, tagOf, countOf}
 use Rattle.calculus.specs.Theorems.{Packable}
 use Rattle.calculus.proofs.WordLaws.{tagOf-pack, countOf-pack}
-use Rattle.tables.specs.Records.{Record, Table, OfKind}
+use Rattle.tables.specs.Records.{Record, Table}
 use Rattle.tables.specs.Meaning.{Means, variable, abstraction, application, constructor, case-of, no-term, a-term, no-branch, a-branch}
 use Rattle.tables.specs.PrefixOrder.{Fills, nothing, chained}
 use Rattle.tables.specs.Write.{linkTo, records}

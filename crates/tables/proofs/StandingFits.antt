@@ -1,13 +1,13 @@
 -- The records of an accepted expression, standing in a table, have values and children that fit.
 use Prim.Native.Nat.{ℕ, suc, _+_, _≤_, _<_}
 use mathlib.Core.Path.{_≡_, refl, ap}
-use mathlib.Core.Bool.{Bool, true, _&&_, and-eq-true-iff}
+use mathlib.Core.Bool.{true, and-eq-true-iff}
 use native.Mathlib.Decide.{decLt}
 use native.Mathlib.Omega.{arith}
 use lib.ListN.{length-append}
-use borrow.Author.Tests.{le-leb, eq-eqb}
-use Rattle.calculus.specs.Term.{Sort, term, terms, branches, Exp, var, lam, app, con, case, nil, cons, end, branch, Term, Terms, Branches, count}
-use Rattle.calculus.specs.Words.{words, size, branchKind, countBase, tagOf, countOf}
+use borrow.Author.Tests.{le-leb}
+use Rattle.calculus.specs.Term.{Sort, term, terms, Exp, var, lam, app, con, case, nil, cons, end, branch, Term, Branches, count}
+use Rattle.calculus.specs.Words.{words, size, branchKind, countBase}
 use Rattle.calculus.specs.Accepted.{IsTag, tagLimit, argumentLimit, Accepted}
 use Rattle.calculus.specs.Theorems.{indexLimit, IndicesWithin}
 use Rattle.calculus.proofs.WordLaws.{tagOf-pack, countOf-pack, accepted-packable}

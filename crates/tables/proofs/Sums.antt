@@ -1,7 +1,7 @@
 -- Tests of every index from 1 to n, and sums over them.
 use Prim.Native.Nat.{ℕ, zero, suc, _+_, _*_, _≤_}
 use mathlib.Core.Path.{_≡_, refl, ap, ap₂, sym, _∙_}
-use mathlib.Core.Bool.{Bool, true, false, and-eq-true-iff}
+use mathlib.Core.Bool.{Bool, true, and-eq-true-iff}
 use mathlib.Core.Logic.{inl, inr}
 use native.Mathlib.Nat.{zero-mul, one-mul, add-mul, eq-or-lt-of-le}
 use native.Mathlib.Omega.{arith}

@@ -1,10 +1,10 @@
 -- Records and their words: which records a list of words holds, and that these words are no others.
-use Prim.Native.Nat.{ℕ, zero, suc, _+_, _*_}
+use Prim.Native.Nat.{ℕ, suc, _+_, _*_}
 use mathlib.Core.Path.{_≡_, refl, sym, ap, ap₂, _∙_}
 use mathlib.Core.List.{List, [], _∷_}
 use native.Mathlib.Omega.{arith}
 use lib.ListN.{length, getD}
-use Rattle.tables.specs.Records.{Record, Table, recordWords, recordAt, view1, recordsWords}
+use Rattle.tables.specs.Records.{Record, Table, recordWords, recordAt, recordsWords}
 use Rattle.tables.specs.Write.{entry}
 use Rattle.tables.proofs.Standing.{Stand}
 

@@ -1,10 +1,9 @@
 -- The table of an accepted term is in prefix order, means the term and meets no refusal.
-use Prim.Native.Nat.{ℕ, suc, _+_, _*_, _≤_, _<_}
-use mathlib.Core.Path.{_≡_, refl, sym, ap, _∙_}
-use mathlib.Core.Bool.{Bool, true, false, not, _&&_, and-eq-true-iff}
-use mathlib.Core.List.{List, [], _∷_}
+use Prim.Native.Nat.{ℕ, suc, _+_, _*_, _≤_}
+use mathlib.Core.Path.{_≡_, refl, ap}
+use mathlib.Core.Bool.{true, false, and-eq-true-iff}
+use mathlib.Core.List.{_∷_}
 use native.Mathlib.Omega.{arith}
-use lib.Dec.{leb, ltb, eqb}
 use lib.ListN.{length}
 use borrow.Author.Tests.{le-leb, le-ltb, eq-eqb}
 use Rattle.calculus.specs.Term.{Sort, term, Exp, var, lam, app, con, case, nil, cons, end, branch, Term}
@@ -13,10 +12,10 @@ use Rattle.calculus.specs.Accepted.{Accepted, freeLimit}
 use Rattle.calculus.proofs.WordLaws.{size-positive, accepted-packable}
 use Rattle.calculus.proofs.Indices.{indices-bounded}
 use Rattle.tables.specs.Records.{form, recordWords, recordAt, view1}
-use Rattle.tables.specs.Meaning.{Means, isRecord}
+use Rattle.tables.specs.Meaning.{Means}
 use Rattle.tables.specs.Refusals.{wrongWorkspace, wrongLength, wrongHeader, wrongLink, freeFits, wrongFree}
 use Rattle.tables.specs.Load.{checks}
-use Rattle.tables.specs.PrefixOrder.{Fills, nothing, InPrefixOrder}
+use Rattle.tables.specs.PrefixOrder.{nothing, InPrefixOrder}
 use Rattle.tables.specs.Write.{entry, records, tableOf}
 use Rattle.tables.specs.Theorems.{NoneMet}
 use Rattle.tables.proofs.Tests.{record-isRecord}
