@@ -1,7 +1,7 @@
 -- Loading refuses exactly what it must, and otherwise leaves the term that the table means.
 use Prim.Native.Nat.{ℕ, _-_}
 use mathlib.Core.Path.{_≡_, refl, sym, ap, _∙_}
-use mathlib.Core.Bool.{Bool, true, false, cond, _&&_, and-eq-true-iff}
+use mathlib.Core.Bool.{Bool, true, false, _&&_, and-eq-true-iff}
 use mathlib.Core.List.{List, [], _∷_, _++_}
 use mathlib.Core.Logic.{_⊎_, inl, inr}
 use mathlib.Core.Option.{some, none}
@@ -21,15 +21,14 @@ use Rattle.tables.proofs.MeaningLaws.{meaning-complete}
 use Rattle.tables.proofs.SoundMeans.{sound-means}
 
 -- A list of refusals has one that is met first, or none is met.
-settled : (cs : List (ℕ × Bool)) → ((k : ℕ) × FirstMet k cs × (firstMet cs ≡ some k)) ⊎ (NoneMet cs × (firstMet cs ≡ none))
-settled [] = inr (tt, refl)
+settled : (cs : List (ℕ × Bool)) → ((k : ℕ) × FirstMet k cs) ⊎ NoneMet cs
+settled [] = inr tt
 settled (c ∷ cs) = go (c .1) refl (settled cs)
   where
-    go : (b : Bool) → c .1 ≡ b → ((k : ℕ) × FirstMet k cs × (firstMet cs ≡ some k)) ⊎ (NoneMet cs × (firstMet cs ≡ none))
-        → ((k : ℕ) × FirstMet k (c ∷ cs) × (cond (c .1) (some (c .0)) (firstMet cs) ≡ some k)) ⊎ (NoneMet (c ∷ cs) × (cond (c .1) (some (c .0)) (firstMet cs) ≡ none))
-    go true e s = inl (c .0, inl (e, refl), rw e)
-    go false e (inl s) = inl (s .0, inr (e, s .1), rw e (s .2))
-    go false e (inr s) = inr ((e, s .0), rw e (s .1))
+    go : (b : Bool) → c .1 ≡ b → ((k : ℕ) × FirstMet k cs) ⊎ NoneMet cs → ((k : ℕ) × FirstMet k (c ∷ cs)) ⊎ NoneMet (c ∷ cs)
+    go true e s = inl (c .0, inl (e, refl))
+    go false e (inl s) = inl (s .0, inr (e, s .1))
+    go false e (inr s) = inr (e, s)
 
 first-met : (k : ℕ) (cs : List (ℕ × Bool)) → FirstMet k cs → firstMet cs ≡ some k
 first-met k (c ∷ cs) (inl h) = rw (h .0) (ap some (h .1))
@@ -42,9 +41,10 @@ none-met (c ∷ cs) h = rw (h .0) (none-met cs (h .1))
 pub unrefused-sound : (table : List ℕ) (C : ℕ) → NoneMet (checks table C) → Sound (view1 table)
 unfolding wrongHeader
 unrefused-sound table C h =
+    let header = eqb (recordAt table 0 .kind) form && eqb (recordAt table 0 .next) 0 in
     let records = h .1 .1 .1 .1 in
     record {
-      root-inside = and-eq-true-iff (eqb (recordAt table 0 .kind) form && eqb (recordAt table 0 .next) 0) (isRecord (view1 table) (view1 table .root)) .0 (not-false _ (h .1 .1 .0)) .1;
+      root-inside = and-eq-true-iff header (isRecord (view1 table) (view1 table .root)) .0 (not-false _ (h .1 .1 .0)) .1;
       values = records .0;
       links = records .1 .0;
       children-fit = records .1 .1 .0;
@@ -55,9 +55,9 @@ never : _≡_ {A = ℕ} 0 1 → ⊥
 never e = omega arith
 
 module _ (table workspace : List ℕ) where
-  load-refused : (k : ℕ) → firstMet (checks table (length workspace)) ≡ some k → load table workspace ≡ refuseLoad workspace k
+  pub load-refused : (k : ℕ) → FirstMet k (checks table (length workspace)) → load table workspace ≡ refuseLoad workspace k
   unfolding load
-  load-refused k h = ap (λ o. loadUnless o table workspace) h
+  load-refused k h = ap (λ o. loadUnless o table workspace) (first-met k (checks table (length workspace)) h)
 
   pub load-returned : NoneMet (checks table (length workspace)) → (t : Term) → Means (view1 table) term (view1 table .root) t
       → load table workspace ≡ record { answer = returned (size t); workspace = padded (length workspace) (words t) }
@@ -66,16 +66,16 @@ module _ (table workspace : List ℕ) where
       ap (λ o. loadUnless o table workspace) (none-met (checks table (length workspace)) h)
       ∙ ap (place workspace) (meaning-complete (view1 table) t (unrefused-sound table (length workspace) h .links) m)
 
-  exact-refused : (k : ℕ) → FirstMet k (checks table (length workspace)) → firstMet (checks table (length workspace)) ≡ some k
-      → LoadsExactly table workspace
-  exact-refused k met first =
-      let answered : load table workspace .answer ≡ refused k = ap (λ r. r .answer) (load-refused k first) in
+  exact-refused : (k : ℕ) → FirstMet k (checks table (length workspace)) → LoadsExactly table workspace
+  exact-refused k met =
+      let first = first-met k (checks table (length workspace)) met in
+      let answered : load table workspace .answer ≡ refused k = ap (λ r. r .answer) (load-refused k met) in
       record {
         refuses = λ j. (
           λ e. let same : k ≡ j = cc in rw same at met,
           λ f. let other = first-met j (checks table (length workspace)) f in let same : k ≡ j = cc in answered ∙ ap refused same,
         );
-        unchanged = λ j e. ap (λ r. r .workspace) (load-refused k first);
+        unchanged = λ j e. ap (λ r. r .workspace) (load-refused k met);
         returns = λ l. (
           λ e. absurd (never (cc)),
           λ h. let other = none-met (checks table (length workspace)) (h .0) in absurd (never (cc)),
@@ -83,9 +83,9 @@ module _ (table workspace : List ℕ) where
         holds = λ l e. absurd (never (cc));
       }
 
-  exact-returned : NoneMet (checks table (length workspace)) → firstMet (checks table (length workspace)) ≡ none → Meant (view1 table)
-      → LoadsExactly table workspace
-  exact-returned unmet first t =
+  exact-returned : NoneMet (checks table (length workspace)) → Meant (view1 table) → LoadsExactly table workspace
+  exact-returned unmet t =
+      let none-first = none-met (checks table (length workspace)) unmet in
       let loaded = load-returned unmet (t .meant) (t .means) in
       let answered : load table workspace .answer ≡ returned (size (t .meant)) = ap (λ r. r .answer) loaded in
       record {
@@ -94,15 +94,22 @@ module _ (table workspace : List ℕ) where
           λ f. let other = first-met k (checks table (length workspace)) f in absurd (never (cc)),
         );
         unchanged = λ k e. absurd (never (cc));
-        returns = λ l.
-            (λ e. let same : size (t .meant) ≡ l = cc in (unmet, sym (t .length-is) ∙ same), λ h. answered ∙ ap returned (t .length-is ∙ h .1));
-        holds = λ l e. let same : size (t .meant) ≡ l = cc in
-            (t .meant, t .means, t .accepted, same, ap (λ r. r .workspace) loaded ∙ ap (λ n. words (t .meant) ++ replicate (length workspace - n) 0) same);
+        returns = λ l. (
+          λ e. let same : size (t .meant) ≡ l = cc in (unmet, sym (t .length-is) ∙ same),
+          λ h. answered ∙ ap returned (t .length-is ∙ h .1),
+        );
+        holds = λ l e. let same : size (t .meant) ≡ l = cc in (
+          t .meant,
+          t .means,
+          t .accepted,
+          same,
+          ap (λ r. r .workspace) loaded ∙ ap (λ n. words (t .meant) ++ replicate (length workspace - n) 0) same,
+        );
       }
 
 pub loading-exact : Loading-exact
 loading-exact table workspace =
     elim (settled (checks table (length workspace))) [
-      | inl s ↦ exact-refused table workspace (s .0) (s .1) (s .2)
-      | inr s ↦ exact-returned table workspace (s .0) (s .1) (sound-means (view1 table) (unrefused-sound table (length workspace) (s .0)))
+      | inl s ↦ exact-refused table workspace (s .0) (s .1)
+      | inr s ↦ exact-returned table workspace s (sound-means (view1 table) (unrefused-sound table (length workspace) s))
     ]

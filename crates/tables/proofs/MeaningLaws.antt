@@ -11,7 +11,8 @@ use Rattle.calculus.specs.Term.{Sort, term, terms, branches, Exp, lam, case, ni
 use Rattle.calculus.specs.Words.{variableKind, abstractionKind, applicationKind, constructorKind, caseKind, branchKind}
 use Rattle.calculus.proofs.All.{All, holds, nothing, all-map, all-bind, all-eqb, all-some}
 use Rattle.tables.specs.Records.{Table, OfKind}
-use Rattle.tables.specs.Meaning.{Means, variable, abstraction, application, constructor, case-of, no-term, a-term, no-branch, a-branch, variableOf, onlyOne, applicationOf, termOf, isRecord, Reading, meantTerm, meantTerms, meantBranch, meantBranches, meant, meaning}
+use Rattle.tables.specs.Meaning.{Means, variable, abstraction, application, constructor, case-of, no-term, a-term, no-branch, a-branch}
+use Rattle.tables.specs.Meaning.{variableOf, onlyOne, applicationOf, termOf, isRecord, Reading, meantTerm, meantTerms, meantBranch, meantBranches, meant, meaning}
 use Rattle.tables.proofs.Tests.{if-true, if-false, all-if, isRecord-true, record-isRecord}
 use Rattle.tables.proofs.Links.{Ahead, ahead-later, Linked, linked}
 use Rattle.tables.specs.Theorems.{Means-unique, Meaning-sound, Meaning-complete}
@@ -170,23 +171,32 @@ descend : (T : Table) (i l k : ℕ) → i ≤ T .n → Ahead T i l → Shallow (
 descend T i l k u (inl e) h = omega (arith, h .0 e)
 descend T i l k u (inr a) h = omega arith
 
-depth-bound : {T : Table} {s : Sort} {i : ℕ} {e : Exp s} → Linked T → (m : Means T s i e) → Shallow (T .n) s i (depth m)
-unfolding depth
-depth-bound {T} {i = i} L (variable k m) = omega (arith, descend T i _ _ (k .1) (L .first-ahead i (k .0) (k .1)) (depth-bound L m))
-depth-bound {T} {i = i} L (abstraction k m) = omega (arith, descend T i _ _ (k .1) (L .first-ahead i (k .0) (k .1)) (depth-bound L m))
-depth-bound {T} {i = i} L (application k m) = omega (arith, descend T i _ _ (k .1) (L .first-ahead i (k .0) (k .1)) (depth-bound L m))
-depth-bound {T} {i = i} L (constructor k m) = omega (arith, descend T i _ _ (k .1) (L .first-ahead i (k .0) (k .1)) (depth-bound L m))
-depth-bound {T} {i = i} L (case-of k m ms) =
-    let r = term-inside m in
-    let later = ahead-later T i _ (L .first-ahead i (k .0) (k .1)) (r .0) in
-    omega (arith, depth-bound L m, descend T _ _ _ (r .1) (L .next-ahead _ (r .0) (r .1)) (depth-bound L ms))
-depth-bound L no-term = (λ z. omega arith, omega arith)
-depth-bound {T} {i = i} L (a-term m ms) =
-    let r = term-inside m in
-    (λ z. absurd (omega arith), omega (arith, depth-bound L m, descend T i _ _ (r .1) (L .next-ahead i (r .0) (r .1)) (depth-bound L ms)))
-depth-bound L no-branch = (λ z. omega arith, omega arith)
-depth-bound {T} {i = i} L (a-branch k m ms) =
-    (λ z. absurd (omega arith), omega (arith, descend T i _ _ (k .1) (L .first-ahead i (k .0) (k .1)) (depth-bound L m), descend T i _ _ (k .1) (L .next-ahead i (k .0) (k .1)) (depth-bound L ms)))
+module _ {T : Table} (L : Linked T) where
+  to-first : (i k : ℕ) → 1 ≤ i → i ≤ T .n → Shallow (T .n) terms (T .at i .first) k → k + 2 * i ≤ 2 * T .n + 1
+  to-first i k l u = descend T i _ k u (L .first-ahead i l u)
+
+  to-next : (i k : ℕ) → 1 ≤ i → i ≤ T .n → Shallow (T .n) terms (T .at i .next) k → k + 2 * i ≤ 2 * T .n + 1
+  to-next i k l u = descend T i _ k u (L .next-ahead i l u)
+
+  depth-bound : {s : Sort} {i : ℕ} {e : Exp s} (m : Means T s i e) → Shallow (T .n) s i (depth m)
+  unfolding depth
+  depth-bound {i = i} (variable k m) = omega (arith, to-first i _ (k .0) (k .1) (depth-bound m))
+  depth-bound {i = i} (abstraction k m) = omega (arith, to-first i _ (k .0) (k .1) (depth-bound m))
+  depth-bound {i = i} (application k m) = omega (arith, to-first i _ (k .0) (k .1) (depth-bound m))
+  depth-bound {i = i} (constructor k m) = omega (arith, to-first i _ (k .0) (k .1) (depth-bound m))
+  depth-bound {i = i} (case-of k m ms) =
+      let r = term-inside m in
+      let later = ahead-later T i _ (L .first-ahead i (k .0) (k .1)) (r .0) in
+      omega (arith, depth-bound m, to-next (T .at i .first) _ (r .0) (r .1) (depth-bound ms))
+  depth-bound no-term = (λ z. omega arith, omega arith)
+  depth-bound {i = i} (a-term m ms) =
+      let r = term-inside m in
+      (λ z. absurd (omega arith), omega (arith, depth-bound m, to-next i _ (r .0) (r .1) (depth-bound ms)))
+  depth-bound no-branch = (λ z. omega arith, omega arith)
+  depth-bound {i = i} (a-branch k m ms) = (
+    λ z. absurd (omega arith),
+    omega (arith, to-first i _ (k .0) (k .1) (depth-bound m), to-next i _ (k .0) (k .1) (depth-bound ms)),
+  )
 
 pub meaning-complete : Meaning-complete
 unfolding meaning

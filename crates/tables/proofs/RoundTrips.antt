@@ -1,7 +1,7 @@
 -- Loading what was written gives the term again, and writing what was loaded gives the table again exactly when its records are in prefix order.
 use Prim.Native.Nat.{ℕ, suc, _+_, _-_, _*_, _≤_}
 use mathlib.Core.Path.{_≡_, refl, sym, ap, subst, _∙_}
-use mathlib.Core.Bool.{false, _&&_}
+use mathlib.Core.Bool.{and-eq-true-iff, false, _&&_}
 use mathlib.Core.List.{List, _∷_, _++_}
 use mathlib.Core.Option.{some}
 use native.Mathlib.Omega.{arith}
@@ -21,7 +21,7 @@ use Rattle.tables.specs.Load.{returned, load}
 use Rattle.tables.specs.Write.{entry, records, tableOf, write}
 use Rattle.tables.specs.Theorems.{Sound, Load-after-write, Write-after-load}
 use Rattle.tables.specs.PrefixOrder.{InPrefixOrder}
-use Rattle.tables.proofs.Tests.{both-true, both-false}
+use Rattle.tables.proofs.Tests.{both-false}
 use Rattle.tables.proofs.Fits.{valued, fitted}
 use Rattle.tables.proofs.Standing.{records-length}
 use Rattle.tables.proofs.TableWords.{entry-path, stand-words}
@@ -55,13 +55,14 @@ table-length : (ws : List ℕ) → wrongLength ws ≡ false → length ws ≡ re
 unfolding wrongLength
 table-length ws h =
     let passed = not-false _ (both-false (ltb (length ws) recordWords) _ h .1) in
-    eqb-true _ _ (both-true (leb 1 (view1 ws .n) && leb (view1 ws .n) workspaceMost) (eqb (length ws) (recordWords * (view1 ws .n + 1))) passed .1)
+    eqb-true _ _
+    (and-eq-true-iff (leb 1 (view1 ws .n) && leb (view1 ws .n) workspaceMost) (eqb (length ws) (recordWords * (view1 ws .n + 1))) .0 passed .1)
 
 header-words : (ws : List ℕ) → wrongHeader ws ≡ false → (recordAt ws 0 .kind ≡ form) × (recordAt ws 0 .next ≡ 0)
 unfolding wrongHeader
 header-words ws h =
-    let passed = both-true (eqb (recordAt ws 0 .kind) form && eqb (recordAt ws 0 .next) 0) _ (not-false _ h) .0 in
-    let both = both-true (eqb (recordAt ws 0 .kind) form) (eqb (recordAt ws 0 .next) 0) passed in
+    let passed = and-eq-true-iff (eqb (recordAt ws 0 .kind) form && eqb (recordAt ws 0 .next) 0) _ .0 (not-false _ h) .0 in
+    let both = and-eq-true-iff (eqb (recordAt ws 0 .kind) form) (eqb (recordAt ws 0 .next) 0) .0 passed in
     (eqb-true _ form (both .0), eqb-true _ 0 (both .1))
 
 -- Records in prefix order that mean t are those of the table of t.
