@@ -16,4 +16,5 @@ pub mod StandingFits
 pub mod TableWords
 pub mod PrefixStanding
 pub mod WrittenTable
+pub mod WriteLaws
 pub mod RoundTrips

@@ -14,15 +14,14 @@ use Rattle.calculus.proofs.Indices.{indices-bounded}
 use Rattle.tables.specs.Records.{form, recordWords, recordAt, view1}
 use Rattle.tables.specs.Meaning.{Means}
 use Rattle.tables.specs.Refusals.{wrongWorkspace, wrongLength, wrongHeader, wrongLink, freeFits, wrongFree}
-use Rattle.tables.specs.Load.{checks}
 use Rattle.tables.specs.PrefixOrder.{nothing, InPrefixOrder}
 use Rattle.tables.specs.Write.{entry, records, tableOf}
-use Rattle.tables.specs.Theorems.{NoneMet}
 use Rattle.tables.proofs.Tests.{record-isRecord}
 use Rattle.tables.proofs.Links.{linked-passes}
 use Rattle.tables.proofs.MeaningLaws.{meaning-complete}
 use Rattle.tables.proofs.Children.{term-not-branch}
 use Rattle.tables.proofs.Fits.{Valued, valued-passes, Fitted, fitted-passes}
+use Rattle.tables.proofs.LoadLaws.{Passes}
 use Rattle.tables.proofs.PrefixLinks.{prefix-linked}
 use Rattle.tables.proofs.Standing.{Stand, records-length, stand-next, stand-means, stand-fills}
 use Rattle.tables.proofs.StandingFits.{Fits, stand-fits}
@@ -93,17 +92,15 @@ module _ (t : Term) where
     written-free : wrongFree (view1 (tableOf t)) ≡ false
     written-free = rw (meaning-complete (view1 (tableOf t)) t written-links written-means, accepted-free t 0 accepted)
 
-    pub written-unrefused : (C : ℕ) → wrongWorkspace C ≡ false → size t ≤ C → NoneMet (checks (tableOf t) C)
-    written-unrefused C h u = (
-      h,
-      (
-        written-length,
-        (
-          written-header,
-          (
-            le-ltb C (size t) u,
-            (valued-passes _ written-valued, (written-links, (fitted-passes _ written-fitted, (written-free, tt)))),
-          ),
-        ),
-      ),
-    )
+    pub written-passes : (C : ℕ) → wrongWorkspace C ≡ false → size t ≤ C → Passes (tableOf t) C
+    written-passes C h u =
+        record {
+          workspace-fits = h;
+          length-fits = written-length;
+          header-fits = written-header;
+          short-enough = le-ltb C (size t) u;
+          values-fit = valued-passes (view1 (tableOf t)) written-valued;
+          links-fit = written-links;
+          children-fit = fitted-passes (view1 (tableOf t)) written-fitted;
+          free-numbers-fit = written-free;
+        }
