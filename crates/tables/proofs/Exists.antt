@@ -43,6 +43,10 @@ module _ (T : Table) (L : Linked T) (F : Fitted T) where
   abbrev LaterMean : ℕ → Type 0
   LaterMean i = (j : ℕ) → i < j → j ≤ T .n → isBranch (T .at j) ≡ false → (t : Term) × Means T term j t
 
+  -- The next sibling of a later record is later too.
+  next-after : (i l : ℕ) → (i < l) × (l ≤ T .n) → Ahead T i (T .at l .next)
+  next-after i l a = ahead-from T i l _ (omega arith) (L .next-ahead l (omega arith) (a .1))
+
   chain-terms : (i : ℕ) → LaterMean i → (b l : ℕ) → Enough T l b → Ahead T i l → allTerms (chain T b l) ≡ true
       → (xs : Terms) × Means T terms l xs
   chain-terms i later zero l h a f = (nil, rw (nothing-left T l h) no-term)
@@ -51,7 +55,7 @@ module _ (T : Table) (L : Linked T) (F : Fitted T) where
       let r : 1 ≤ l = omega arith in
       let both = and-eq-true-iff (not (isBranch (T .at l))) (allTerms (chain T b (T .at l .next))) .0 (rw chain-record at f) in
       let t = later l (a .0) (a .1) (not-true _ (both .0)) in
-      let xs = chain-terms i later b (T .at l .next) (next-enough T L l b r h) (ahead-from T i l _ (omega arith) (L .next-ahead l r (a .1))) (both .1) in
+      let xs = chain-terms i later b (T .at l .next) (next-enough T L l b r h) (next-after i l a) (both .1) in
       (cons (t .0) (xs .0), a-term (t .1) (xs .1))
 
   -- The children of a record, if all are terms.
@@ -82,7 +86,7 @@ module _ (T : Table) (L : Linked T) (F : Fitted T) where
       let both = and-eq-true-iff (isBranch (T .at l)) (allBranches (chain T b (T .at l .next))) .0 (rw chain-record at f) in
       let k : T .at l .kind ≡ branchKind = eqb-true _ branchKind (both .0) in
       let body = only-child l (later-after i l (omega arith) later) r (a .1) (rw k at (F .children-fit l r (a .1))) in
-      let bs = chain-branches i later b (T .at l .next) (next-enough T L l b r h) (ahead-from T i l _ (omega arith) (L .next-ahead l r (a .1))) (both .1) in
+      let bs = chain-branches i later b (T .at l .next) (next-enough T L l b r h) (next-after i l a) (both .1) in
       (branch _ _ (body .0) (bs .0), a-branch (r, a .1, k) (body .1) (bs .1))
 
   subject-and-branches : (i : ℕ) → LaterMean i → (b l : ℕ) → Enough T l b → Ahead T i l → caseFits (chain T b l) ≡ true
@@ -92,10 +96,12 @@ module _ (T : Table) (L : Linked T) (F : Fitted T) where
   subject-and-branches i later (suc b) l h (inr a) f =
       let r : 1 ≤ l = omega arith in
       let rs = chain T b (T .at l .next) in
-      let tested = and-eq-true-iff (not (isBranch (T .at l)) && allBranches rs && leb (length rs) branchLimit) (rising rs) .0 (rw chain-record at f) .0 in
-      let both = and-eq-true-iff _ _ .0 (and-eq-true-iff (not (isBranch (T .at l)) && allBranches rs) (leb (length rs) branchLimit) .0 tested .0) in
+      let kinds = not (isBranch (T .at l)) && allBranches rs in
+      let counted = kinds && leb (length rs) branchLimit in
+      let tested = and-eq-true-iff counted (rising rs) .0 (rw chain-record at f) .0 in
+      let both = and-eq-true-iff _ _ .0 (and-eq-true-iff kinds (leb (length rs) branchLimit) .0 tested .0) in
       let e = later l (a .0) (a .1) (not-true _ (both .0)) in
-      let bs = chain-branches i later b (T .at l .next) (next-enough T L l b r h) (ahead-from T i l _ (omega arith) (L .next-ahead l r (a .1))) (both .1) in
+      let bs = chain-branches i later b (T .at l .next) (next-enough T L l b r h) (next-after i l a) (both .1) in
       (e .0, bs .0, e .1, bs .1)
 
   -- A record of each kind, by what its children must be.
@@ -124,4 +130,6 @@ module _ (T : Table) (L : Linked T) (F : Fitted T) where
   pub record-means : Valued T → (k i : ℕ) → 1 ≤ i → i ≤ T .n → T .n < i + k → isBranch (T .at i) ≡ false → (t : Term) × Means T term i t
   record-means kinds zero i l u h f = absurd (omega arith)
   record-means kinds (suc k) i l u h f =
-      term-of-kind i (λ j v w. record-means kinds k j (omega arith) w (omega arith)) l u (T .at i .kind) refl (omega (arith, kinds .known-kind i l u, eqb-false (T .at i .kind) branchKind f)) (F .children-fit i l u)
+      let no-branch = eqb-false (T .at i .kind) branchKind f in
+      let kind-fits : T .at i .kind < branchKind = omega (arith, kinds .known-kind i l u, no-branch) in
+      term-of-kind i (λ j v w. record-means kinds k j (omega arith) w (omega arith)) l u (T .at i .kind) refl kind-fits (F .children-fit i l u)

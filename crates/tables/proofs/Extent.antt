@@ -92,7 +92,10 @@ module _ (T : Table) (L : Linked T) where
   over-namings : 1 ≤ T .root → T .root ≤ T .n → sumOf (T .n) (λ i. namings T i * extent T i) ≡ extent T (T .root) + sumOf (T .n) below
   unfolding namings
   over-namings l u =
-      sum-eq (T .n) _ _ (λ i v w. add-mul (naming (T .root) i) _ (extent T i) ∙ ap (λ x. naming (T .root) i * extent T i + x) (sum-times (T .n) _ (extent T i)))
+      sum-eq (T .n) _ _
+      (λ i v w.
+      add-mul (naming (T .root) i) _ (extent T i)
+      ∙ ap (λ x. naming (T .root) i * extent T i + x) (sum-times (T .n) _ (extent T i)))
       ∙ sum-add (T .n) _ _
       ∙ ap₂ _+_ (over-named (T .root) (inr (l, u))) (sum-swap (T .n) (T .n) _ ∙ sum-eq (T .n) _ _ over-links)
 
@@ -117,7 +120,9 @@ module _ (T : Table) (L : Linked T) where
   means-sized {i = i} (variable k m) = omega (arith, extent-record i (k .0) (k .1), means-sized m)
   means-sized {i = i} (abstraction {b = b} k m) = omega (arith, extent-record i (k .0) (k .1), means-sized m, length-append (words b) [])
   means-sized {i = i} (application {f = f} {a = a} k m) =
-      omega (arith, extent-record i (k .0) (k .1), means-sized m, length-append (words f) (words a ++ []), length-append (words a) [], length-append (words f) (words a))
+      let listed = length-append (words f) (words a ++ []) in
+      let last = length-append (words a) [] in
+      omega (arith, extent-record i (k .0) (k .1), means-sized m, length-append (words f) (words a))
   means-sized {i = i} (constructor k m) = omega (arith, extent-record i (k .0) (k .1), means-sized m)
   means-sized {i = i} (case-of {e = e} {bs = bs} k m ms) =
       omega (arith, extent-record i (k .0) (k .1), means-sized m, means-sized ms, length-append (words e) (words bs))

@@ -1,7 +1,7 @@
 -- What refusals 3 and 5 test, as statements about every record.
 use Prim.Native.Nat.{ℕ, _≤_}
 use mathlib.Core.Path.{_≡_, ap}
-use mathlib.Core.Bool.{true, false, not, _&&_, and-eq-true-iff}
+use mathlib.Core.Bool.{Bool, true, false, not, _&&_, and-eq-true-iff}
 use lib.Dec.{leb, eqb}
 use borrow.Author.Tests.{leb-true, le-leb, eqb-true, eq-eqb, not-true, not-false}
 use Rattle.calculus.specs.Words.{branchKind}
@@ -43,10 +43,13 @@ fitted T h =
       root-last = eqb-true _ 0 (outer .1);
     }
   where
-    outer : ((everyOf (T .n) (λ i. childrenFit (T .at i .kind) (children T i)) && not (isBranch (T .at (T .root)))) ≡ true) × (eqb (T .at (T .root) .next) 0 ≡ true)
+    each : Bool
+    each = everyOf (T .n) (λ i. childrenFit (T .at i .kind) (children T i))
+
+    outer : ((each && not (isBranch (T .at (T .root)))) ≡ true) × (eqb (T .at (T .root) .next) 0 ≡ true)
     outer = and-eq-true-iff _ _ .0 (not-false _ h)
 
-    inner : (everyOf (T .n) (λ i. childrenFit (T .at i .kind) (children T i)) ≡ true) × (not (isBranch (T .at (T .root))) ≡ true)
+    inner : (each ≡ true) × (not (isBranch (T .at (T .root))) ≡ true)
     inner = and-eq-true-iff _ _ .0 (outer .0)
 
 pub fitted-passes : (T : Table) → Fitted T → wrongChildren T ≡ false

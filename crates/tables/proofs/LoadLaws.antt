@@ -107,6 +107,9 @@ passes-sound table C p =
       free-numbers = p .free-numbers-fit;
     }
 
+pub unmet-means : (table : List ℕ) (C : ℕ) → NoneMet (checks table C) → Meant (view1 table)
+unmet-means table C h = sound-means (view1 table) (passes-sound table C (passes table C h))
+
 never : _≡_ {A = ℕ} 0 1 → ⊥
 never e = omega arith
 
@@ -167,5 +170,5 @@ pub loading-exact : Loading-exact
 loading-exact table workspace =
     elim (settled (checks table (length workspace))) [
       | inl s ↦ exact-refused table workspace (s .0) (s .1)
-      | inr s ↦ exact-returned table workspace s (sound-means (view1 table) (passes-sound table (length workspace) (passes table (length workspace) s)))
+      | inr s ↦ exact-returned table workspace s (unmet-means table (length workspace) s)
     ]

@@ -12,7 +12,8 @@ use Rattle.calculus.specs.Words.{variableKind, abstractionKind, applicationKind
 use Rattle.calculus.proofs.All.{All, holds, nothing, all-map, all-bind, all-eqb, all-some}
 use Rattle.tables.specs.Records.{Table, OfKind}
 use Rattle.tables.specs.Meaning.{Means, variable, abstraction, application, constructor, case-of, no-term, a-term, no-branch, a-branch}
-use Rattle.tables.specs.Meaning.{variableOf, onlyOne, applicationOf, termOf, isRecord, Reading, meantTerm, meantTerms, meantBranch, meantBranches, meant, meaning}
+use Rattle.tables.specs.Meaning.{variableOf, onlyOne, applicationOf, termOf, isRecord, Reading}
+use Rattle.tables.specs.Meaning.{meantTerm, meantTerms, meantBranch, meantBranches, meant, meaning}
 use Rattle.tables.proofs.Tests.{if-true, if-false, all-if, isRecord-true, record-isRecord}
 use Rattle.tables.proofs.Links.{Ahead, ahead-later, Linked, linked}
 use Rattle.tables.specs.Theorems.{Means-unique, Meaning-sound, Meaning-complete}

@@ -66,13 +66,17 @@ passed-suc m a =
       ]
     ]
 
+-- How many links of record j name record a.
+abbrev naming-of : Table → (a j : ℕ) → ℕ
+naming-of T a j = naming (T .at j .first) a + naming (T .at j .next) a
+
 -- A link and the links of the records that it fills name each of these records once and no other.
 fills-named : {T : Table} {l i k : ℕ} → Fills T l i k → (a : ℕ) → 1 ≤ a → 1 ≤ i
-    → naming l a + before k (λ j. naming (T .at j .first) a + naming (T .at j .next) a) + passed i a
-    ≡ before i (λ j. naming (T .at j .first) a + naming (T .at j .next) a) + passed k a
+    → naming l a + before k (naming-of T a) + passed i a ≡ before i (naming-of T a) + passed k a
 fills-named nothing a h u = omega (arith, naming-other 0 a (λ e. omega arith))
-fills-named {T} (chained {i = i} f g) a h u =
-    omega (arith, fills-named f a h (omega arith), fills-named g a h (omega (arith, fills-le f)), before-suc i (λ j. naming (T .at j .first) a + naming (T .at j .next) a) u, passed-suc i a)
+fills-named {T} (chained {i = i} {j = j} f g) a h u =
+    let later : 1 ≤ j = omega (arith, fills-le f) in
+    omega (arith, fills-named f a h (omega arith), fills-named g a h later, before-suc i (naming-of T a) u, passed-suc i a)
 
 pub prefix-linked : (T : Table) → InPrefixOrder T → Linked T
 unfolding namings before

@@ -32,7 +32,8 @@ pub load-after-write : Load-after-write
 load-after-write t rest table target a h e h′ u =
     let written = write-returned t rest table a h e in
     let most : size t ≤ workspaceMost = omega (arith, workspace-most (length target) h′) in
-    let loaded = load-returned (tableOf t) target (passes-unmet (tableOf t) (length target) (written-passes t a most (length target) h′ u)) t (written-means t a most) in
+    let unmet = passes-unmet (tableOf t) (length target) (written-passes t a most (length target) h′ u) in
+    let loaded = load-returned (tableOf t) target unmet t (written-means t a most) in
     rw written (refl, ap (λ r. r .answer) loaded, ap (λ r. r .workspace) loaded)
 
 -- Records in prefix order that mean t are those of the table of t.

@@ -113,8 +113,9 @@ stand-means T (branch t n b bs) i x l u p h =
     let both = stand-both T b bs (suc i) 0 0 (h .1) in
     let body = stand-means T b (suc i) 0 (omega arith) (omega arith) (p .1) (both .0) in
     let ms = stand-means T bs (suc i + size b) 0 (omega arith) (omega arith) (p .2) (both .1) in
+    let child : Means T terms (T .at i .first) (cons b nil) = rw (h .0) (then body (stand-next T b _ 0 (both .0)) no-term) in
     let m : Means T branches i (branch (tagOf (T .at i .value)) (countOf (T .at i .value)) b bs) =
-    a-branch {b = b} {bs = bs} (l, omega arith, ap (λ r. r .kind) (h .0)) (rw (h .0) (then body (stand-next T b _ 0 (both .0)) no-term)) (rw (h .0) ms) in
+    a-branch {b = b} {bs = bs} (l, omega arith, ap (λ r. r .kind) (h .0)) child (rw (h .0) ms) in
     rw (link-branch i t n b bs) (rw (h .0, tagOf-pack t n (p .0), countOf-pack t n (p .0)) at m)
 
 -- A record, the chain of its children and what follows it.

@@ -68,7 +68,8 @@ module _ (T : Table) (L : Linked T) where
       let counted = terms-chain T L m (T .n) (children-enough T L i (k .0) (k .1)) in
       rw (k .2, counted .0, counted .1)
 
-  own-fits : (t : Term) (i x d : ℕ) → 1 ≤ i → i + size t ≤ suc (T .n) → Accepted d t → IndicesWithin indexLimit t → Stand T i (records i x t) → Fits T i
+  own-fits : (t : Term) (i x d : ℕ) → 1 ≤ i → i + size t ≤ suc (T .n) → Accepted d t → IndicesWithin indexLimit t
+      → Stand T i (records i x t) → Fits T i
   own-fits t i x d l u a w h =
       let valued = value-passes T t i x d a w h in
       record {

@@ -29,10 +29,9 @@ recordsWords-length (r ∷ rs) = omega (arith, recordsWords-length rs)
 pub words-stand : (rs : List Record) (T : Table) (i : ℕ) → ((j : ℕ) → T .at (i + j) ≡ recordAt (recordsWords rs) j) → Stand T i rs
 words-stand [] T i h = tt
 words-stand (r ∷ rs) T i h =
-    let here : i ≡ i + 0 = omega arith in (
-      ap (T .at) here ∙ h 0,
-      words-stand rs T (suc i) (λ j. let next : suc i + j ≡ i + suc j = omega arith in ap (T .at) next ∙ h (suc j) ∙ recordAt-suc _ _ _ _ (recordsWords rs) j),
-    )
+    let here : i ≡ i + 0 = omega arith in
+    let next : (j : ℕ) → suc i + j ≡ i + suc j = λ j. omega arith in
+    (ap (T .at) here ∙ h 0, words-stand rs T (suc i) (λ j. ap (T .at) (next j) ∙ h (suc j) ∙ recordAt-suc _ _ _ _ (recordsWords rs) j))
 
 -- Words that hold these records, and no more, are their words.
 pub stand-words : (rs : List Record) (ws : List ℕ) (i : ℕ) (T : Table) → length ws ≡ recordWords * length rs

@@ -23,7 +23,8 @@ pub record Loaded : Type 0 where
   pub answer : Answer
   pub workspace : List ℕ
 
--- The refusals in the order in which loading checks them, 7, 1, 2, 8, 3, 4, 5, 6, each with whether it is met, by the table and the length of the workspace.
+-- The refusals in the order in which loading checks them, 7, 1, 2, 8, 3, 4, 5, 6, each with whether it is met, by the table and the length C of
+-- the workspace.
 abbrev pub checks : (table : List ℕ) (C : ℕ) → List (ℕ × Bool)
 checks table C =
     (wrongWorkspaceNumber, wrongWorkspace C)
