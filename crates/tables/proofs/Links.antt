@@ -3,12 +3,13 @@ use Prim.Native.Nat.{ℕ, zero, suc, _+_, _≤_, _<_}
 use mathlib.Core.Path.{_≡_, refl, ap, _∙_}
 use mathlib.Core.Bool.{Bool, true, false, not, _&&_, _||_, and-eq-true-iff, or-true}
 use mathlib.Core.Logic.{_⊎_, inl, inr}
+use native.Mathlib.Decide.{ℕ-discrete}
 use native.Mathlib.Omega.{arith}
 use lib.Dec.{leb, ltb, eqb}
 use borrow.Author.Tests.{leb-true, le-leb, ltb-true, lt-ltb, eqb-true, eq-eqb, not-false}
 use Rattle.tables.specs.Records.{Table}
-use Rattle.tables.specs.Refusals.{linkFits, namings, wrongLink}
-use Rattle.tables.proofs.Sums.{every-at, every-of}
+use Rattle.tables.specs.Refusals.{sumOf, linkFits, naming, namings, wrongLink}
+use Rattle.tables.proofs.Sums.{every-at, every-of, sum-eq, sum-zeros, naming-other}
 
 -- A link of record i that is not 0 names a later record.
 abbrev pub Ahead : Table → (i link : ℕ) → Type 0
@@ -89,3 +90,19 @@ next-enough T L l k v (inr h) = enough-ahead T l (T .at l .next) k (h .2) (L .ne
 
 pub children-enough : (T : Table) → Linked T → (i : ℕ) → 1 ≤ i → i ≤ T .n → Enough T (T .at i .first) (T .n)
 children-enough T L i l u = first-enough T L i (T .n) l (inr (l, u, omega arith))
+
+-- No record can name record 1, so the root is it.
+pub root-first : (T : Table) → Linked T → 1 ≤ T .n → T .root ≡ 1
+unfolding namings
+root-first T L h =
+    elim (ℕ-discrete (T .root) 1) [
+      | yes e ↦ e
+      | no v ↦ absurd (omega (arith, L .named-once 1 (omega arith) h, naming-other (T .root) 1 v, others ∙ sum-zeros (T .n)))
+    ]
+  where
+    above : (i l : ℕ) → 1 ≤ i → Ahead T i l → naming l 1 ≡ 0
+    above i l v (inl e) = naming-other l 1 (λ z. omega arith)
+    above i l v (inr a) = naming-other l 1 (λ z. omega arith)
+
+    others : sumOf (T .n) (λ j. naming (T .at j .first) 1 + naming (T .at j .next) 1) ≡ sumOf (T .n) (λ j. 0)
+    others = sum-eq (T .n) _ _ (λ j v u. omega (arith, above j _ v (L .first-ahead j v u), above j _ v (L .next-ahead j v u)))
