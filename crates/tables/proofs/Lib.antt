@@ -1,4 +1,3 @@
-pub mod Examples
 pub mod Tests
 pub mod Sums
 pub mod Links
@@ -18,3 +17,4 @@ pub mod PrefixStanding
 pub mod WrittenTable
 pub mod WriteLaws
 pub mod RoundTrips
+pub mod Examples

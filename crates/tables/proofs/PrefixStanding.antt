@@ -30,11 +30,11 @@ fills-cases (chained {j = j} f g) = inr (refl, (j, f, g))
 empty-fills : {T : Table} {i k : ℕ} → 1 ≤ i → Fills T 0 i k → k ≡ i
 empty-fills {T} {i} {k} h f = elim (fills-cases f) [ inl e ↦ sym (e .1) | inr e ↦ absurd (omega arith) ]
 
-record-fills : {T : Table} {l i k : ℕ} → 1 ≤ l → Fills T l i k
+pub record-fills : {T : Table} {l i k : ℕ} → 1 ≤ l → Fills T l i k
     → (l ≡ i) × ((j : ℕ) × Fills T (T .at i .first) (suc i) j × Fills T (T .at i .next) j k)
 record-fills h f = elim (fills-cases f) [ inl e ↦ absurd (omega arith) | inr e ↦ e ]
 
-fills-first : {T : Table} {l i k : ℕ} → 1 ≤ l → Fills T l i k → l ≡ i
+pub fills-first : {T : Table} {l i k : ℕ} → 1 ≤ l → Fills T l i k → l ≡ i
 fills-first h f = record-fills h f .0
 
 fills-from : {T : Table} {l i j k : ℕ} → i ≡ j → Fills T l i k → Fills T l j k
