@@ -1,8 +1,13 @@
 // The word of a term: payload × 8 + kind ("Terms and words"). Its constants are the only places of the code where the kinds and the limits of the
 // word rules stand as numbers.
 ghost use mathlib.Core.Path.{_≡_};
-ghost use Prim.Native.Nat.{_≤_, _<_, _*_, _+_};
-ghost use Rattle.calculus.specs.Words.{word, pack, kindOf, payloadOf, tagOf, countOf};
+ghost use Prim.Native.Nat.{_≤_, _<_, _+_};
+ghost use lib.ListN.{length, drop};
+ghost use Rattle.calculus.specs.Words.{variableKind, abstractionKind, applicationKind, constructorKind, caseKind, branchKind, workspaceLeast, workspaceMost, kindBase, countBase};
+ghost use Rattle.calculus.specs.Words.{word, kindOf, payloadOf, tagOf, countOf};
+ghost use Rattle.calculus.specs.Accepted.{tagLimit, argumentLimit, branchLimit, freeLimit};
+ghost use Rattle.calculus.specs.Skip.{arity, span};
+ghost use Rattle.words.specs.Limits.{payloadBound};
 
 // A word by value. A workspace holds its number, so a word read there is `Word(w)`.
 pub struct Word(pub u32);
@@ -42,7 +47,7 @@ impl Word {
 
     // The word of a kind and a payload.
     pub fn new(kind: u32, payload: u32) -> Self
-        requires { ⌜ (kind < 8) × (payload < 536870912) ⌝ }
+        requires { ⌜ (kind < kindBase) × (payload < payloadBound) ⌝ }
         ensures { λ r. ⌜ r .0 ≡ word kind payload ⌝ }
     {
         Word(payload * Word::KIND_BASE + kind)
@@ -73,4 +78,53 @@ impl Word {
     {
         self.0 / Word::KIND_BASE % Word::COUNT_BASE
     }
+
+    // How many items follow the word.
+    pub fn arity(self) -> usize
+        ensures { λ r. ⌜ r ≡ arity (self .0) ⌝ }
+    {
+        match self.kind() {
+            Word::ABSTRACTION => 1,
+            Word::APPLICATION => 2,
+            Word::CONSTRUCTOR => self.count() as usize,
+            Word::CASE => self.payload() as usize + 1,
+            Word::BRANCH => 1,
+            _ => 0,
+        }
+    }
 }
+
+// The end of the item that starts at a position: where the walk over the words stops.
+pub fn extent(ws: &[u32], at: usize) -> usize
+    requires { ⌜ length (now ws) ≤ workspaceMost ⌝ }
+    ensures { λ r. ⌜ r ≡ at + span 1 (drop at (now (ws .entry))) ⌝ }
+{
+    let mut i = at;
+    let mut pending: usize = 1;
+    while i < ws.len() {
+        if pending == 0 {
+            return i;
+        }
+        pending = Word(ws[i]).arity() + (pending - 1);
+        i += 1;
+    }
+    i
+}
+
+// Does nothing. Its contract says that each constant is the number that the calculus gives its name.
+fn constants()
+    ensures { λ r. do ⌜ (← ⟦Word::VARIABLE⟧ .entry) ≡ variableKind ⌝ }
+    ensures { λ r. do ⌜ (← ⟦Word::ABSTRACTION⟧ .entry) ≡ abstractionKind ⌝ }
+    ensures { λ r. do ⌜ (← ⟦Word::APPLICATION⟧ .entry) ≡ applicationKind ⌝ }
+    ensures { λ r. do ⌜ (← ⟦Word::CONSTRUCTOR⟧ .entry) ≡ constructorKind ⌝ }
+    ensures { λ r. do ⌜ (← ⟦Word::CASE⟧ .entry) ≡ caseKind ⌝ }
+    ensures { λ r. do ⌜ (← ⟦Word::BRANCH⟧ .entry) ≡ branchKind ⌝ }
+    ensures { λ r. do ⌜ (← ⟦Word::KIND_BASE⟧ .entry) ≡ kindBase ⌝ }
+    ensures { λ r. do ⌜ (← ⟦Word::COUNT_BASE⟧ .entry) ≡ countBase ⌝ }
+    ensures { λ r. do ⌜ (← ⟦Word::WORKSPACE_LEAST⟧ .entry) ≡ workspaceLeast ⌝ }
+    ensures { λ r. do ⌜ (← ⟦Word::WORKSPACE_MOST⟧ .entry) ≡ workspaceMost ⌝ }
+    ensures { λ r. do ⌜ (← ⟦Word::TAG_MOST⟧ .entry) ≡ tagLimit ⌝ }
+    ensures { λ r. do ⌜ (← ⟦Word::ARGUMENTS_MOST⟧ .entry) ≡ argumentLimit ⌝ }
+    ensures { λ r. do ⌜ (← ⟦Word::BRANCHES_MOST⟧ .entry) ≡ branchLimit ⌝ }
+    ensures { λ r. do ⌜ (← ⟦Word::FREE_MOST⟧ .entry) ≡ freeLimit ⌝ }
+{}

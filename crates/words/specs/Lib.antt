@@ -1,0 +1,2 @@
+-- What the contracts of the words' code cite beside the calculus.
+pub mod Limits
