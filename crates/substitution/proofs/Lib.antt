@@ -1,0 +1,6 @@
+pub mod MoveLaws
+pub mod RewrittenLaws
+pub mod DepthLaws
+pub mod Traversal
+pub mod ResultLaws
+pub mod Writing
