@@ -4,3 +4,6 @@ pub mod DepthLaws
 pub mod Traversal
 pub mod ResultLaws
 pub mod Writing
+pub mod StartLaws
+pub mod ArgumentLaws
+pub mod Chosen

@@ -2,8 +2,10 @@
 use Prim.Native.Nat.{ℕ, _-_, _≤_, _<_}
 use mathlib.Core.Path.{_≡_, sym, _∙_, ap}
 use mathlib.Core.List.{[], _∷_}
+use native.Mathlib.Decide.{ℕ-discrete}
 use borrow.Author.Tests.{lt-ltb, le-ltb, ne-eqb}
 use lib.IntN.{ℤ}
+use lib.ListN.{length}
 use Rattle.calculus.specs.Term.{Term}
 use Rattle.calculus.specs.Words.{variableKind, kindOf, payloadOf, word, words}
 use Rattle.calculus.specs.Shift.{move}
@@ -28,6 +30,14 @@ shifting-free z d w h g = rw (rewritten-variable (shifting z) d w h, le-ltb (pay
 
 pub shifting-bound : (z : ℤ) (d w : ℕ) → kindOf w ≡ variableKind → payloadOf w < d → rewritten (shifting z) d w ≡ w ∷ []
 shifting-bound z d w h g = rw (rewritten-variable (shifting z) d w h, lt-ltb (payloadOf w) d g, variable-word w h)
+
+-- A shift keeps the number of words.
+pub shifting-length : (z : ℤ) (d w : ℕ) → length (rewritten (shifting z) d w) ≡ 1
+shifting-length z d w = go (ℕ-discrete (kindOf w) variableKind)
+  where
+    go : Dec (kindOf w ≡ variableKind) → length (rewritten (shifting z) d w) ≡ 1
+    go (yes v) = ap length (rewritten-variable (shifting z) d w v)
+    go (no v) = ap length (rewritten-other (shifting z) d w v)
 
 -- Which argument, if any, stands for a word.
 pub place-argument : (n d w : ℕ) → kindOf w ≡ variableKind → d ≤ payloadOf w → payloadOf w - d < n → place n d w ≡ n - 1 - (payloadOf w - d)

@@ -27,6 +27,9 @@ getD-written : {before after : List ℕ} {end : ℕ} (vs : List ℕ) (k : ℕ) �
 getD-written {before} vs k v h g =
     ap (λ l. getD l k 0) (v .slice ∙ sets-eq vs before 0 (omega arith)) ∙ List·getD-append vs _ 0 k g
 
+pub written-as : {before after vs us : List ℕ} {out end : ℕ} → vs ≡ us → Written before out vs after end → Written before out us after end
+written-as e v = rw e at v
+
 bounded-at : (b : ℕ) (ds : List ℕ) (k : ℕ) → Bounded b ds → getD ds k 0 ≤ b
 bounded-at b [] k p = omega arith
 bounded-at b (d ∷ ds) zero p = p .0
