@@ -1,10 +1,9 @@
 -- The term that a workspace holds: what `termAt` gives, its words at the start of the workspace, and what a contraction makes of it.
 use Prim.Native.Nat.{ℕ, _≤_}
-use mathlib.Core.Path.{_≡_, refl, sym, _∙_, ap}
+use mathlib.Core.Path.{_≡_, refl, _∙_, ap}
 use mathlib.Core.Bool.{Bool, true, false, cond}
 use mathlib.Core.List.{List, _++_}
-use mathlib.Core.Option.{some, none, Option·getD, Option·none-ne-some}
-use native.Mathlib.Omega.{arith}
+use mathlib.Core.Option.{some, none, Option·none-ne-some}
 use lib.Dec.{leb}
 use lib.ListN.{length, take, drop, take-append-drop}
 use lib.Seq.{length-take-le}

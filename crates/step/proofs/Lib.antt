@@ -1,2 +1,4 @@
 pub mod HeldLaws
 pub mod PartsTurns
+pub mod RedexLaws
+pub mod SearchLaws
