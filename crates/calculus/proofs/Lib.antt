@@ -16,3 +16,4 @@ pub mod AcceptedLaws
 pub mod Earliest
 pub mod PositionLaws
 pub mod Focus
+pub mod SizeLaws

@@ -32,6 +32,7 @@ next-term ws n at u h = rw h
 -- The words of the term that the first n words are, and what is known of it.
 pub record Start (ws : List ℕ) (n : ℕ) (t : Term) : Type 0 where
   pub within : n ≤ length ws
+  pub taken : words t ≡ take n ws
   pub start : words t ++ drop n ws ≡ ws
   pub long : size t ≡ n
   pub accepted : Accepted 0 t
@@ -47,6 +48,7 @@ termAt-start ws n t h = go (leb n (length ws)) refl h
         let w = read-sound (take n ws) q in
         record {
           within = l;
+          taken = w;
           start = ap (λ vs. vs ++ drop n ws) w ∙ take-append-drop n ws;
           long = ap length w ∙ length-take-le n ws l;
           accepted = read-accepted (take n ws) q;

@@ -102,13 +102,13 @@ module _ {ws : List ℕ} {n : ℕ} (holds : Holds ws n) {p : ℕ} (within : p < 
   redex-here : {b x m : ℕ} → parts p (drop p ws) ≡ redex.Parts b x m → (u : Term) × (contractAt p (held ws n) ≡ some u)
   redex-here e = agrees-some (rw e at found-here)
 
-  no-redex-here : parts p (drop p ws) ≡ redex.Nothing → contractAt p (held ws n) ≡ none
+  pub no-redex-here : parts p (drop p ws) ≡ redex.Nothing → contractAt p (held ws n) ≡ none
   no-redex-here e = agrees-none (rw e at found-here)
 
 -- The turns of the search.
 module _ {ws : List ℕ} {n i : ℕ} (searched : Searched ws n i) where
-  pub search-reads : i < n → i < length ws
-  search-reads l = omega (arith, termAt-start ws n (held ws n) (searched .holds .term) .within)
+  pub search-within : n ≤ length ws
+  search-within = termAt-start ws n (held ws n) (searched .holds .term) .within
 
   pub search-stops : i < n → {b x m : ℕ} → parts i (drop i ws) ≡ redex.Parts b x m → redexAt (held ws n) ≡ some i
   search-stops l e = redex-first (held ws n) i .1 (redex-here (searched .holds) l e, searched .before)

@@ -4,7 +4,7 @@ use mathlib.Core.Path.{sym, _∙_, ap}
 use native.Mathlib.Omega.{arith}
 use borrow.Author.Needs.{needs}
 use Rattle.step.specs.Search.{found, Searched}
-use Rattle.step.proofs.SearchLaws.{search-reads, search-stops, search-goes-on, search-ends}
+use Rattle.step.proofs.SearchLaws.{search-within, search-stops, search-goes-on, search-ends}
 use Rattle.step.proofs.find.Statement.{statement}
 use Rattle.step.proofs.find.Tie as tie
 
@@ -18,7 +18,7 @@ loop-holds : tie.Need-loop-holds Inv-loop μ-loop
 loop-holds c = c .before .pre
 
 parts-requires : tie.Need-parts-requires Inv-loop μ-loop
-parts-requires c κs = (search-reads (c .before .loop .inv) (c .loop-test .taken), c .before .loop .inv .holds .limit)
+parts-requires c κs = (omega (arith, search-within (c .before .loop .inv)), c .before .loop .inv .holds .limit)
 
 enum-told : tie.Need-enum-told Inv-loop μ-loop
 enum-told c = search needs
@@ -33,7 +33,9 @@ enum-told-2 : tie.Need-enum-told-2 Inv-loop μ-loop
 enum-told-2 c = search needs
 
 add-i : tie.Need-add-i Inv-loop μ-loop
-add-i c = search needs
+add-i c =
+    let s = c .before .before .before .before .loop .inv in
+    omega (arith, search-within s, s .holds .limit)
 
 loop-less : tie.Need-loop-less Inv-loop μ-loop
 loop-less c = omega arith
