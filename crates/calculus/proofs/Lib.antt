@@ -3,6 +3,7 @@ pub mod WordLaws
 pub mod SkipLaws
 pub mod All
 pub mod ReadLaws
+pub mod FirstLaws
 pub mod PrefixFree
 pub mod Move
 pub mod Indices

@@ -16,19 +16,19 @@ use Rattle.calculus.proofs.All.{All, nothing, holds, all-map, all-bind,
 use Rattle.calculus.proofs.WordLaws.{kindOf-word, payloadOf-word, word-of-parts, tagOf-pack, countOf-pack, pack-of-parts, accepted-packable}
 
 -- The items of an expression in front of others.
-abbrev itemsOnto : {s : Sort} → Exp s → List Item → List Item
+abbrev pub itemsOnto : {s : Sort} → Exp s → List Item → List Item
 itemsOnto {s = term} t is = whole t ∷ is
 itemsOnto {s = terms} nil is = is
 itemsOnto {s = terms} (cons a xs) is = whole a ∷ itemsOnto xs is
 itemsOnto {s = branches} end is = is
 itemsOnto {s = branches} (branch t n b bs) is = arm t n b ∷ itemsOnto bs is
 
-takeTerms-onto : (xs : Terms) (is : List Item) → takeTerms (count xs) (itemsOnto xs is) ≡ some (xs, is)
+pub takeTerms-onto : (xs : Terms) (is : List Item) → takeTerms (count xs) (itemsOnto xs is) ≡ some (xs, is)
 unfolding takeTerms
 takeTerms-onto nil is = refl
 takeTerms-onto (cons a xs) is = rw (takeTerms-onto xs is)
 
-takeBranches-onto : (bs : Branches) (is : List Item) → takeBranches (count bs) (itemsOnto bs is) ≡ some (bs, is)
+pub takeBranches-onto : (bs : Branches) (is : List Item) → takeBranches (count bs) (itemsOnto bs is) ≡ some (bs, is)
 unfolding takeBranches
 takeBranches-onto end is = refl
 takeBranches-onto (branch t n b bs) is = rw (takeBranches-onto bs is)
@@ -55,16 +55,16 @@ items-words (branch t n b bs) ws h q =
     rw append-assoc (items-word branchKind (pack t n) _ (omega arith) (items-words b _ (h .1) (items-words bs ws (h .2) q))
     (rw (tagOf-pack t n (h .0), countOf-pack t n (h .0))))
 
-items-term : (t : Term) → Packable t → items (words t) ≡ some (whole t ∷ [])
+pub items-all : {s : Sort} (e : Exp s) → Packable e → items (words e) ≡ some (itemsOnto e [])
 unfolding items
-items-term t h = ap items (sym (append-nil (words t))) ∙ items-words t [] h refl
+items-all e h = ap items (sym (append-nil (words e))) ∙ items-words e [] h refl
 
 pub words-injective : (t u : Term) → Packable t → Packable u → words t ≡ words u → t ≡ u
-words-injective t u h g q = cc (items-term t h, items-term u g)
+words-injective t u h g q = cc (items-all t h, items-all u g)
 
 pub read-words : (t : Term) → Accepted 0 t → read (words t) ≡ some t
 unfolding read oneTerm bind
-read-words t h = rw (items-term t (accepted-packable 0 t h)) (if-pos (accepted? 0 t) h (some t) none)
+read-words t h = rw (items-all t (accepted-packable 0 t h)) (if-pos (accepted? 0 t) h (some t) none)
 
 -- The words of items, one after the other.
 abbrev itemsWords : List Item → List ℕ
