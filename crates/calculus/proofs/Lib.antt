@@ -22,3 +22,4 @@ pub mod ChurchRosser
 pub mod Earliest
 pub mod PositionLaws
 pub mod Focus
+pub mod SizeLaws

@@ -118,6 +118,14 @@ earliest-redex (branch t n b bs) =
 pub redex-first : Redex-first
 redex-first t p = earliest-some (earliest-redex t) p
 
+-- No redex starts behind the words, so there is none where none starts within them.
+pub redex-absent : (t : Term) → ((q : ℕ) → q < size t → contractAt q t ≡ none) → redexAt t ≡ none
+redex-absent t h = earliest-none (earliest-redex t) .1 (λ q. go q (contractAt q t) refl)
+  where
+    go : (q : ℕ) (o : Option Term) → contractAt q t ≡ o → o ≡ none
+    go q none e = refl
+    go q (some u) e = absurd (Option·none-ne-some u (sym (h q (contractAt-within t q u e)) ∙ e))
+
 pub redex-none : Redex-none
 redex-none t = (
   λ e u c. Option·none-ne-some u (sym (earliest-none (earliest-redex t) .0 e (c .0)) ∙ contracts-contractAt (c .2)),

@@ -14,20 +14,28 @@ use Rattle.step.specs.Held.{held, Holds}
 unfoldable pub next : List ℕ → (n at : ℕ) → Term
 next ws n at = Option·getD (contractAt at (held ws n)) (held ws n)
 
+-- Its words from the redex on; those before the redex stay as they are.
+abbrev pub nextFrom : List ℕ → (n at : ℕ) → List ℕ
+nextFrom ws n at = drop at (words (next ws n at))
+
 -- A redex of the held term starts at `at`.
 pub record HoldsRedex (ws : List ℕ) (n at : ℕ) : Type 0 where
   pub holds : Holds ws n
   pub redex : contractAt at (held ws n) ≡ some (next ws n at)
 
--- The workspace and the scratch have room for the next term.
+-- The scratch has room for the next term, and so has the workspace.
+pub record Gathers (ws : List ℕ) (n at : ℕ) (scratch : List ℕ) : Type 0 where
+  pub redex : HoldsRedex ws n at
+  pub scratch-fits : size (next ws n at) ≤ length scratch
+
 pub record HasRoom (ws : List ℕ) (n at : ℕ) (scratch : List ℕ) : Type 0 where
   pub redex : HoldsRedex ws n at
   pub fits : size (next ws n at) ≤ length ws
   pub scratch-fits : size (next ws n at) ≤ length scratch
 
--- After the contraction of a workspace and a scratch: the answer r is the next term's length, the workspace ws′ holds the next term and after it
--- its old words, and the scratch holds the part that the contraction wrote.
+-- After the contraction: the answer r is the next term's length, the workspace ws′ holds the next term and after it its old words, and the scratch
+-- holds at its start the words that were put back from the redex on.
 pub record Contracted (ws : List ℕ) (n at : ℕ) (scratch : List ℕ) (r : ℕ) (ws′ scratch′ : List ℕ) : Type 0 where
   pub returned : r ≡ size (next ws n at)
   pub workspace : ws′ ≡ words (next ws n at) ++ drop (size (next ws n at)) ws
-  pub written : scratch′ ≡ sets scratch 0 (drop at (words (next ws n at)))
+  pub written : scratch′ ≡ sets scratch 0 (nextFrom ws n at)

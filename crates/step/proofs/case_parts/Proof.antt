@@ -1,5 +1,9 @@
 -- `case_parts` meets its contract: each word and the search among the branches give what `caseParts` says.
-use mathlib.Core.Path.{sym}
+use Prim.Native.Nat.{_+_}
+use mathlib.Core.Path.{_≡_, sym}
+use lib.ListN.{drop}
+use Rattle.step.specs.declared.Found.{Found}
+use Rattle.step.specs.Parts.{withBody, caseParts}
 use Rattle.step.proofs.PartsTurns.{caseParts-found}
 use borrow.Author.Needs.{needs}
 use Rattle.step.proofs.case_parts.Statement.{statement}
@@ -35,19 +39,20 @@ cast-t16 c = search needs
 enum-told : tie.Need-enum-told
 enum-told c = search needs
 
+-- After the search among the branches, whatever it found.
+by-words : (c : tie.After-branch-body) {x : Found} → c .branch-body .result ≡ x
+    → let a = c .before .before .before .before .before .before .args in
+    caseParts (a .at) (a .w) (a .v) (drop (a .at + 1) (a .ws .now)) ≡ withBody (a .at + 2) (c .before .before .before .before .count .result) x
+by-words c e =
+    let t = c .before in
+    let x = t .before .before in
+    caseParts-found _ _ _ _ (t .before .payload .ensures) (t .tag .ensures) (x .before .count .ensures) (x .extent .ensures) (c .branch-body .ensures) e
+
 returns : tie.Need-returns
-returns c =
-    let b = c .before .before .before in
-    let t = b .before in
-    let e = t .before .before in
-    sym (caseParts-found _ _ _ _ (t .before .payload .ensures) (t .tag .ensures) (e .before .count .ensures) (e .extent .ensures) (b .branch-body .ensures) (c .before .body .given .1))
+returns c = sym (by-words (c .before .before .before) (c .before .body .given .1))
 
 returns-2 : tie.Need-returns-2
-returns-2 c =
-    let b = c .before .before in
-    let t = b .before in
-    let e = t .before .before in
-    sym (caseParts-found _ _ _ _ (t .before .payload .ensures) (t .tag .ensures) (e .before .count .ensures) (e .extent .ensures) (b .branch-body .ensures) (c .enum-told .given .1))
+returns-2 c = sym (by-words (c .before .before) (c .enum-told .given .1))
 
 pub case-parts-spec : {M : Type 1} → statement M
 case-parts-spec =
