@@ -199,7 +199,6 @@ pub fn show<'a>(
     &left[..left_length]
 }
 
-
 // Does nothing. Its contract says that each limit is the number that the definition of a press gives its name.
 fn limits()
     ensures { λ r. do ⌜ (← ⟦Session::BUDGET_MOST⟧ .entry) ≡ budgetLimit ⌝ }
