@@ -33,11 +33,11 @@ bounded-replicate : (b n d : ℕ) (ds : List ℕ) → d ≤ b → Bounded b ds �
 bounded-replicate b zero d ds h p = p
 bounded-replicate b (suc n) d ds h p = (h, bounded-replicate b n d ds h p)
 
-pub binders-few : (w : ℕ) → binders w ≤ argumentLimit
+pub bound-few : (k p : ℕ) {b : ℕ} → b ≡ bound k p → b ≤ argumentLimit
 unfolding bound
-binders-few w = go (eqb (kindOf w) abstractionKind) (eqb (kindOf w) branchKind)
+bound-few k p q = rw q (go (eqb k abstractionKind) (eqb k branchKind))
   where
-    go : (x y : Bool) → cond x 1 (cond y (countOf (payloadOf w)) 0) ≤ argumentLimit
+    go : (x y : Bool) → cond x 1 (cond y (countOf p) 0) ≤ argumentLimit
     go true y = omega arith
     go false true = omega arith
     go false false = omega arith
@@ -45,7 +45,7 @@ binders-few w = go (eqb (kindOf w) abstractionKind) (eqb (kindOf w) branchKind)
 -- A word adds at most `argumentLimit` to the binders around the items to come.
 pub bounded-word : (b c w d : ℕ) (ds : List ℕ) → Bounded b (d ∷ ds) → b + argumentLimit ≤ c → Bounded c (replicate (arity w) (d + binders w) ++ ds)
 bounded-word b c w d ds p h =
-    bounded-replicate c (arity w) (d + binders w) ds (omega (arith, binders-few w)) (bounded-weaken b c ds (omega arith) (p .1))
+    bounded-replicate c (arity w) (d + binders w) ds (omega (arith, bound-few (kindOf w) (payloadOf w) refl)) (bounded-weaken b c ds (omega arith) (p .1))
 
 pub bounded-depths : (ws ds : List ℕ) (b c : ℕ) → Bounded b ds → b + argumentLimit * length ws ≤ c → Bounded c (depths ds ws)
 bounded-depths [] ds b c p h = tt

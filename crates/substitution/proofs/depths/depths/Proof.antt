@@ -5,7 +5,7 @@ use native.Mathlib.Omega.{arith}
 use borrow.Author.Needs.{needs}
 use lib.ListN.{length, getD}
 use Rattle.calculus.specs.Accepted.{argumentLimit}
-use Rattle.substitution.proofs.DepthLaws.{binders-few}
+use Rattle.substitution.proofs.DepthLaws.{bound-few}
 use Rattle.substitution.proofs.Walking.{Walking, walking-start, walking-empty, binders-bounded, walking-word, walking-no-item, walking-no-word}
 use Rattle.substitution.proofs.depths.depths.Statement.{statement}
 use Rattle.substitution.proofs.depths.depths.Tie as tie
@@ -108,7 +108,7 @@ module _ (c : tie.Else2 Inv-loop μ-loop) where
 add-around : tie.Need-add-around Inv-loop μ-loop
 add-around c =
     let m = c .before .before .before in
-    omega (arith, c .binders .ensures, binders-few (getD (start m .args .src .now) (l m .loop .i) 0), bounded m)
+    omega (arith, bound-few _ _ (c .binders .ensures), bounded m)
 
 mul-around : tie.Need-mul-around Inv-loop μ-loop
 mul-around c = search needs
