@@ -2,12 +2,12 @@
 -- the next start tells its length.
 use Prim.Native.Nat.{ℕ, suc, _+_, _*_, _-_, _≤_, _<_}
 use mathlib.Core.Path.{_≡_, refl, sym, _∙_, ap, ap₂}
-use mathlib.Core.List.{List, [], _∷_, _++_}
+use mathlib.Core.List.{List, _++_}
 use native.Mathlib.Omega.{arith}
 use lib.IntN.{ℤ, pos}
 use lib.ListN.{length, getD, drop, length-append, length-drop}
 use lib.Seq.{drop-drop}
-use Rattle.calculus.specs.Term.{Sort, Exp, Term, Terms, var, lam, app, con, case, nil, cons, end, branch, count}
+use Rattle.calculus.specs.Term.{Sort, Exp, Terms, var, lam, app, con, case, nil, cons, end, branch, count}
 use Rattle.calculus.specs.Words.{workspaceMost, payloadOf, words, size}
 use Rattle.calculus.specs.Accepted.{argumentLimit}
 use Rattle.calculus.specs.Skip.{span}
@@ -44,7 +44,7 @@ size-shift z c (branch t n b bs) =
       size-shift z c bs,
     )
 
-module _ (ws : List ℕ) (body args n : ℕ) (h : Substitutable ws body args n) (starts : List ℕ) (p : Placed ws args starts n) (d w : ℕ) (bounded : d ≤ argumentLimit * workspaceMost) (j : ℕ) (place-is : j ≡ place n d w) (chosen : j < n) where
+module _ {ws : List ℕ} {body args n : ℕ} (h : Substitutable ws body args n) {starts : List ℕ} (p : Placed ws args starts n) (d w : ℕ) (bounded : d ≤ argumentLimit * workspaceMost) {j : ℕ} (place-is : j ≡ place n d w) (chosen : j < n) where
   abbrev xs : Terms
   xs = firstTerms n (drop args ws)
 
