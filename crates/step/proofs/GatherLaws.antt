@@ -9,7 +9,7 @@ use lib.Seq.{sets, sets-eq, length-sets, slice}
 use Rattle.calculus.specs.Words.{words, size}
 use Rattle.substitution.specs.Rewritten.{Written}
 use Rattle.substitution.specs.Results.{substituted}
-use Rattle.step.specs.declared.Redex.the-variants as redex
+use Rattle.step.specs.declared.redex.Redex.the-variants as redex
 use Rattle.step.specs.Parts.{parts}
 use Rattle.step.specs.Next.{next, nextFrom, Gathers, HasRoom, Contracted}
 use Rattle.step.specs.Copies.{Copies}
