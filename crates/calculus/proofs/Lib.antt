@@ -10,10 +10,15 @@ pub mod Indices
 pub mod Scan
 pub mod Inversion
 pub mod LeftmostLaws
-pub mod Position
+pub mod RedexWord
 pub mod Decidable
 pub mod Spine
 pub mod AcceptedLaws
+pub mod Rewriting
+pub mod Traversal
+pub mod Substitution
+pub mod Parallel
+pub mod ChurchRosser
 pub mod Earliest
 pub mod PositionLaws
 pub mod Focus
