@@ -22,8 +22,8 @@ use Rattle.calculus.proofs.WordLaws.{kindOf-word, payloadOf-word, tagOf-pack, c
 use Rattle.calculus.proofs.SkipLaws.{span-words, span-zero, skip-words, skip-zero}
 use Rattle.step.specs.declared.Found.{Found}
 use Rattle.step.specs.declared.Found.the-variants as found
-use Rattle.step.specs.declared.Redex.{Redex}
-use Rattle.step.specs.declared.Redex.the-variants as redex
+use Rattle.step.specs.declared.redex.Redex.{Redex}
+use Rattle.step.specs.declared.redex.Redex.the-variants as redex
 use Rattle.step.specs.Parts.{branchBody, withBody, caseParts, parts}
 
 -- From a position on, a workspace is these words.

@@ -6,8 +6,8 @@ use lib.ListN.{length, drop}
 use borrow.Author.Needs.{needs}
 use Rattle.step.specs.Parts.{branchBody}
 use Rattle.step.proofs.PartsTurns.{branchBody-none, branchBody-past, branchBody-fits, branchBody-other, branchBody-later}
-use Rattle.step.proofs.branch_body.Statement.{statement}
-use Rattle.step.proofs.branch_body.Tie as tie
+use Rattle.step.proofs.redex.branch_body.Statement.{statement}
+use Rattle.step.proofs.redex.branch_body.Tie as tie
 
 abbrev Inv-loop : tie.InvT-loop
 Inv-loop ws branches tag count at left₀ i₀ left i = branchBody left tag count i (drop i ws) ≡ branchBody branches tag count at (drop at ws)

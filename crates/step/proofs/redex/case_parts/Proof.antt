@@ -6,8 +6,8 @@ use Rattle.step.specs.declared.Found.{Found}
 use Rattle.step.specs.Parts.{withBody, caseParts}
 use Rattle.step.proofs.PartsTurns.{caseParts-found}
 use borrow.Author.Needs.{needs}
-use Rattle.step.proofs.case_parts.Statement.{statement}
-use Rattle.step.proofs.case_parts.Tie as tie
+use Rattle.step.proofs.redex.case_parts.Statement.{statement}
+use Rattle.step.proofs.redex.case_parts.Tie as tie
 
 count-requires : tie.Need-count-requires
 count-requires c κs = search needs

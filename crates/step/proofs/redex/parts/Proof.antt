@@ -2,8 +2,8 @@
 use mathlib.Core.Path.{sym, _∙_}
 use Rattle.step.proofs.PartsTurns.{parts-last, parts-beta, parts-applied, parts-case, parts-stuck, parts-other}
 use borrow.Author.Needs.{needs}
-use Rattle.step.proofs.parts.Statement.{statement}
-use Rattle.step.proofs.parts.Tie as tie
+use Rattle.step.proofs.redex.parts.Statement.{statement}
+use Rattle.step.proofs.redex.parts.Tie as tie
 
 add-if1 : tie.Need-add-if1
 add-if1 c = search needs
