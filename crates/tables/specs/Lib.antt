@@ -1,5 +1,6 @@
 -- Stored tables ("The stored table"): what a table means, which tables are refused, loading and writing.
 pub mod Records
+pub mod Types
 pub mod Meaning
 pub mod Refusals
 pub mod Load
