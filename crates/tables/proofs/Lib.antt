@@ -6,3 +6,4 @@ pub mod Extent
 pub mod RecordLaws
 pub mod Loops
 pub mod Valued
+pub mod NamingLaws

@@ -3,6 +3,7 @@ pub mod Records
 pub mod Types
 pub mod Meaning
 pub mod Refusals
+pub mod Links
 pub mod Load
 pub mod Write
 pub mod PrefixOrder

@@ -1,5 +1,6 @@
 // Loading a stored table and writing one.
 mod header;
+mod naming;
 mod record;
 mod values;
 
