@@ -1,6 +1,6 @@
 -- The number of records that hang at a link: the record that it names, all that belongs to it, and its later siblings with theirs. Where links name
 -- later records and every record is named once, all records hang at the root.
-use Prim.Native.Nat.{ℕ, zero, suc, _+_, _*_, _≤_, _<_}
+use Prim.Native.Nat.{ℕ, zero, suc, _+_, _*_, _≤_}
 use mathlib.Core.Path.{_≡_, refl, ap, ap₂, sym, _∙_}
 use mathlib.Core.Bool.{cond}
 use mathlib.Core.List.{[], _++_}
@@ -16,15 +16,7 @@ use Rattle.tables.specs.Records.{Table}
 use Rattle.tables.specs.Meaning.{Means, variable, abstraction, application, constructor, case-of, no-term, a-term, no-branch, a-branch}
 use Rattle.tables.specs.Refusals.{sumOf, naming, namings}
 use Rattle.tables.proofs.Sums.{sum-eq, sum-ones, sum-add, sum-times, sum-swap, sum-unnamed, sum-named}
-use Rattle.tables.proofs.Links.{Ahead, Linked}
-
--- A bound on the steps from a link that is never reached.
-abbrev pub Enough : Table → (link bound : ℕ) → Type 0
-Enough T l k = (l ≡ 0) ⊎ ((1 ≤ l) × (l ≤ T .n) × (T .n < l + k))
-
-pub enough-ahead : (T : Table) (i l k : ℕ) → T .n < i + suc k → Ahead T i l → Enough T l k
-enough-ahead T i l k h (inl e) = inl e
-enough-ahead T i l k h (inr a) = inr (omega arith, a .1, omega arith)
+use Rattle.tables.proofs.Links.{Ahead, Linked, Enough, nothing-left, first-enough, next-enough}
 
 extentWithin : Table → (bound link : ℕ) → ℕ
 extentWithin T zero l = 0
@@ -47,17 +39,7 @@ pub extent-zero : (T : Table) → extent T 0 ≡ 0
 unfolding extent
 extent-zero T = within-zero T (suc (T .n))
 
-nothing-left : (T : Table) (l : ℕ) → Enough T l zero → l ≡ 0
-nothing-left T l (inl e) = e
-nothing-left T l (inr h) = absurd (omega arith)
-
 module _ (T : Table) (L : Linked T) where
-  first-enough : (l k : ℕ) → (1 ≤ l) × (l ≤ T .n) × (T .n < l + suc k) → Enough T (T .at l .first) k
-  first-enough l k h = enough-ahead T l (T .at l .first) k (h .2) (L .first-ahead l (h .0) (h .1))
-
-  next-enough : (l k : ℕ) → (1 ≤ l) × (l ≤ T .n) × (T .n < l + suc k) → Enough T (T .at l .next) k
-  next-enough l k h = enough-ahead T l (T .at l .next) k (h .2) (L .next-ahead l (h .0) (h .1))
-
   -- Any two bounds that are enough give the same.
   stable : (k k′ l : ℕ) → Enough T l k → Enough T l k′ → extentWithin T k l ≡ extentWithin T k′ l
   stable zero k′ l h h′ = rw (nothing-left T l h) (within-zero T zero ∙ sym (within-zero T k′))
@@ -66,22 +48,24 @@ module _ (T : Table) (L : Linked T) where
   stable (suc k) (suc k′) l (inl e) (inr h′) = rw e (within-zero T (suc k) ∙ sym (within-zero T (suc k′)))
   stable (suc k) (suc k′) l (inr h) (inr h′) =
       within-suc T k l (h .0)
-      ∙ ap₂ (λ x y. suc (x + y)) (stable k k′ (T .at l .first) (first-enough l k h) (first-enough l k′ h′))
-      (stable k k′ (T .at l .next) (next-enough l k h) (next-enough l k′ h′))
+      ∙ ap₂ (λ x y. suc (x + y))
+      (stable k k′ (T .at l .first) (first-enough T L l k (h .0) (inr h)) (first-enough T L l k′ (h .0) (inr h′)))
+      (stable k k′ (T .at l .next) (next-enough T L l k (h .0) (inr h)) (next-enough T L l k′ (h .0) (inr h′)))
       ∙ sym (within-suc T k′ l (h .0))
 
   pub extent-record : (i : ℕ) → 1 ≤ i → i ≤ T .n → extent T i ≡ suc (extent T (T .at i .first) + extent T (T .at i .next))
   unfolding extent
   extent-record i l u =
       within-suc T (T .n) i l
-      ∙ ap₂ (λ x y. suc (x + y)) (stable _ _ _ (first-enough i (T .n) within) (first-enough i (suc (T .n)) within′))
-      (stable _ _ _ (next-enough i (T .n) within) (next-enough i (suc (T .n)) within′))
+      ∙ ap₂ (λ x y. suc (x + y))
+      (stable _ _ _ (first-enough T L i (T .n) l within) (first-enough T L i (suc (T .n)) l within′))
+      (stable _ _ _ (next-enough T L i (T .n) l within) (next-enough T L i (suc (T .n)) l within′))
     where
-      within : (1 ≤ i) × (i ≤ T .n) × (T .n < i + suc (T .n))
-      within = omega arith
+      within : Enough T i (suc (T .n))
+      within = inr (l, u, omega arith)
 
-      within′ : (1 ≤ i) × (i ≤ T .n) × (T .n < i + suc (suc (T .n)))
-      within′ = omega arith
+      within′ : Enough T i (suc (suc (T .n)))
+      within′ = inr (l, u, omega arith)
 
   -- What hangs at a link, as a sum over the records that it names.
   over-named : (l : ℕ) → (l ≡ 0) ⊎ ((1 ≤ l) × (l ≤ T .n)) → sumOf (T .n) (λ i. naming l i * extent T i) ≡ extent T l
@@ -108,7 +92,10 @@ module _ (T : Table) (L : Linked T) where
   over-namings : 1 ≤ T .root → T .root ≤ T .n → sumOf (T .n) (λ i. namings T i * extent T i) ≡ extent T (T .root) + sumOf (T .n) below
   unfolding namings
   over-namings l u =
-      sum-eq (T .n) _ _ (λ i v w. add-mul (naming (T .root) i) _ (extent T i) ∙ ap (λ x. naming (T .root) i * extent T i + x) (sum-times (T .n) _ (extent T i)))
+      sum-eq (T .n) _ _
+      (λ i v w.
+      add-mul (naming (T .root) i) _ (extent T i)
+      ∙ ap (λ x. naming (T .root) i * extent T i + x) (sum-times (T .n) _ (extent T i)))
       ∙ sum-add (T .n) _ _
       ∙ ap₂ _+_ (over-named (T .root) (inr (l, u))) (sum-swap (T .n) (T .n) _ ∙ sum-eq (T .n) _ _ over-links)
 
@@ -133,7 +120,9 @@ module _ (T : Table) (L : Linked T) where
   means-sized {i = i} (variable k m) = omega (arith, extent-record i (k .0) (k .1), means-sized m)
   means-sized {i = i} (abstraction {b = b} k m) = omega (arith, extent-record i (k .0) (k .1), means-sized m, length-append (words b) [])
   means-sized {i = i} (application {f = f} {a = a} k m) =
-      omega (arith, extent-record i (k .0) (k .1), means-sized m, length-append (words f) (words a ++ []), length-append (words a) [], length-append (words f) (words a))
+      let listed = length-append (words f) (words a ++ []) in
+      let last = length-append (words a) [] in
+      omega (arith, extent-record i (k .0) (k .1), means-sized m, length-append (words f) (words a))
   means-sized {i = i} (constructor k m) = omega (arith, extent-record i (k .0) (k .1), means-sized m)
   means-sized {i = i} (case-of {e = e} {bs = bs} k m ms) =
       omega (arith, extent-record i (k .0) (k .1), means-sized m, means-sized ms, length-append (words e) (words bs))

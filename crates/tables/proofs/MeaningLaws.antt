@@ -1,30 +1,22 @@
 -- `meaning` follows the relation `Means`, and an index means at most one expression of a sort.
-use Prim.Native.Nat.{ℕ, zero, suc, _+_, _*_, _-_, _≤_, _<_, max}
-use mathlib.Core.Path.{_≡_, refl, sym, ap, _∙_}
-use mathlib.Core.Bool.{Bool, true, false, true≢false, false≢true, _&&_, and-eq-true-iff}
-use mathlib.Core.Option.{Option, some, none, Option·map, bind, Option·some-injective}
+use Prim.Native.Nat.{ℕ, zero, suc, _+_, _*_, _≤_, _<_, max}
+use mathlib.Core.Path.{_≡_, refl, _∙_}
+use mathlib.Core.Bool.{_&&_, and-eq-true-iff}
+use mathlib.Core.Option.{some, Option·map, bind}
 use mathlib.Core.Logic.{inl, inr}
 use native.Mathlib.Omega.{arith}
-use lib.Dec.{leb, eqb}
-use borrow.Author.Tests.{leb-true, le-leb, eqb-true, eq-eqb, ne-eqb}
-use Rattle.calculus.specs.Term.{Sort, term, terms, branches, Exp, var, lam, app, con, case, nil, cons, end, branch, Term, Terms, Branches}
-use Rattle.calculus.specs.Words.{variableKind, abstractionKind, applicationKind, constructorKind, caseKind, branchKind, tagOf, countOf}
+use lib.Dec.{eqb}
+use borrow.Author.Tests.{eqb-true, eq-eqb, ne-eqb}
+use Rattle.calculus.specs.Term.{Sort, term, terms, branches, Exp, lam, case, nil, cons, Term, Terms}
+use Rattle.calculus.specs.Words.{variableKind, abstractionKind, applicationKind, constructorKind, caseKind, branchKind}
 use Rattle.calculus.proofs.All.{All, holds, nothing, all-map, all-bind, all-eqb, all-some}
 use Rattle.tables.specs.Records.{Table, OfKind}
-use Rattle.tables.specs.Meaning.{Means, variable, abstraction, application, constructor, case-of, no-term, a-term, no-branch, a-branch, variableOf, onlyOne, applicationOf, termOf, isRecord, Reading, meantTerm, meantTerms, meantBranch, meantBranches, meant, meaning}
+use Rattle.tables.specs.Meaning.{Means, variable, abstraction, application, constructor, case-of, no-term, a-term, no-branch, a-branch}
+use Rattle.tables.specs.Meaning.{variableOf, onlyOne, applicationOf, termOf, isRecord, Reading}
+use Rattle.tables.specs.Meaning.{meantTerm, meantTerms, meantBranch, meantBranches, meant, meaning}
+use Rattle.tables.proofs.Tests.{if-true, if-false, all-if, isRecord-true, record-isRecord}
 use Rattle.tables.proofs.Links.{Ahead, ahead-later, Linked, linked}
 use Rattle.tables.specs.Theorems.{Means-unique, Meaning-sound, Meaning-complete}
-
--- A property of what an option holds that is made by a test.
-all-if : {A : Type 0} {P : A → Type 0} (b : Bool) {x y : Option A} → (b ≡ true → All P x) → (b ≡ false → All P y) → All P (elim b [ true ↦ x | false ↦ y ])
-all-if true p q = p refl
-all-if false p q = q refl
-
-pub isRecord-true : (T : Table) (i : ℕ) → isRecord T i ≡ true → (1 ≤ i) × (i ≤ T .n)
-isRecord-true T i h = let both = and-eq-true-iff (leb 1 i) (leb i (T .n)) .0 h in (leb-true 1 i (both .0), leb-true i (T .n) (both .1))
-
-pub record-isRecord : (T : Table) (i : ℕ) → 1 ≤ i → i ≤ T .n → isRecord T i ≡ true
-record-isRecord T i h k = and-eq-true-iff (leb 1 i) (leb i (T .n)) .1 (le-leb 1 i h, le-leb i (T .n) k)
 
 -- What is computed is meant.
 module _ (T : Table) (rec : Reading) (follows : (s : Sort) (i : ℕ) → All (Means T s i) (rec s i)) where
@@ -133,14 +125,6 @@ term-inside (application k m) = (k .0, k .1)
 term-inside (constructor k m) = (k .0, k .1)
 term-inside (case-of k m ms) = (k .0, k .1)
 
-if-true : {A : Type 0} (b : Bool) (x y : A) → b ≡ true → _≡_ {A = A} (elim b [ true ↦ x | false ↦ y ]) x
-if-true true x y h = refl
-if-true false x y h = absurd (false≢true h)
-
-if-false : {A : Type 0} (b : Bool) (x y : A) → b ≡ false → _≡_ {A = A} (elim b [ true ↦ x | false ↦ y ]) y
-if-false true x y h = absurd (true≢false h)
-if-false false x y h = refl
-
 meantTerm-of : (T : Table) (rec : Reading) {kind i : ℕ} (xs : Terms) → kind < caseKind → OfKind T kind i → rec terms (T .at i .first) ≡ some xs
     → meantTerm T rec i ≡ termOf kind (T .at i .value) xs
 unfolding meantTerm bind
@@ -188,23 +172,32 @@ descend : (T : Table) (i l k : ℕ) → i ≤ T .n → Ahead T i l → Shallow (
 descend T i l k u (inl e) h = omega (arith, h .0 e)
 descend T i l k u (inr a) h = omega arith
 
-depth-bound : {T : Table} {s : Sort} {i : ℕ} {e : Exp s} → Linked T → (m : Means T s i e) → Shallow (T .n) s i (depth m)
-unfolding depth
-depth-bound {T} {i = i} L (variable k m) = omega (arith, descend T i _ _ (k .1) (L .first-ahead i (k .0) (k .1)) (depth-bound L m))
-depth-bound {T} {i = i} L (abstraction k m) = omega (arith, descend T i _ _ (k .1) (L .first-ahead i (k .0) (k .1)) (depth-bound L m))
-depth-bound {T} {i = i} L (application k m) = omega (arith, descend T i _ _ (k .1) (L .first-ahead i (k .0) (k .1)) (depth-bound L m))
-depth-bound {T} {i = i} L (constructor k m) = omega (arith, descend T i _ _ (k .1) (L .first-ahead i (k .0) (k .1)) (depth-bound L m))
-depth-bound {T} {i = i} L (case-of k m ms) =
-    let r = term-inside m in
-    let later = ahead-later T i _ (L .first-ahead i (k .0) (k .1)) (r .0) in
-    omega (arith, depth-bound L m, descend T _ _ _ (r .1) (L .next-ahead _ (r .0) (r .1)) (depth-bound L ms))
-depth-bound L no-term = (λ z. omega arith, omega arith)
-depth-bound {T} {i = i} L (a-term m ms) =
-    let r = term-inside m in
-    (λ z. absurd (omega arith), omega (arith, depth-bound L m, descend T i _ _ (r .1) (L .next-ahead i (r .0) (r .1)) (depth-bound L ms)))
-depth-bound L no-branch = (λ z. omega arith, omega arith)
-depth-bound {T} {i = i} L (a-branch k m ms) =
-    (λ z. absurd (omega arith), omega (arith, descend T i _ _ (k .1) (L .first-ahead i (k .0) (k .1)) (depth-bound L m), descend T i _ _ (k .1) (L .next-ahead i (k .0) (k .1)) (depth-bound L ms)))
+module _ {T : Table} (L : Linked T) where
+  to-first : (i k : ℕ) → 1 ≤ i → i ≤ T .n → Shallow (T .n) terms (T .at i .first) k → k + 2 * i ≤ 2 * T .n + 1
+  to-first i k l u = descend T i _ k u (L .first-ahead i l u)
+
+  to-next : (i k : ℕ) → 1 ≤ i → i ≤ T .n → Shallow (T .n) terms (T .at i .next) k → k + 2 * i ≤ 2 * T .n + 1
+  to-next i k l u = descend T i _ k u (L .next-ahead i l u)
+
+  depth-bound : {s : Sort} {i : ℕ} {e : Exp s} (m : Means T s i e) → Shallow (T .n) s i (depth m)
+  unfolding depth
+  depth-bound {i = i} (variable k m) = omega (arith, to-first i _ (k .0) (k .1) (depth-bound m))
+  depth-bound {i = i} (abstraction k m) = omega (arith, to-first i _ (k .0) (k .1) (depth-bound m))
+  depth-bound {i = i} (application k m) = omega (arith, to-first i _ (k .0) (k .1) (depth-bound m))
+  depth-bound {i = i} (constructor k m) = omega (arith, to-first i _ (k .0) (k .1) (depth-bound m))
+  depth-bound {i = i} (case-of k m ms) =
+      let r = term-inside m in
+      let later = ahead-later T i _ (L .first-ahead i (k .0) (k .1)) (r .0) in
+      omega (arith, depth-bound m, to-next (T .at i .first) _ (r .0) (r .1) (depth-bound ms))
+  depth-bound no-term = (λ z. omega arith, omega arith)
+  depth-bound {i = i} (a-term m ms) =
+      let r = term-inside m in
+      (λ z. absurd (omega arith), omega (arith, depth-bound m, to-next i _ (r .0) (r .1) (depth-bound ms)))
+  depth-bound no-branch = (λ z. omega arith, omega arith)
+  depth-bound {i = i} (a-branch k m ms) = (
+    λ z. absurd (omega arith),
+    omega (arith, to-first i _ (k .0) (k .1) (depth-bound m), to-next i _ (k .0) (k .1) (depth-bound ms)),
+  )
 
 pub meaning-complete : Meaning-complete
 unfolding meaning

@@ -1,7 +1,7 @@
 -- Tests of every index from 1 to n, and sums over them.
 use Prim.Native.Nat.{ℕ, zero, suc, _+_, _*_, _≤_}
 use mathlib.Core.Path.{_≡_, refl, ap, ap₂, sym, _∙_}
-use mathlib.Core.Bool.{Bool, true, false, and-eq-true-iff}
+use mathlib.Core.Bool.{Bool, true, and-eq-true-iff}
 use mathlib.Core.Logic.{inl, inr}
 use native.Mathlib.Nat.{zero-mul, one-mul, add-mul, eq-or-lt-of-le}
 use native.Mathlib.Omega.{arith}
@@ -46,19 +46,25 @@ sum-swap (suc n) m f =
     ap (λ x. x + sumOf m (f (suc n))) (sum-swap n m f) ∙ sym (sum-add m (λ j. sumOf n (λ i. f i j)) (f (suc n)))
 
 -- Of the indices from 1 to n a link counts the one that it names, and no other.
-naming-itself : (l i c : ℕ) → l ≡ i → naming l i * c ≡ c
-naming-itself l i c e = rw (eq-eqb l i e) (one-mul c)
+pub naming-itself : (l i : ℕ) → l ≡ i → naming l i ≡ 1
+naming-itself l i e = rw (eq-eqb l i e)
 
-naming-other : (l i c : ℕ) → (l ≡ i → ⊥) → naming l i * c ≡ 0
-naming-other l i c h = rw (ne-eqb l i h) (zero-mul c)
+pub naming-other : (l i : ℕ) → (l ≡ i → ⊥) → naming l i ≡ 0
+naming-other l i h = rw (ne-eqb l i h)
+
+times-itself : (l i c : ℕ) → l ≡ i → naming l i * c ≡ c
+times-itself l i c e = rw (naming-itself l i e) (one-mul c)
+
+times-other : (l i c : ℕ) → (l ≡ i → ⊥) → naming l i * c ≡ 0
+times-other l i c h = rw (naming-other l i h) (zero-mul c)
 
 pub sum-unnamed : (n l : ℕ) (f : ℕ → ℕ) → ((i : ℕ) → 1 ≤ i → i ≤ n → l ≡ i → ⊥) → sumOf n (λ i. naming l i * f i) ≡ 0
-sum-unnamed n l f h = sum-eq n _ (λ i. 0) (λ i v u. naming-other l i (f i) (h i v u)) ∙ sum-zeros n
+sum-unnamed n l f h = sum-eq n _ (λ i. 0) (λ i v u. times-other l i (f i) (h i v u)) ∙ sum-zeros n
 
 pub sum-named : (n l : ℕ) (f : ℕ → ℕ) → 1 ≤ l → l ≤ n → sumOf n (λ i. naming l i * f i) ≡ f l
 sum-named zero l f h u = absurd (omega arith)
 sum-named (suc n) l f h u =
     elim (eq-or-lt-of-le u) [
-      | inl e ↦ omega (arith, sum-unnamed n l f (λ i v w q. omega arith), naming-itself l (suc n) (f (suc n)) e, ap f e)
-      | inr v ↦ omega (arith, sum-named n l f h (omega arith), naming-other l (suc n) (f (suc n)) (λ q. omega arith))
+      | inl e ↦ omega (arith, sum-unnamed n l f (λ i v w q. omega arith), times-itself l (suc n) (f (suc n)) e, ap f e)
+      | inr v ↦ omega (arith, sum-named n l f h (omega arith), times-other l (suc n) (f (suc n)) (λ q. omega arith))
     ]
