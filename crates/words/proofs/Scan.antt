@@ -8,11 +8,11 @@ use mathlib.Core.Option.{Option, some, none, Option·elim}
 use native.Mathlib.Nat.{add-zero}
 use native.Mathlib.Numerals.{add-one}
 use native.Mathlib.Omega.{arith}
-use lib.Dec.{T, eqb, leb, ltb}
+use lib.Dec.{eqb}
 use borrow.Author.Tests.{eqb-true, leb-true, ltb-true, le-leb, lt-ltb}
 use Rattle.calculus.specs.Term.{Sort, term, terms, branches, Exp, Term, Terms, Branches, var, lam, app, con, case, nil, cons, end, branch, count}
-use Rattle.calculus.specs.Words.{variableKind, abstractionKind, applicationKind, constructorKind, caseKind, branchKind, kindBase, countBase, word, kindOf, payloadOf, pack, tagOf, countOf, words}
-use Rattle.calculus.specs.Accepted.{tagLimit, argumentLimit, branchLimit, freeLimit, StartsAbove, Rising, Accepted}
+use Rattle.calculus.specs.Words.{variableKind, abstractionKind, applicationKind, constructorKind, caseKind, branchKind, kindBase, countBase, word, pack, tagOf, countOf, words}
+use Rattle.calculus.specs.Accepted.{tagLimit, argumentLimit, branchLimit, StartsAbove, Rising, Accepted}
 use Rattle.calculus.specs.Read.{read}
 use Rattle.calculus.specs.Skip.{following}
 use Rattle.calculus.proofs.WordLaws.{kindOf-word, payloadOf-word, word-of-parts, tagOf-pack, countOf-pack, pack-of-parts}
@@ -21,7 +21,7 @@ use Rattle.words.specs.declared.frame.Frame.{Frame}
 use Rattle.words.specs.Bound.{binding}
 use Rattle.words.specs.Frames.{frame, insideBy, inside, tagAbove, startsTerm, startsBranch, allowedBy, allowed, restBy, rest}
 
--- Frames without those for which nothing is to come.
+-- A frame in front of others, left out if nothing is to come in it.
 abbrev pub pushBy : (terms branches : ℕ) → Frame → List Frame → List Frame
 pushBy zero zero f fs = fs
 pushBy zero (suc b) f fs = f ∷ fs
@@ -30,10 +30,11 @@ pushBy (suc n) b f fs = f ∷ fs
 abbrev pub push : Frame → List Frame → List Frame
 push f fs = pushBy (f .terms) (f .branches) f fs
 
--- The frames after a word at the frame f.
+-- The frames after a word that stands at the frame f.
 abbrev pub after : Frame → ℕ → List Frame → List Frame
 after f w fs = push (inside (f .depth) w) (push (rest f w) fs)
 
+-- The scan succeeds if each word is allowed by the frame in front, and no frame is left in the end.
 unfoldable pub scan : List Frame → List ℕ → Bool
 scan [] [] = true
 scan (f ∷ fs) [] = false
@@ -86,7 +87,8 @@ passes d (branch u m e bs) h =
     (scan-branch branchKind (pack u m) (count bs) d t fs _ (omega arith) (rw (tagOf-pack u m k) (tag-above t u g (h .0 .1)))
     ∙ rw (tagOf-pack u m k, countOf-pack u m k) (passes (d + m) e (h .2) 0 0 0 _ _ ∙ passes d bs (h .3) u fs ws (r .0) (r .1)))
 
--- What fills n terms under d binders, or n branches after one of tag t, where P holds of the words after them; and what fills frames.
+-- Words that are those of n accepted terms under d binders, or of n accepted branches after one of tag t, and then words of which P holds; and words
+-- that fill frames.
 abbrev TermsThen : ℕ → ℕ → (List ℕ → Type 0) → List ℕ → Type 0
 TermsThen zero d P ws = P ws
 TermsThen (suc n) d P ws = (e : Term) × (vs : List ℕ) × Accepted d e × (words e ++ vs ≡ ws) × TermsThen n d P vs
@@ -103,6 +105,7 @@ abbrev Fills : List Frame → List ℕ → Type 0
 Fills [] ws = [] ≡ ws
 Fills (f ∷ fs) ws = FrameThen f (Fills fs) ws
 
+-- The terms as one list of arguments, and the branches as those of one case.
 gather-terms : (n d : ℕ) (P : List ℕ → Type 0) (ws : List ℕ) → TermsThen n d P ws → (xs : Terms) × (vs : List ℕ) × (count xs ≡ n) × Accepted d xs × (words xs ++ vs ≡ ws) × P vs
 gather-terms zero d P ws h = (nil, ws, refl, tt, refl, h)
 gather-terms (suc n) d P ws h =

@@ -1,5 +1,5 @@
 -- The scan with its frames on a stack: what the loop of `is_term` keeps, and that a turn keeps it.
-use Prim.Native.Nat.{ℕ, zero, suc, _+_, _-_, _*_, _≤_, _<_, min}
+use Prim.Native.Nat.{ℕ, zero, suc, _+_, _*_, _≤_, _<_, min}
 use mathlib.Core.Path.{_≡_, refl, sym, _∙_, ap, subst}
 use mathlib.Core.Bool.{true, false, _&&_}
 use mathlib.Core.List.{List, [], _∷_}
@@ -7,7 +7,7 @@ use native.Mathlib.Nat.{add-zero, le-refl}
 use native.Mathlib.Numerals.{add-one}
 use native.Mathlib.Omega.{arith}
 use lib.Dec.{eqb, eqb·suc-zero}
-use lib.ListN.{length, getD, take, drop, set, length-set}
+use lib.ListN.{length, getD, take, set, length-set}
 use lib.Seq.{getD-set-same, getD-set-other, slice, slice-cons, slice-empty}
 use Rattle.calculus.specs.Words.{kindOf, payloadOf, workspaceMost}
 use Rattle.calculus.specs.Accepted.{argumentLimit}
@@ -61,7 +61,8 @@ rest-depth zero zero d t p = refl
 rest-depth zero (suc b) d t p = refl
 rest-depth (suc n) b d t p = refl
 
--- The loop's invariant: what is left to scan decides as the whole does.
+-- The loop's invariant: the scan of the words that are left, with the frames on the stack, answers as that of all words does. A word adds at most one
+-- frame, and `argumentLimit` binders.
 pub record Scanning (ws : List ℕ) (n : ℕ) (stack : List Frame) (top i : ℕ) : Type 0 where
   pub within : i ≤ n
   pub room : top ≤ i + 1

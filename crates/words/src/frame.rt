@@ -96,7 +96,7 @@ impl Frame {
     }
 }
 
-// Whether the word may start a term under `depth` binders.
+// Whether the word may start a term under `depth` binders. No payload holds a count above its limit, so counts need no test.
 fn starts_term(word: Word, depth: u32) -> bool
     requires { ⌜ depth ≤ depthLimit ⌝ }
     ensures { λ r. ⌜ r ≡ startsTerm depth (kindOf (word .0)) (payloadOf (word .0)) ⌝ }

@@ -1,5 +1,5 @@
-// The word of a term: payload × 8 + kind ("Terms and words"). Its constants are the only places of the code where the kinds and the limits of the
-// word rules stand as numbers.
+// The word of a term: payload × 8 + kind ("Terms and words"), and what words alone tell: where an item ends, and whether words are one whole term.
+// The constants of `Word` are the only places of the code where the kinds and the limits of the word rules stand as numbers.
 mod frame;
 
 use frame::Frame;
@@ -129,7 +129,7 @@ pub fn extent(ws: &[u32], at: usize) -> usize
     i
 }
 
-// Whether the first `n` words are one whole accepted term of at most as many words as a workspace has.
+// Whether the first `n` words are one whole accepted term of at most as many words as a workspace has (refusal 10), by a scan from the left.
 pub fn is_term(ws: &[u32], n: usize) -> bool
     ensures { λ r. ⌜ r ≡ isTerm (now (ws .entry)) n ⌝ }
 {
@@ -139,6 +139,7 @@ pub fn is_term(ws: &[u32], n: usize) -> bool
     if n > ws.len() {
         return false;
     }
+    // The frames are the entries below `top`; each word adds at most one.
     let mut stack = [Frame::WHOLE; Word::WORKSPACE_MOST + 1];
     let mut top: usize = 1;
     let mut i: usize = 0;
@@ -152,6 +153,7 @@ pub fn is_term(ws: &[u32], n: usize) -> bool
         if !frame.allows(word) {
             return false;
         }
+        // The frame on top gives way to what is left of it and, above that, to what follows the word.
         let rest = frame.rest(word);
         stack[top] = rest;
         top += rest.kept();

@@ -1,11 +1,14 @@
 -- `is_term` meets its contract: the loop is the scan for one whole term, with its frames on the stack.
 use Prim.Native.Nat.{suc, _-_, _≤_, _<_}
-use mathlib.Core.Path.{refl, sym, _∙_}
+use mathlib.Core.Path.{_≡_, refl, sym, _∙_}
 use native.Mathlib.Omega.{arith}
+use lib.ListN.{take}
 use borrow.Author.Needs.{needs}
 use borrow.Author.Tests.{not-true, not-false}
 use Rattle.calculus.specs.Words.{workspaceMost}
 use Rattle.words.specs.Limits.{depthLimit}
+use Rattle.words.specs.IsTerm.{isTerm}
+use Rattle.words.proofs.Scan.{scan, whole}
 use Rattle.words.proofs.Stack.{next, Scanning, scanning-at, turn-refused, turn-allowed, scanning-starts, scanning-ends, scanning-empty}
 use Rattle.words.proofs.IsTerm.{isTerm-long, isTerm-past, isTerm-scan}
 use Rattle.words.proofs.is_term.Statement.{statement}
@@ -26,11 +29,13 @@ returns-2 c = isTerm-past _ _ (c .before .if1 .left) (c .if2 .taken)
 loop-holds : tie.Need-loop-holds Inv-loop μ-loop
 loop-holds c = scanning-starts _ _ _ refl refl
 
+scanned : (c : tie.At-loop Inv-loop μ-loop) → scan whole (take (c .before .before .before .before .args .n) (c .before .before .before .before .args .ws .now)) ≡ isTerm (c .before .before .before .before .args .ws .now) (c .before .before .before .before .args .n)
+scanned c = isTerm-scan _ _ (c .before .before .if1 .left) (c .before .if2 .left)
+
 returns-3 : tie.Need-returns-3 Inv-loop μ-loop
 returns-3 c =
     let l = c .before .before in
-    scanning-empty (l .loop .inv) (c .if3 .taken) (c .before .loop-test .taken) (l .before .if2 .left)
-    ∙ isTerm-scan _ _ (l .before .before .if1 .left) (l .before .if2 .left)
+    scanning-empty (l .loop .inv) (c .if3 .taken) (c .before .loop-test .taken) (l .before .if2 .left) ∙ scanned l
 
 -- In a turn a frame is on top, and there is room for one more.
 popped : (c : tie.Else3 Inv-loop μ-loop) → Scanning (c .before .before .before .before .before .before .args .ws .now) (c .before .before .before .before .before .before .args .n) (c .before .before .loop .stack) (suc (c .before .before .loop .top - 1)) (c .before .before .loop .i)
@@ -65,7 +70,7 @@ returns-4 c =
     let e = c .before .before .before .before in
     let l = e .before .before in
     turn-refused (popped e) (e .before .loop-test .taken) (l .before .if2 .left) (sym (c .before .allows .ensures) ∙ not-true _ (c .if4 .taken))
-    ∙ isTerm-scan _ _ (l .before .before .if1 .left) (l .before .if2 .left)
+    ∙ scanned l
 
 rest-requires : tie.Need-rest-requires Inv-loop μ-loop
 rest-requires c κs = tt
@@ -115,8 +120,7 @@ loop-again c =
 
 returns-5 : tie.Need-returns-5 Inv-loop μ-loop
 returns-5 c =
-    let l = c .before in
-    scanning-ends (l .loop .inv) (c .loop-test .left) ∙ isTerm-scan _ _ (l .before .before .if1 .left) (l .before .if2 .left)
+    scanning-ends (c .before .loop .inv) (c .loop-test .left) ∙ scanned (c .before)
 
 pub is-term-spec : {M : Type 1} → statement M
 is-term-spec =

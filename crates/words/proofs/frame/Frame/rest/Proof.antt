@@ -1,5 +1,5 @@
 -- `Frame::rest` meets its contract.
-use mathlib.Core.Path.{sym, _∙_}
+use mathlib.Core.Path.{sym}
 use Rattle.words.proofs.Frames.{rest-term, rest-branch, rest-none}
 use borrow.Author.Needs.{needs}
 use Rattle.words.proofs.frame.Frame.rest.Statement.{statement}
