@@ -20,5 +20,7 @@ pub mod RoundTrips
 pub mod Examples
 pub mod RecordLaws
 pub mod Loops
-pub mod Valued
 pub mod NamingLaws
+pub mod Hanging
+pub mod Walks
+pub mod ShapeLaws

@@ -11,7 +11,7 @@ use Rattle.calculus.specs.Words.{workspaceMost}
 use Rattle.tables.specs.Records.{Record, form, recordWords, recordAt, view1}
 use Rattle.tables.specs.Meaning.{isRecord}
 use Rattle.tables.specs.Refusals.{wrongLength, wrongHeader}
-use Rattle.tables.proofs.MeaningLaws.{isRecord-true}
+use Rattle.tables.proofs.Tests.{isRecord-true}
 
 -- Equal records, part by part.
 pub record Parts (r s : Record) : Type 0 where

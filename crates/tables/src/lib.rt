@@ -2,6 +2,7 @@
 mod header;
 mod naming;
 mod record;
+mod shape;
 mod values;
 
 // What loading and writing answer: the number of the refusal, or the length of the term or the number of records.

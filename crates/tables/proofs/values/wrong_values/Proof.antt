@@ -1,17 +1,22 @@
 -- `wrong_values` meets its contract. The invariant: every record up to the i-th has a kind and a value that fit.
 use Prim.Native.Nat.{_+_, _-_, _≤_}
 use mathlib.Core.Path.{_≡_, refl, ap, sym, _∙_}
-use mathlib.Core.Bool.{true}
+use mathlib.Core.Bool.{Bool, true, _&&_}
 use native.Mathlib.Omega.{arith}
+use lib.Dec.{leb}
 use borrow.Author.Needs.{needs}
 use borrow.Author.Tests.{not-true, not-false}
-use Rattle.tables.specs.Records.{view1}
-use Rattle.tables.specs.Refusals.{everyOf, wrongValue}
+use Rattle.calculus.specs.Words.{branchKind}
+use Rattle.tables.specs.Records.{Record, view1}
+use Rattle.tables.specs.Refusals.{everyOf, valueFits, wrongValue}
 use Rattle.tables.proofs.RecordLaws.{inside}
 use Rattle.tables.proofs.Loops.{every-more, every-fails, every-end}
-use Rattle.tables.proofs.Valued.{valued}
 use Rattle.tables.proofs.values.wrong_values.Statement.{statement}
 use Rattle.tables.proofs.values.wrong_values.Tie as tie
+
+-- The test of one record.
+abbrev valued : Record → Bool
+valued r = leb (r .kind) branchKind && valueFits (r .kind) (r .value)
 
 abbrev Inv-loop : tie.InvT-loop
 Inv-loop table n i₀ i = (i ≤ n) × (everyOf i (λ j. valued (view1 table .at j)) ≡ true)
