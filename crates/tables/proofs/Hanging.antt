@@ -10,7 +10,8 @@ use lib.Dec.{eqb}
 use borrow.Author.Tests.{ne-eqb}
 use Rattle.tables.specs.Records.{Record, Table}
 use Rattle.tables.specs.Refusals.{chain}
-use Rattle.tables.specs.Reading.{chainFrom, hanging}
+use Rattle.tables.specs.Chains.{chainFrom}
+use Rattle.tables.specs.Reading.{hanging}
 use Rattle.tables.proofs.Tests.{if-false}
 use Rattle.tables.proofs.Links.{Ahead, Linked, Enough, nothing-left, first-enough, next-enough}
 

@@ -24,3 +24,6 @@ pub mod NamingLaws
 pub mod Hanging
 pub mod Walks
 pub mod ShapeLaws
+pub mod ReadingLaws
+pub mod Stores
+pub mod ReadingMeaning

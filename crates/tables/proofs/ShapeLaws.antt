@@ -10,7 +10,7 @@ use Rattle.calculus.specs.Words.{variableKind, applicationKind, constructorKind
 use Rattle.calculus.specs.Accepted.{argumentLimit}
 use Rattle.tables.specs.Records.{Record}
 use Rattle.tables.specs.Refusals.{allTerms, childrenFit}
-use Rattle.tables.specs.Reading.{numberFits}
+use Rattle.tables.specs.Chains.{numberFits}
 
 -- None of no records is a branch.
 none-branch : (rs : List Record) → eqb (length rs) 0 ≡ (eqb (length rs) 0 && allTerms rs)

@@ -8,7 +8,7 @@ use lib.Dec.{eqb}
 use lib.ListN.{length}
 use Rattle.tables.specs.Records.{Record, Table, recordWords, recordAt, view1}
 use Rattle.tables.specs.Refusals.{chain, wrongLength}
-use Rattle.tables.specs.Reading.{chainFrom, Walkable}
+use Rattle.tables.specs.Chains.{chainFrom, Walkable}
 use Rattle.tables.proofs.Links.{Linked, linked}
 use Rattle.tables.proofs.Hanging.{ahead-within, chain-next}
 use Rattle.tables.proofs.RecordLaws.{inside}

@@ -4,6 +4,7 @@ pub mod Types
 pub mod Meaning
 pub mod Refusals
 pub mod Links
+pub mod Chains
 pub mod Reading
 pub mod Load
 pub mod Write

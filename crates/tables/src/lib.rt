@@ -1,7 +1,9 @@
 // Loading a stored table and writing one.
 mod header;
 mod naming;
+mod reader;
 mod record;
+mod scope;
 mod shape;
 mod values;
 

@@ -7,7 +7,7 @@ ghost use Prim.Native.Nat.{_≤_};
 ghost use lib.ListN.{length};
 ghost use Rattle.tables.specs.Records.{view1};
 ghost use Rattle.tables.specs.Refusals.{children, allTerms, startsAbove, caseFits, childrenFit, wrongChildren};
-ghost use Rattle.tables.specs.Reading.{chainFrom, branchesRise, numberFits, Walkable};
+ghost use Rattle.tables.specs.Chains.{chainFrom, branchesRise, numberFits, Walkable};
 
 // How many records a chain has.
 pub fn chain_length(table: &[u32], link: usize) -> usize

@@ -7,7 +7,7 @@ use borrow.Author.Tests.{eq-eqb, ne-eqb}
 use Rattle.tables.specs.Records.{view1}
 use Rattle.tables.specs.Types.{recordOf}
 use Rattle.tables.specs.Refusals.{allTerms}
-use Rattle.tables.specs.Reading.{chainFrom, Walkable}
+use Rattle.tables.specs.Chains.{chainFrom, Walkable}
 use Rattle.tables.proofs.Hanging.{chain-end}
 use Rattle.tables.proofs.Walks.{walk-inside, Walked, walked}
 use Rattle.tables.proofs.shape.all_terms.Statement.{statement}

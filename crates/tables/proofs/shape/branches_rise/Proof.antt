@@ -8,7 +8,7 @@ use borrow.Author.Tests.{eq-eqb, ne-eqb, not-true, not-false}
 use Rattle.tables.specs.Records.{view1}
 use Rattle.tables.specs.Types.{recordOf}
 use Rattle.tables.specs.Refusals.{allBranches}
-use Rattle.tables.specs.Reading.{chainFrom, branchesRise, Walkable}
+use Rattle.tables.specs.Chains.{chainFrom, branchesRise, Walkable}
 use Rattle.tables.proofs.Hanging.{chain-end}
 use Rattle.tables.proofs.Walks.{walk-inside, Walked, walked}
 use Rattle.tables.proofs.shape.branches_rise.Statement.{statement}

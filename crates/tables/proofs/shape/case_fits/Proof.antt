@@ -7,7 +7,7 @@ use borrow.Author.Tests.{le-leb, lt-leb, eq-eqb, ne-eqb}
 use Rattle.tables.specs.Records.{view1}
 use Rattle.tables.specs.Types.{recordOf}
 use Rattle.tables.specs.Refusals.{allBranches}
-use Rattle.tables.specs.Reading.{chainFrom}
+use Rattle.tables.specs.Chains.{chainFrom}
 use Rattle.tables.proofs.Hanging.{chain-end}
 use Rattle.tables.proofs.Walks.{walk-inside, Walked, walked}
 use Rattle.tables.proofs.shape.case_fits.Statement.{statement}

@@ -6,7 +6,7 @@ use native.Mathlib.Omega.{arith}
 use lib.ListN.{length}
 use Rattle.tables.specs.Records.{view1}
 use Rattle.tables.specs.Types.{recordOf}
-use Rattle.tables.specs.Reading.{chainFrom, Walkable}
+use Rattle.tables.specs.Chains.{chainFrom, Walkable}
 use Rattle.tables.proofs.RecordLaws.{sized}
 use Rattle.tables.proofs.Hanging.{chain-end}
 use Rattle.tables.proofs.Walks.{walk-inside, walk-short, Walked, walked}

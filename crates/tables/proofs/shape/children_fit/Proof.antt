@@ -6,7 +6,7 @@ use borrow.Author.Tests.{not-true, not-false}
 use Rattle.calculus.specs.Words.{caseKind}
 use Rattle.tables.specs.Types.{recordOf}
 use Rattle.tables.specs.Refusals.{childrenFit}
-use Rattle.tables.specs.Reading.{Walkable}
+use Rattle.tables.specs.Chains.{Walkable}
 use Rattle.tables.proofs.RecordLaws.{parts}
 use Rattle.tables.proofs.Walks.{walk-inside, Walked, walked}
 use Rattle.tables.proofs.ShapeLaws.{children-counted}
