@@ -4,9 +4,9 @@ use Prim.Native.Nat.{_≤_, _-_}
 use mathlib.Core.Path.{_≡_, refl, sym, _∙_}
 use native.Mathlib.Omega.{arith}
 use lib.ListN.{length, length-set}
-use Rattle.rounds.proofs.ClearLaws.{cleared, cleared-more, cleared-all}
-use Rattle.rounds.proofs.compare.clear.Statement.{statement}
-use Rattle.rounds.proofs.compare.clear.Tie as tie
+use Rattle.words.proofs.ClearLaws.{cleared, cleared-more, cleared-all}
+use Rattle.words.proofs.clear.Statement.{statement}
+use Rattle.words.proofs.clear.Tie as tie
 
 abbrev Inv-loop : tie.InvT-loop
 Inv-loop ws₀ from i₀ ws i = (length ws ≡ length ws₀) × (i ≤ length ws) × (cleared ws i ≡ cleared ws₀ from)
