@@ -17,7 +17,8 @@ pub fn press(
     budget: u32,
     session: &mut Session,
 ) -> Answer
-    ensures { λ a. ⌜ pressedOf (record { answer = a; session = now (session .exit) }) (now (left .exit)) (now (right .exit)) (now (scratch .exit)) ≡ press (memoryOf (now (left .entry)) (now (right .entry)) (now (session .entry))) (callOf (now (scratch .entry)) «left_length» «right_length» budget) ⌝ }
+    ensures { λ a. ⌜ pressedOf (record { answer = a; session = now (session .exit) }) (now (left .exit)) (now (right .exit)) (now (scratch .exit))
+        ≡ press (memoryOf (now (left .entry)) (now (right .entry)) (now (session .entry))) (callOf (now (scratch .entry)) «left_length» «right_length» budget) ⌝ }
 {
     let p = rounds::press(
         left,
@@ -43,7 +44,8 @@ pub fn press_owned(
     budget: u32,
     mut session: Session,
 ) -> Pressed
-    ensures { λ p. ⌜ pressedOf p (now (left .exit)) (now (right .exit)) (now (scratch .exit)) ≡ press (memoryOf (now (left .entry)) (now (right .entry)) session) (callOf (now (scratch .entry)) «left_length» «right_length» budget) ⌝ }
+    ensures { λ p. ⌜ pressedOf p (now (left .exit)) (now (right .exit)) (now (scratch .exit))
+        ≡ press (memoryOf (now (left .entry)) (now (right .entry)) session) (callOf (now (scratch .entry)) «left_length» «right_length» budget) ⌝ }
 {
     let answer = press(
         left,
