@@ -5,14 +5,15 @@ use mathlib.Core.List.{List, _++_}
 use mathlib.Core.Logic.{_↔_}
 use mathlib.Core.Option.{some, none, bind}
 use lib.IntN.{ℤ, pos, _+ℤ_}
+use lib.ListN.{getD}
 use Rattle.calculus.specs.Term.{Sort, term, Exp, var, lam, app, con, case, nil, cons, end, branch, Term, count}
-use Rattle.calculus.specs.Words.{countBase, words, size, workspaceMost}
+use Rattle.calculus.specs.Words.{applicationKind, caseKind, kindOf, countBase, words, size, workspaceMost}
 use Rattle.calculus.specs.Accepted.{Accepted}
 use Rattle.calculus.specs.Read.{read}
 use Rattle.calculus.specs.Shift.{move}
-use Rattle.calculus.specs.Contraction.{Rule, Contracts}
+use Rattle.calculus.specs.Contraction.{Rule, by-beta, by-case, Contracts}
 use Rattle.calculus.specs.Conversion.{Reaches, Joined, Normal}
-use Rattle.calculus.specs.Leftmost.{leftmost}
+use Rattle.calculus.specs.Leftmost.{Contracts-leftmost, leftmost}
 use Rattle.calculus.specs.Position.{contractAt, redexAt}
 
 -- `read` gives t exactly for the words of t where t is accepted.
@@ -41,16 +42,20 @@ Words-prefix-free =
 abbrev pub Move-exact : Type 0
 Move-exact = (z : ℤ) (i n : ℕ) → pos i +ℤ z ≡ pos n → move z i ≡ n
 
--- A contraction of t to u whose redex starts first among all redexes of t.
-abbrev pub Contracts-leftmost : Term → Term → Type 0
-Contracts-leftmost t u =
-    (p : ℕ) × (r : Rule) × Contracts term p r t u × ((q : ℕ) (r′ : Rule) (v : Term) → Contracts term q r′ t v → p ≤ q)
-
+-- `leftmost` gives what the leftmost outermost contraction gives.
 abbrev pub Leftmost-step : Type 0
 Leftmost-step = (t u : Term) → (leftmost t ≡ some u) ↔ Contracts-leftmost t u
 
 abbrev pub Leftmost-none : Type 0
 Leftmost-none = (t : Term) → (leftmost t ≡ none) ↔ Normal t
+
+-- The kind of a redex's first word, by its rule; it stands at the position of the contraction.
+abbrev pub redexKind : Rule → ℕ
+redexKind by-beta = applicationKind
+redexKind by-case = caseKind
+
+abbrev pub Contraction-position : Type 0
+Contraction-position = (p : ℕ) (r : Rule) (t u : Term) → Contracts term p r t u → kindOf (getD (words t) p 0) ≡ redexKind r
 
 -- `contractAt` gives what a contraction at that position gives.
 abbrev pub Contract-at-position : Type 0

@@ -1,0 +1,206 @@
+-- Parallel reduction: any of the redexes of an expression contracted at once. Its rules contract an application whose function reduces to an
+-- abstraction, and a case whose subject reduces to a constructor, so some redexes that arise on the way may be contracted too. It is closed under
+-- substitution (`par-subst`), and every reduct of an expression reduces on to the complete development of that expression (`triangle`).
+use Prim.Native.Nat.{ℕ, suc, _+_, _-_}
+use mathlib.Core.Path.{_≡_, refl, sym, _∙_, ap}
+use mathlib.Core.Bool.{Bool, true, false, cond}
+use mathlib.Core.Option.{Option, some, none, Option·map, Option·getD}
+use native.Mathlib.Numerals.{add-one}
+use lib.Dec.{eqb}
+use borrow.Author.Tests.{eqb-true}
+use Rattle.calculus.specs.Term.{Sort, term, terms, branches, Exp, var, lam, app, con, case, nil, cons, end, branch, Term, Terms, Branches, count}
+use Rattle.calculus.specs.Substitution.{argument, subst}
+use Rattle.calculus.specs.Contraction.{select}
+use Rattle.calculus.specs.Leftmost.{beta, inspect}
+use Rattle.calculus.proofs.Traversal.{traverse, raise, lift, sub, below-or-above, lift-below, lift-above, raise-is-sub}
+use Rattle.calculus.proofs.Substitution.{put, count-traverse, subst-is-sub, sub-subst}
+
+pub data Par : (s : Sort) → Exp s → Exp s → Type 0 where
+  par-var : {i : ℕ} → Par term (var i) (var i)
+  par-lam : {b b′ : Term} → Par term b b′ → Par term (lam b) (lam b′)
+  par-app : {f f′ a a′ : Term} → Par term f f′ → Par term a a′ → Par term (app f a) (app f′ a′)
+  par-beta : {f a a′ b : Term} → Par term f (lam b) → Par term a a′ → Par term (app f a) (subst (cons a′ nil) 0 b)
+  par-con : {t : ℕ} {xs xs′ : Terms} → Par terms xs xs′ → Par term (con t xs) (con t xs′)
+  par-case : {e e′ : Term} {bs bs′ : Branches} → Par term e e′ → Par branches bs bs′ → Par term (case e bs) (case e′ bs′)
+  par-inspect : {e u : Term} {t : ℕ} {xs : Terms} {bs bs′ : Branches} → Par term e (con t xs) → Par branches bs bs′ → select t xs bs′ ≡ some u
+      → Par term (case e bs) u
+  par-nil : Par terms nil nil
+  par-cons : {a a′ : Term} {xs xs′ : Terms} → Par term a a′ → Par terms xs xs′ → Par terms (cons a xs) (cons a′ xs′)
+  par-end : Par branches end end
+  par-branch : {t n : ℕ} {b b′ : Term} {bs bs′ : Branches} → Par term b b′ → Par branches bs bs′ → Par branches (branch t n b bs) (branch t n b′ bs′)
+
+pub par-refl : {s : Sort} (e : Exp s) → Par s e e
+par-refl (var i) = par-var
+par-refl (lam b) = par-lam (par-refl b)
+par-refl (app f a) = par-app (par-refl f) (par-refl a)
+par-refl (con t xs) = par-con (par-refl xs)
+par-refl (case e bs) = par-case (par-refl e) (par-refl bs)
+par-refl nil = par-nil
+par-refl (cons a xs) = par-cons (par-refl a) (par-refl xs)
+par-refl end = par-end
+par-refl (branch t n b bs) = par-branch (par-refl b) (par-refl bs)
+
+-- The case rule commutes with substitution.
+select-sub : (σ : ℕ → Term) (d t : ℕ) (xs : Terms) (bs : Branches) → select t (sub σ d xs) (sub σ d bs) ≡ Option·map (sub σ d) (select t xs bs)
+unfolding traverse
+select-sub σ d t xs end = refl
+select-sub σ d t xs (branch u n b bs) = rw (count-traverse (lift σ) d xs, select-sub σ d t xs bs) (by (eqb t u) (eqb (count xs) n) refl)
+  where
+    by : (tag arity : Bool) → eqb (count xs) n ≡ arity
+        → cond tag (cond arity (some (subst (sub σ d xs) 0 (sub σ (d + n) b))) none) (Option·map (sub σ d) (select t xs bs))
+        ≡ Option·map (sub σ d) (cond tag (cond arity (some (subst xs 0 b)) none) (select t xs bs))
+    by true true q = rw (← eqb-true (count xs) n q) (ap some (sym (sub-subst σ d xs b)))
+    by true false q = refl
+    by false arity q = refl
+
+-- If the terms of σ reduce to those of τ, under any number of binders, then so does what σ makes of an expression to what τ makes of its reducts.
+module _ (σ τ : ℕ → Term) (variable : (d i : ℕ) → Par term (lift σ d i) (lift τ d i)) where
+  par-traverse : {s : Sort} {e e′ : Exp s} (d : ℕ) → Par s e e′ → Par s (sub σ d e) (sub τ d e′)
+  unfolding traverse
+  par-traverse d (par-var {i = i}) = variable d i
+  par-traverse d (par-lam p) = par-lam (par-traverse (suc d) p)
+  par-traverse d (par-app p q) = par-app (par-traverse d p) (par-traverse d q)
+  par-traverse d (par-beta {a′ = a} {b = b} p q) = rw (sub-subst τ d (cons a nil) b, add-one) (par-beta (par-traverse d p) (par-traverse d q))
+  par-traverse d (par-con p) = par-con (par-traverse d p)
+  par-traverse d (par-case p q) = par-case (par-traverse d p) (par-traverse d q)
+  par-traverse d (par-inspect {t = t} {xs = xs} {bs′ = bs} p q h) =
+      par-inspect (par-traverse d p) (par-traverse d q) (select-sub τ d t xs bs ∙ ap (Option·map (sub τ d)) h)
+  par-traverse d par-nil = par-nil
+  par-traverse d (par-cons p q) = par-cons (par-traverse d p) (par-traverse d q)
+  par-traverse d par-end = par-end
+  par-traverse d (par-branch {n = n} p q) = par-branch (par-traverse (d + n) p) (par-traverse d q)
+
+par-raise : {s : Sort} {e e′ : Exp s} (n d : ℕ) → Par s e e′ → Par s (raise n d e) (raise n d e′)
+par-raise {e = e} {e′ = e′} n d p =
+    rw (raise-is-sub n d e, raise-is-sub n d e′) (par-traverse up up (λ d i. par-refl (lift up d i)) d p)
+  where
+    up : ℕ → Term
+    up i = var (i + n)
+
+par-sub : (σ τ : ℕ → Term) → ((i : ℕ) → Par term (σ i) (τ i)) → {s : Sort} {e e′ : Exp s} (d : ℕ) → Par s e e′ → Par s (sub σ d e) (sub τ d e′)
+par-sub σ τ h d p = par-traverse σ τ variable d p
+  where
+    variable : (d i : ℕ) → Par term (lift σ d i) (lift τ d i)
+    variable d i =
+        below-or-above i d
+        (λ l. rw (lift-below σ d i l, lift-below τ d i l) par-var)
+        (λ l. rw (lift-above σ d i l, lift-above τ d i l) (par-raise d 0 (h (i - d))))
+
+-- Both are none, or the one term reduces to the other.
+abbrev ParOption : Option Term → Option Term → Type 0
+ParOption none none = Unit {0}
+ParOption none (some v) = ⊥
+ParOption (some u) none = ⊥
+ParOption (some u) (some v) = Par term u v
+
+par-getD : (o o′ : Option Term) {u u′ : Term} → ParOption o o′ → Par term u u′ → Par term (Option·getD o u) (Option·getD o′ u′)
+par-getD none none h p = p
+par-getD none (some v) h p = absurd h
+par-getD (some u) none h p = absurd h
+par-getD (some u) (some v) h p = h
+
+par-count : {xs xs′ : Terms} → Par terms xs xs′ → count xs ≡ count xs′
+par-count par-nil = refl
+par-count (par-cons p q) = ap suc (par-count q)
+
+par-argument : {xs xs′ : Terms} (i : ℕ) → Par terms xs xs′ → ParOption (argument xs i) (argument xs′ i)
+par-argument i par-nil = tt
+par-argument i (par-cons {a = a} {a′ = a′} {xs = xs} {xs′ = xs′} p q) = rw (par-count q) (by (eqb i (count xs′)) (par-argument i q))
+  where
+    by : (here : Bool) → ParOption (argument xs i) (argument xs′ i)
+        → ParOption (cond here (some a) (argument xs i)) (cond here (some a′) (argument xs′ i))
+    by true h = p
+    by false h = h
+
+par-put : {xs xs′ : Terms} (i : ℕ) → Par terms xs xs′ → Par term (put xs i) (put xs′ i)
+unfolding put
+par-put {xs} {xs′} i p = rw (par-count p) (par-getD (argument xs i) (argument xs′ i) (par-argument i p) par-var)
+
+-- Parallel reduction is closed under substitution.
+pub par-subst : {xs xs′ : Terms} {s : Sort} {e e′ : Exp s} (d : ℕ) → Par terms xs xs′ → Par s e e′ → Par s (subst xs d e) (subst xs′ d e′)
+par-subst {xs} {xs′} {e = e} {e′ = e′} d p q =
+    rw (subst-is-sub xs d e, subst-is-sub xs′ d e′) (par-sub (put xs) (put xs′) (λ i. par-put i p) d q)
+
+par-select : {xs xs′ : Terms} {bs bs′ : Branches} (t : ℕ) → Par terms xs xs′ → Par branches bs bs′ → ParOption (select t xs bs) (select t xs′ bs′)
+par-select t p par-end = tt
+par-select {xs} {xs′} t p (par-branch {t = u} {n = n} {b = b} {b′ = b′} {bs = bs} {bs′ = bs′} q r) =
+    rw (par-count p) (by (eqb t u) (eqb (count xs′) n) (par-select t p r))
+  where
+    by : (tag arity : Bool) → ParOption (select t xs bs) (select t xs′ bs′)
+        → ParOption
+        (cond tag (cond arity (some (subst xs 0 b)) none) (select t xs bs))
+        (cond tag (cond arity (some (subst xs′ 0 b′)) none) (select t xs′ bs′))
+    by true true h = par-subst 0 p q
+    by true false h = tt
+    by false arity h = h
+
+-- An application, and a case, contracted if it is a redex.
+abbrev applied : Term → Term → Term
+applied f a = Option·getD (beta f a) (app f a)
+
+abbrev inspected : Term → Branches → Term
+inspected e bs = Option·getD (inspect e bs) (case e bs)
+
+-- The complete development: the parts developed, then the whole contracted if it is a redex.
+unfoldable pub develop : {s : Sort} → Exp s → Exp s
+develop (var i) = var i
+develop (lam b) = lam (develop b)
+develop (app f a) = applied (develop f) (develop a)
+develop (con t xs) = con t (develop xs)
+develop (case e bs) = inspected (develop e) (develop bs)
+develop nil = nil
+develop (cons a xs) = cons (develop a) (develop xs)
+develop end = end
+develop (branch t n b bs) = branch t n (develop b) (develop bs)
+
+app-to-applied : {f f′ a a′ : Term} → Par term f f′ → Par term a a′ → Par term (app f a) (applied f′ a′)
+app-to-applied {f′ = var i} p q = par-app p q
+app-to-applied {f′ = lam b} p q = par-beta p q
+app-to-applied {f′ = app g c} p q = par-app p q
+app-to-applied {f′ = con t xs} p q = par-app p q
+app-to-applied {f′ = case e bs} p q = par-app p q
+
+par-applied : {f f′ a a′ : Term} → Par term f f′ → Par term a a′ → Par term (applied f a) (applied f′ a′)
+par-applied par-var r = app-to-applied par-var r
+par-applied (par-lam p) r = par-subst 0 (par-cons r par-nil) p
+par-applied (par-app p q) r = app-to-applied (par-app p q) r
+par-applied (par-beta p q) r = app-to-applied (par-beta p q) r
+par-applied (par-con p) r = app-to-applied (par-con p) r
+par-applied (par-case p q) r = app-to-applied (par-case p q) r
+par-applied (par-inspect p q h) r = app-to-applied (par-inspect p q h) r
+
+case-to-inspected : {e e′ : Term} {bs bs′ : Branches} → Par term e e′ → Par branches bs bs′ → Par term (case e bs) (inspected e′ bs′)
+case-to-inspected {e′ = var i} p q = par-case p q
+case-to-inspected {e′ = lam b} p q = par-case p q
+case-to-inspected {e′ = app f a} p q = par-case p q
+case-to-inspected {e} {e′ = con t xs} {bs} {bs′} p q = by (select t xs bs′) refl
+  where
+    by : (o : Option Term) → select t xs bs′ ≡ o → Par term (case e bs) (Option·getD o (case (con t xs) bs′))
+    by none h = par-case p q
+    by (some u) h = par-inspect p q h
+case-to-inspected {e′ = case e cs} p q = par-case p q
+
+par-inspected : {e e′ : Term} {bs bs′ : Branches} → Par term e e′ → Par branches bs bs′ → Par term (inspected e bs) (inspected e′ bs′)
+par-inspected par-var r = case-to-inspected par-var r
+par-inspected (par-lam p) r = case-to-inspected (par-lam p) r
+par-inspected (par-app p q) r = case-to-inspected (par-app p q) r
+par-inspected (par-beta p q) r = case-to-inspected (par-beta p q) r
+par-inspected {bs = bs} {bs′ = bs′} (par-con {t = t} {xs = xs} {xs′ = xs′} p) r =
+    par-getD (select t xs bs) (select t xs′ bs′) (par-select t p r) (par-case (par-con p) r)
+par-inspected (par-case p q) r = case-to-inspected (par-case p q) r
+par-inspected (par-inspect p q h) r = case-to-inspected (par-inspect p q h) r
+
+-- Whatever is contracted at once, the rest of the development can follow at once.
+pub triangle : {s : Sort} {e g : Exp s} → Par s e g → Par s g (develop e)
+unfolding develop
+triangle par-var = par-var
+triangle (par-lam p) = par-lam (triangle p)
+triangle (par-app p q) = app-to-applied (triangle p) (triangle q)
+triangle (par-beta p q) = par-applied (triangle p) (triangle q)
+triangle (par-con p) = par-con (triangle p)
+triangle (par-case p q) = case-to-inspected (triangle p) (triangle q)
+triangle (par-inspect p q h) = rw h at (par-inspected (triangle p) (triangle q))
+triangle par-nil = par-nil
+triangle (par-cons p q) = par-cons (triangle p) (triangle q)
+triangle par-end = par-end
+triangle (par-branch p q) = par-branch (triangle p) (triangle q)

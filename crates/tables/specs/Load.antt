@@ -1,0 +1,59 @@
+-- Loading ("The stored table", "Numbers for refused calls"), as a function of everything at entry to everything at exit.
+use Prim.Native.Nat.{ℕ}
+use mathlib.Core.Bool.{Bool, cond}
+use mathlib.Core.List.{List, [], _∷_}
+use mathlib.Core.Option.{Option, some, none}
+use lib.ListN.{length}
+use Rattle.calculus.specs.Term.{Term}
+use Rattle.calculus.specs.Words.{words, size}
+use Rattle.calculus.specs.Workspace.{padded}
+use Rattle.calculus.specs.Refusal.{wrongLengthNumber, wrongHeaderNumber, wrongValueNumber, wrongLinkNumber, wrongChildrenNumber}
+use Rattle.calculus.specs.Refusal.{wrongFreeNumber, wrongWorkspaceNumber, tooLongNumber}
+use Rattle.tables.specs.Records.{view1}
+use Rattle.tables.specs.Meaning.{meaning}
+use Rattle.tables.specs.Refusals.{wrongWorkspace, wrongLength, wrongHeader, tooLong, wrongValue, wrongLink, wrongChildren, wrongFree}
+
+-- The answer of loading and of writing: the number of the refusal, or what is returned, the length of the term or the number of records.
+pub data Answer : Type 0 where
+  refused : ℕ → Answer
+  returned : ℕ → Answer
+
+-- Everything at exit.
+pub record Loaded : Type 0 where
+  pub answer : Answer
+  pub workspace : List ℕ
+
+-- The refusals in the order in which loading checks them, 7, 1, 2, 8, 3, 4, 5, 6, each with whether it is met, by the table and the length C of
+-- the workspace.
+abbrev pub checks : (table : List ℕ) (C : ℕ) → List (ℕ × Bool)
+checks table C =
+    (wrongWorkspaceNumber, wrongWorkspace C)
+    ∷ (wrongLengthNumber, wrongLength table)
+    ∷ (wrongHeaderNumber, wrongHeader table)
+    ∷ (tooLongNumber, tooLong (view1 table) C)
+    ∷ (wrongValueNumber, wrongValue (view1 table))
+    ∷ (wrongLinkNumber, wrongLink (view1 table))
+    ∷ (wrongChildrenNumber, wrongChildren (view1 table))
+    ∷ (wrongFreeNumber, wrongFree (view1 table))
+    ∷ []
+
+abbrev pub firstMet : List (ℕ × Bool) → Option ℕ
+firstMet [] = none
+firstMet (c ∷ cs) = cond (c .1) (some (c .0)) (firstMet cs)
+
+-- A refusal changes nothing.
+abbrev pub refuseLoad : (workspace : List ℕ) → ℕ → Loaded
+refuseLoad workspace k = record { answer = refused k; workspace = workspace }
+
+-- The words of the term that the table means, and zeros after them. A table that meets no refusal means a term, so the first clause, which
+-- answers as for wrong children, never arises (`Sound-means`).
+abbrev pub place : (workspace : List ℕ) → Option Term → Loaded
+place workspace none = refuseLoad workspace wrongChildrenNumber
+place workspace (some t) = record { answer = returned (size t); workspace = padded (length workspace) (words t) }
+
+abbrev pub loadUnless : Option ℕ → (table workspace : List ℕ) → Loaded
+loadUnless (some k) table workspace = refuseLoad workspace k
+loadUnless none table workspace = place workspace (meaning (view1 table))
+
+unfoldable pub load : (table workspace : List ℕ) → Loaded
+load table workspace = loadUnless (firstMet (checks table (length workspace))) table workspace

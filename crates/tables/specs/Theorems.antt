@@ -1,0 +1,85 @@
+-- What is owed about tables: each statement is a type with a name, and its proof in proofs/ has that type.
+use Prim.Native.Nat.{ℕ, _+_, _-_, _*_, _≤_}
+use mathlib.Core.Path.{_≡_}
+use mathlib.Core.Bool.{Bool, true, false}
+use mathlib.Core.List.{List, [], _∷_, _++_}
+use mathlib.Core.Logic.{_↔_, _⊎_}
+use mathlib.Core.Option.{some}
+use lib.ListN.{length, replicate}
+use Rattle.calculus.specs.Term.{Sort, term, Exp, Term}
+use Rattle.calculus.specs.Words.{words, size}
+use Rattle.calculus.specs.Accepted.{Accepted}
+use Rattle.tables.specs.Records.{Table, recordWords, view1}
+use Rattle.tables.specs.Meaning.{Means, isRecord, meaning}
+use Rattle.tables.specs.Refusals.{wrongWorkspace, wrongValue, wrongLink, wrongChildren, wrongFree}
+use Rattle.tables.specs.Load.{refused, returned, checks, load}
+use Rattle.tables.specs.PrefixOrder.{InPrefixOrder}
+use Rattle.tables.specs.Write.{write}
+
+-- A table of records, in any form, whose root is one of them and that meets none of refusals 3 to 6.
+pub record Sound (T : Table) : Type 0 where
+  pub root-inside : isRecord T (T .root) ≡ true
+  pub values : wrongValue T ≡ false
+  pub links : wrongLink T ≡ false
+  pub children-fit : wrongChildren T ≡ false
+  pub free-numbers : wrongFree T ≡ false
+
+-- It means a term, which is accepted and has as many words as the table has records.
+pub record Meant (T : Table) : Type 0 where
+  pub meant : Term
+  pub means : Means T term (T .root) meant
+  pub accepted : Accepted 0 meant
+  pub length-is : size meant ≡ T .n
+
+abbrev pub Sound-means : Type 0
+Sound-means = (T : Table) → Sound T → Meant T
+
+-- Whatever a table holds, an index means at most one expression of a sort.
+abbrev pub Means-unique : Type 0
+Means-unique = (T : Table) (s : Sort) (i : ℕ) (e g : Exp s) → Means T s i e → Means T s i g → e ≡ g
+
+-- What `meaning` computes is what the table means, and where links name later records it computes all that the table means.
+abbrev pub Meaning-sound : Type 0
+Meaning-sound = (T : Table) (t : Term) → meaning T ≡ some t → Means T term (T .root) t
+
+abbrev pub Meaning-complete : Type 0
+Meaning-complete = (T : Table) (t : Term) → wrongLink T ≡ false → Means T term (T .root) t → meaning T ≡ some t
+
+-- Number k is met, and none before it is.
+abbrev pub FirstMet : ℕ → List (ℕ × Bool) → Type 0
+FirstMet k [] = ⊥
+FirstMet k (c ∷ cs) = ((c .1 ≡ true) × (c .0 ≡ k)) ⊎ ((c .1 ≡ false) × FirstMet k cs)
+
+abbrev pub NoneMet : List (ℕ × Bool) → Type 0
+NoneMet [] = Unit {0}
+NoneMet (c ∷ cs) = (c .1 ≡ false) × NoneMet cs
+
+-- Loading refuses exactly what it must, and a refusal changes nothing; otherwise the workspace holds the term that the table means, with zeros
+-- after it, and its length is returned.
+pub record LoadsExactly (table workspace : List ℕ) : Type 0 where
+  pub refuses : (k : ℕ) → (load table workspace .answer ≡ refused k) ↔ FirstMet k (checks table (length workspace))
+  pub unchanged : (k : ℕ) → load table workspace .answer ≡ refused k → load table workspace .workspace ≡ workspace
+  pub returns : (l : ℕ) → (load table workspace .answer ≡ returned l) ↔ (NoneMet (checks table (length workspace)) × (view1 table .n ≡ l))
+  pub holds : (l : ℕ) → load table workspace .answer ≡ returned l
+      → (t : Term) × Means (view1 table) term (view1 table .root) t × Accepted 0 t × (size t ≡ l)
+      × (load table workspace .workspace ≡ words t ++ replicate (length workspace - l) 0)
+
+abbrev pub Loading-exact : Type 0
+Loading-exact = (table workspace : List ℕ) → LoadsExactly table workspace
+
+-- Loading what was written gives the term again: for every accepted term that a workspace holds, whatever stands after it there and in the two
+-- lent parts that are written to.
+abbrev pub Load-after-write : Type 0
+Load-after-write =
+    (t : Term) (rest table target : List ℕ) → Accepted 0 t → wrongWorkspace (length (words t ++ rest)) ≡ false
+    → length table ≡ recordWords * (size t + 1) → wrongWorkspace (length target) ≡ false → size t ≤ length target
+    → (write (words t ++ rest) (size t) table .answer ≡ returned (size t))
+    × (load (write (words t ++ rest) (size t) table .table) target .answer ≡ returned (size t))
+    × (load (write (words t ++ rest) (size t) table .table) target .workspace ≡ words t ++ replicate (length target - size t) 0)
+
+-- Writing what was loaded gives the table again exactly when its records were in prefix order, whatever the part that is written to held.
+abbrev pub Write-after-load : Type 0
+Write-after-load =
+    (table workspace out : List ℕ) (l : ℕ) → load table workspace .answer ≡ returned l → length out ≡ length table
+    → (write (load table workspace .workspace) l out .answer ≡ returned l)
+    × ((write (load table workspace .workspace) l out .table ≡ table) ↔ InPrefixOrder (view1 table))

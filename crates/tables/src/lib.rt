@@ -1,0 +1,1 @@
+// Loading a stored table and writing one.
