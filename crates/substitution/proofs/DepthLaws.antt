@@ -1,4 +1,4 @@
--- Laws of `depths`: no more numbers than words, and each at most `argumentLimit` for each word before it.
+-- Laws of `depths`: no more numbers than words, and each at most `countBase` for each word before it.
 use Prim.Native.Nat.{ℕ, zero, suc, _+_, _*_, _≤_}
 use mathlib.Core.Path.{_≡_, refl}
 use mathlib.Core.Bool.{Bool, true, false, cond}
@@ -6,8 +6,7 @@ use mathlib.Core.List.{List, [], _∷_, _++_}
 use native.Mathlib.Omega.{arith}
 use lib.Dec.{eqb}
 use lib.ListN.{length, replicate}
-use Rattle.calculus.specs.Words.{abstractionKind, branchKind, kindOf, payloadOf, countOf}
-use Rattle.calculus.specs.Accepted.{argumentLimit}
+use Rattle.calculus.specs.Words.{abstractionKind, branchKind, countBase, kindOf, payloadOf, countOf}
 use Rattle.calculus.specs.Skip.{arity}
 use Rattle.substitution.specs.Depths.{bound, binders, depths}
 
@@ -33,22 +32,22 @@ bounded-replicate : (b n d : ℕ) (ds : List ℕ) → d ≤ b → Bounded b ds �
 bounded-replicate b zero d ds h p = p
 bounded-replicate b (suc n) d ds h p = (h, bounded-replicate b n d ds h p)
 
-pub bound-few : (k p : ℕ) {b : ℕ} → b ≡ bound k p → b ≤ argumentLimit
+pub bound-few : (k p : ℕ) {b : ℕ} → b ≡ bound k p → b ≤ countBase
 unfolding bound
 bound-few k p q = rw q (go (eqb k abstractionKind) (eqb k branchKind))
   where
-    go : (x y : Bool) → cond x 1 (cond y (countOf p) 0) ≤ argumentLimit
+    go : (x y : Bool) → cond x 1 (cond y (countOf p) 0) ≤ countBase
     go true y = omega arith
     go false true = omega arith
     go false false = omega arith
 
--- A word adds at most `argumentLimit` to the binders around the items to come.
-pub bounded-word : (b c w d : ℕ) (ds : List ℕ) → Bounded b (d ∷ ds) → b + argumentLimit ≤ c → Bounded c (replicate (arity w) (d + binders w) ++ ds)
+-- A word adds at most `countBase` to the binders around the items to come.
+pub bounded-word : (b c w d : ℕ) (ds : List ℕ) → Bounded b (d ∷ ds) → b + countBase ≤ c → Bounded c (replicate (arity w) (d + binders w) ++ ds)
 bounded-word b c w d ds p h =
     bounded-replicate c (arity w) (d + binders w) ds (omega (arith, bound-few (kindOf w) (payloadOf w) refl)) (bounded-weaken b c ds (omega arith) (p .1))
 
-pub bounded-depths : (ws ds : List ℕ) (b c : ℕ) → Bounded b ds → b + argumentLimit * length ws ≤ c → Bounded c (depths ds ws)
+pub bounded-depths : (ws ds : List ℕ) (b c : ℕ) → Bounded b ds → b + countBase * length ws ≤ c → Bounded c (depths ds ws)
 bounded-depths [] ds b c p h = tt
 bounded-depths (w ∷ ws) [] b c p h = tt
 bounded-depths (w ∷ ws) (d ∷ ds) b c p h =
-    (omega arith, bounded-depths ws _ (b + argumentLimit) c (bounded-word b (b + argumentLimit) w d ds p (omega arith)) (omega arith))
+    (omega arith, bounded-depths ws _ (b + countBase) c (bounded-word b (b + countBase) w d ds p (omega arith)) (omega arith))

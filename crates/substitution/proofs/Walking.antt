@@ -7,8 +7,7 @@ use native.Mathlib.Numerals.{add-one}
 use native.Mathlib.Omega.{arith}
 use lib.ListN.{length, getD, drop, set, replicate, length-set, drop-of-length-le}
 use lib.Seq.{sets, drop-cons, getD-set-same, getD-set-other}
-use Rattle.calculus.specs.Words.{workspaceMost}
-use Rattle.calculus.specs.Accepted.{argumentLimit}
+use Rattle.calculus.specs.Words.{workspaceMost, countBase}
 use Rattle.calculus.specs.Skip.{arity}
 use Rattle.substitution.specs.Depths.{binders, depths}
 use Rattle.substitution.specs.Rewritten.{Written}
@@ -76,7 +75,7 @@ pub record Walking (src : List ℕ) (at : ℕ) (depth₀ depth left around : Lis
   pub left-room : length left ≡ suc workspaceMost
   pub around-room : length around ≡ suc workspaceMost
   pub same-length : length depth ≡ length depth₀
-  pub bounded : Bounded (argumentLimit * (i - at)) (pending left around groups)
+  pub bounded : Bounded (countBase * (i - at)) (pending left around groups)
   pub work : sets depth (i - at) (depths (pending left around groups) (drop i src)) ≡ sets depth₀ 0 (depths (0 ∷ []) (drop at src))
   pub count : i - at + length (depths (pending left around groups) (drop i src)) ≡ length (depths (0 ∷ []) (drop at src))
 
@@ -120,7 +119,7 @@ module _ {src : List ℕ} {at : ℕ} {depth₀ depth left around : List ℕ} {gr
     abbrev d : ℕ
     d = getD around (groups - 1) 0
 
-    pub binders-bounded : d ≤ argumentLimit * (i - at)
+    pub binders-bounded : d ≤ countBase * (i - at)
     binders-bounded = (rw (pending-next left around groups more some) at (v .bounded)) .0
 
     module _ (a b : ℕ) (arity-is : a ≡ arity w) (binders-is : b ≡ binders w) where
@@ -144,7 +143,7 @@ module _ {src : List ℕ} {at : ℕ} {depth₀ depth left around : List ℕ} {gr
             same-length = simp length-set (v .same-length);
             bounded =
                 rw (q, s, arity-is, binders-is)
-                (bounded-word (argumentLimit * (i - at)) (argumentLimit * suc (i - at)) w d _ (rw p at (v .bounded)) (omega arith));
+                (bounded-word (countBase * (i - at)) (countBase * suc (i - at)) w d _ (rw p at (v .bounded)) (omega arith));
             work = rw s (rw e at (v .work));
             count = omega (arith, rw e at (v .count));
           }

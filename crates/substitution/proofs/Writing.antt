@@ -8,8 +8,7 @@ use native.Mathlib.Omega.{arith}
 use lib.ListN.{length, getD, drop, set, length-append, length-drop, drop-of-length-le, List·getD-append}
 use lib.Seq.{sets, length-sets, sets-eq, drop-cons, getD-drop}
 use Rattle.calculus.specs.Term.{Term}
-use Rattle.calculus.specs.Words.{workspaceMost}
-use Rattle.calculus.specs.Accepted.{argumentLimit}
+use Rattle.calculus.specs.Words.{workspaceMost, countBase}
 use Rattle.substitution.specs.Depths.{depths}
 use Rattle.substitution.specs.Rewritten.{rewritten, Written}
 use Rattle.substitution.proofs.DepthLaws.{length-depths, Bounded, bounded-depths}
@@ -73,11 +72,11 @@ module _ {src : List ℕ} {at : ℕ} {depth : List ℕ} {count : ℕ} (h : Found
 
   -- The k-th word.
   module _ (k : ℕ) (more : k < count) where
-    pub found-bounded : getD depth k 0 ≤ argumentLimit * workspaceMost
+    pub found-bounded : getD depth k 0 ≤ countBase * workspaceMost
     found-bounded =
         rw (h .around k more)
-        (bounded-at (argumentLimit * workspaceMost) (depths (0 ∷ []) (drop at src)) k
-        (bounded-depths (drop at src) (0 ∷ []) 0 (argumentLimit * workspaceMost) (omega arith, tt) (omega (arith, length-drop at src))))
+        (bounded-at (countBase * workspaceMost) (depths (0 ∷ []) (drop at src)) k
+        (bounded-depths (drop at src) (0 ∷ []) 0 (countBase * workspaceMost) (omega arith, tt) (omega (arith, length-drop at src))))
 
     ahead-next : ahead src at k ≡ (getD depth k 0, getD src (at + k) 0) ∷ ahead src at (k + 1)
     ahead-next =

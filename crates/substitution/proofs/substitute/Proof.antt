@@ -9,8 +9,7 @@ use mir.Syntax.{w32}
 use mir.Val.{toZ, ofZ}
 use mir.ValLaws.{toZ-ofZ}
 use Rattle.calculus.specs.Term.{Terms}
-use Rattle.calculus.specs.Words.{workspaceMost, words}
-use Rattle.calculus.specs.Accepted.{argumentLimit}
+use Rattle.calculus.specs.Words.{workspaceMost, countBase, words}
 use Rattle.calculus.specs.First.{firstTerms}
 use Rattle.substitution.specs.Rewritten.{shifting, substituting, rewritten, place}
 use Rattle.substitution.specs.Results.{shifted, substituted}
@@ -75,7 +74,7 @@ module _ (c : tie.In-loop Inv-loop μ-loop) where
   abbrev l : tie.At-loop Inv-loop μ-loop
   l = c .before
 
-  few-binders : depth l ≤ argumentLimit * workspaceMost
+  few-binders : depth l ≤ countBase * workspaceMost
   few-binders = found-bounded (item l) (l .loop .k) (c .loop-test .taken)
 
   room : l .loop .o + length (rewritten (substituting (xs l)) (depth l) (word l)) ≤ length (l .loop .dst)

@@ -5,8 +5,7 @@ use mathlib.Core.List.{List}
 use native.Mathlib.Omega.{arith}
 use lib.ListN.{length, getD, drop}
 use Rattle.calculus.specs.Term.{Terms}
-use Rattle.calculus.specs.Words.{workspaceMost}
-use Rattle.calculus.specs.Accepted.{argumentLimit}
+use Rattle.calculus.specs.Words.{workspaceMost, countBase}
 use Rattle.calculus.specs.First.{firstTerms}
 use Rattle.substitution.specs.Rewritten.{substituting, rewritten}
 use Rattle.substitution.specs.Results.{substituted}
@@ -89,7 +88,7 @@ module _ (c : tie.Then1 Inv-loop μ-loop) where
   abbrev l : tie.At-loop Inv-loop μ-loop
   l = c .before .before .before .before
 
-  few-binders : depth l ≤ argumentLimit * workspaceMost
+  few-binders : depth l ≤ countBase * workspaceMost
   few-binders = found-bounded (item l) (l .loop .k) (c .before .before .before .loop-test .taken)
 
   long : length (rewritten (substituting (xs l)) (depth l) (word l))

@@ -4,7 +4,7 @@ use mathlib.Core.Path.{refl}
 use native.Mathlib.Omega.{arith}
 use borrow.Author.Needs.{needs}
 use lib.ListN.{length, getD}
-use Rattle.calculus.specs.Accepted.{argumentLimit}
+use Rattle.calculus.specs.Words.{countBase}
 use Rattle.substitution.proofs.DepthLaws.{bound-few}
 use Rattle.substitution.proofs.Walking.{Walking, walking-start, walking-empty, binders-bounded, walking-word, walking-no-item, walking-no-word}
 use Rattle.substitution.proofs.depths.depths.Statement.{statement}
@@ -102,7 +102,7 @@ module _ (c : tie.Else2 Inv-loop μ-loop) where
   abbrev start : tie.Start Inv-loop μ-loop
   start = l .before .before .before
 
-  bounded : getD (l .loop .around) (l .loop .groups - 1) 0 ≤ argumentLimit * (l .loop .i - start .args .at)
+  bounded : getD (l .loop .around) (l .loop .groups - 1) 0 ≤ countBase * (l .loop .i - start .args .at)
   bounded = binders-bounded (l .loop .inv) (c .before .before .loop-test .taken) (start .pre .0) (c .before .if1 .left) (c .if2 .left)
 
 add-around : tie.Need-add-around Inv-loop μ-loop

@@ -1,5 +1,5 @@
 -- `substitution::moved` meets its contract. Index and distance are read back from their bits unchanged at both widths, so the machine's sum is
--- the sum of integers, which the `requires` says is a payload. Assumes nothing.
+-- the sum of integers, which the `requires` says is a payload.
 use mathlib.Core.Path.{_≡_, _∙_, ap, ap₂}
 use native.Mathlib.Omega.{arith}
 use borrow.Author.Needs.{needs}
