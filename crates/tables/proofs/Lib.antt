@@ -27,3 +27,4 @@ pub mod ShapeLaws
 pub mod ReadingLaws
 pub mod Stores
 pub mod ReadingMeaning
+pub mod LoadCode
