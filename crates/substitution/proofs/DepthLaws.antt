@@ -8,7 +8,8 @@ use lib.Dec.{eqb}
 use lib.ListN.{length, replicate}
 use Rattle.calculus.specs.Words.{abstractionKind, branchKind, countBase, kindOf, payloadOf, countOf}
 use Rattle.calculus.specs.Skip.{arity}
-use Rattle.substitution.specs.Depths.{bound, binders, depths}
+use Rattle.substitution.specs.Depths.{depths}
+use Rattle.words.specs.Bound.{binding as bound, bound as binders}
 
 pub depths-done : (ws : List ℕ) → depths [] ws ≡ []
 depths-done [] = refl

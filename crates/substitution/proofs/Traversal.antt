@@ -16,7 +16,8 @@ use Rattle.calculus.specs.Substitution.{subst}
 use Rattle.calculus.specs.Theorems.{Packable}
 use Rattle.calculus.proofs.WordLaws.{kindOf-word, payloadOf-word, countOf-pack}
 use Rattle.substitution.specs.Moves.{Movable}
-use Rattle.substitution.specs.Depths.{bound, binders, depths}
+use Rattle.substitution.specs.Depths.{depths}
+use Rattle.words.specs.Bound.{binding as bound, bound as binders}
 use Rattle.substitution.specs.Rewritten.{shifting, substituting, rewritten}
 use Rattle.substitution.proofs.DepthLaws.{depths-done}
 use Rattle.substitution.proofs.RewrittenLaws.{rewritten-variable, rewritten-other}

@@ -9,7 +9,8 @@ use lib.ListN.{length, getD, drop, set, replicate, length-set, drop-of-length-le
 use lib.Seq.{sets, drop-cons, getD-set-same, getD-set-other}
 use Rattle.calculus.specs.Words.{workspaceMost, countBase}
 use Rattle.calculus.specs.Skip.{arity}
-use Rattle.substitution.specs.Depths.{binders, depths}
+use Rattle.substitution.specs.Depths.{depths}
+use Rattle.words.specs.Bound.{bound as binders}
 use Rattle.substitution.specs.Rewritten.{Written}
 use Rattle.substitution.proofs.DepthLaws.{depths-done, Bounded, bounded-word}
 

@@ -5,19 +5,8 @@ ghost use mathlib.Core.List.{[], _∷_};
 ghost use Prim.Native.Nat.{_≤_};
 ghost use lib.ListN.{length, drop};
 ghost use Rattle.calculus.specs.Words.{workspaceMost};
-ghost use Rattle.substitution.specs.Depths.{binders, depths};
+ghost use Rattle.substitution.specs.Depths.{depths};
 ghost use Rattle.substitution.specs.Rewritten.{Written};
-
-// How many binders a word puts around the items that follow it.
-fn binders(w: u32) -> u32
-    ensures { λ r. ⌜ r ≡ binders w ⌝ }
-{
-    match Word(w).kind() {
-        Word::ABSTRACTION => 1,
-        Word::BRANCH => Word(w).count(),
-        _ => 0,
-    }
-}
 
 // Writes the number of binders around each word of the item that starts at a position, and returns how many words these are. The items still to
 // come are kept in groups under the same binders, the next of them last; a word opens one group.
@@ -43,7 +32,7 @@ pub fn depths(src: &[u32], at: usize, depth: &mut [u32]) -> usize
             depth[i - at] = d;
             left[g] = left[g] - 1;
             left[groups] = Word(w).arity();
-            around[groups] = d + binders(w);
+            around[groups] = d + Word(w).bound();
             groups += 1;
             i += 1;
         }

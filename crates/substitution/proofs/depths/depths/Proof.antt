@@ -91,8 +91,8 @@ mul-left-3 c = search needs
 array-write-left-3 : tie.Need-array-write-left-3 Inv-loop μ-loop
 array-write-left-3 c = omega arith
 
-binders-requires : tie.Need-binders-requires Inv-loop μ-loop
-binders-requires c κs = search needs
+bound-requires : tie.Need-bound-requires Inv-loop μ-loop
+bound-requires c κs = search needs
 
 -- The turn of a word.
 module _ (c : tie.Else2 Inv-loop μ-loop) where
@@ -108,7 +108,7 @@ module _ (c : tie.Else2 Inv-loop μ-loop) where
 add-around : tie.Need-add-around Inv-loop μ-loop
 add-around c =
     let m = c .before .before .before in
-    omega (arith, bound-few _ _ (c .binders .ensures), bounded m)
+    omega (arith, bound-few _ _ (c .bound .ensures), bounded m)
 
 mul-around : tie.Need-mul-around Inv-loop μ-loop
 mul-around c = search needs
@@ -129,7 +129,7 @@ loop-again-2 : tie.Need-loop-again-2 Inv-loop μ-loop
 loop-again-2 c =
     let m = c .before .before .before in
     walking-word (l m .loop .inv) (m .before .before .loop-test .taken) (start m .pre .0) (m .before .if1 .left) (m .if2 .left) _ _
-    (c .before .arity .ensures) (c .binders .ensures)
+    (c .before .arity .ensures) (c .bound .ensures)
 
 sub-result-2 : tie.Need-sub-result-2 Inv-loop μ-loop
 sub-result-2 c = omega arith
@@ -171,7 +171,7 @@ depths-spec =
     arity-requires
     mul-left-3
     array-write-left-3
-    binders-requires
+    bound-requires
     add-around
     mul-around
     array-write-around
