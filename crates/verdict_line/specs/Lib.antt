@@ -1,0 +1,5 @@
+-- What the verdict program prints for the bytes that it reads.
+pub mod Bytes
+pub mod Request
+pub mod Decimal
+pub mod Line

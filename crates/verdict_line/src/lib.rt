@@ -1,0 +1,1 @@
+// The verdict program's work on slices: bytes in, the printed line out.
