@@ -1,4 +1,4 @@
--- The starred bench pairs hold, by computation.
+-- The starred bench pairs and the edges of the rules hold, by computation.
 use mathlib.Core.Path.{refl}
 use mathlib.Core.Logic.{Dec·and}
 use mathlib.Core.Option.{bind, orElse}
@@ -9,6 +9,7 @@ use Rattle.calculus.specs.Leftmost.{leftmost}
 use Rattle.calculus.specs.Equality.{tree, from-trees, equal?}
 use Rattle.calculus.specs.Rounds.{round, rounds}
 use Rattle.calculus.specs.Bench.{Starred, contracted, judged}
+use Rattle.calculus.specs.Boundaries.{Boundaries}
 
 pub starred : Starred
 unfolding contracted judged read items item takeTerm takeTerms takeBranches readLam readApp readCon readCase readBranch oneTerm accepted? both₃ both₄ isTag? startsAbove? rising? Dec·and decLe decLt bind orElse leftmost tree from-trees equal? ℕ-discrete round rounds
@@ -28,4 +29,35 @@ starred =
       branch-of-the-tag = refl;
       last-argument-is-index-0 = refl;
       other-count-is-stuck = refl;
+    }
+
+pub boundaries : Boundaries
+unfolding contracted judged read items item takeTerm takeTerms takeBranches readLam readApp readCon readCase readBranch oneTerm accepted? both₃ both₄ isTag? startsAbove? rising? Dec·and decLe decLt bind orElse leftmost tree from-trees equal? ℕ-discrete round rounds
+boundaries =
+    record {
+      both-move-within-budget = refl;
+      both-move-one-short = refl;
+      right-alone-moves = refl;
+      budget-before-full = refl;
+      full = refl;
+      next-term-of-C-words = refl;
+      left-too-long = refl;
+      right-too-long = refl;
+      right-too-long-one-short = refl;
+      right-alone-too-long = refl;
+      free-255 = refl;
+      free-256 = refl;
+      tag-1 = refl;
+      tag-0 = refl;
+      tag-255 = refl;
+      tag-256 = refl;
+      branch-tag-255 = refl;
+      branch-tag-256 = refl;
+      branch-tag-0 = refl;
+      arguments-15 = refl;
+      bound-15 = refl;
+      bound-15-free-256 = refl;
+      branches-15 = refl;
+      branches-16 = refl;
+      tags-equal = refl;
     }

@@ -14,6 +14,19 @@ pub star-map : {A B : Type 0} {R : A → A → Type 0} {S : B → B → Type 0} 
 star-map f h stop = stop
 star-map f h (step {a = a} {b = b} r s) = step (h a b r) (star-map f h s)
 
+chain-of-star : {A : Type 0} {R : A → A → Type 0} {a b : A} → Star R a b → Chain R a b
+chain-of-star stop = alone
+chain-of-star (step r s) = link (inl r) (chain-of-star s)
+
+chain-then-star : {A : Type 0} {R : A → A → Type 0} {a b c : A} → Chain R a b → Star R b c → Chain R a c
+chain-then-star alone s = chain-of-star s
+chain-then-star (link l k) s = link l (chain-then-star k s)
+
+-- Reducts of joined elements are joined.
+pub reducts-joined : {A : Type 0} {R : A → A → Type 0} {a a′ b b′ : A} → Star R a a′ → Star R b b′ → Chain R a b → Chain R a′ b′
+reducts-joined stop q l = chain-then-star l q
+reducts-joined (step r p) q l = reducts-joined p q (link (inr r) l)
+
 -- Both lead to one element.
 abbrev pub Meet : {A : Type 0} → (A → A → Type 0) → A → A → Type 0
 Meet {A} R a b = (c : A) × Star R a c × Star R b c

@@ -1,13 +1,12 @@
--- The starred bench pairs ("Bench pairs"), from the document's word lists through `read`; C is 16 where the row names none.
+-- The starred bench pairs ("Bench pairs"), from the document's word lists through `read`; C is 16 and the budget 0 where the row names none.
 use Prim.Native.Nat.{ℕ}
 use mathlib.Core.Path.{_≡_}
 use mathlib.Core.List.{List, [], _∷_, _++_}
 use mathlib.Core.Option.{Option, some, none, Option·map, bind}
-use Rattle.calculus.specs.Term.{Term}
 use Rattle.calculus.specs.Words.{words, size}
 use Rattle.calculus.specs.Read.{read}
 use Rattle.calculus.specs.Leftmost.{leftmost}
-use Rattle.calculus.specs.Rounds.{Verdict, Same, Different, Budget, Full, Outcome, rounds}
+use Rattle.calculus.specs.Rounds.{Verdict, Same, Different, Budget, rounds}
 
 -- The words after one leftmost contraction of the term that these words are: none where they are no term, and none inside where it is normal.
 unfoldable pub contracted : List ℕ → Option (Option (List ℕ))
@@ -28,9 +27,11 @@ unfoldable pub judged : (left right : List ℕ) (C budget : ℕ) → Option Show
 judged left right C budget =
     bind (read left) (λ t. Option·map (λ u. let o = rounds C budget t u in shown (o .verdict) (o .spent) (size (o .left)) (size (o .right))) (read right))
 
+-- The document's Loop, and the variables of free number 0 and 1.
 abbrev pub loop : List ℕ
 loop = 2 ∷ 1 ∷ 2 ∷ 0 ∷ 0 ∷ 1 ∷ 2 ∷ 0 ∷ 0 ∷ []
 
+-- The first of two arguments: an application of (λ λ 1) to f0, with the second argument still to come.
 abbrev pub projection : List ℕ
 projection = 2 ∷ 2 ∷ 1 ∷ 1 ∷ 8 ∷ 0 ∷ []
 

@@ -2,7 +2,7 @@
 --
 -- `Contracts s p r e g` says that e, of sort s, becomes g by one contraction with rule r of the redex whose first word stands at position p of
 -- e's words. A case whose branch of the tag binds another number than the constructor's arguments is stuck, and so is an application of a
--- constructor: no clause has them. Where branches repeat a tag, which no accepted term does, the first of them decides.
+-- constructor: no rule applies to them. Where branches repeat a tag, which no accepted term does, the first of them decides.
 use Prim.Native.Nat.{ℕ, suc, _+_}
 use mathlib.Core.Path.{_≡_}
 use mathlib.Core.Bool.{cond}

@@ -1,5 +1,5 @@
 -- Acceptance is decidable, computed. The type says all that is decided; nothing else here needs to be read.
-use Prim.Native.Nat.{ℕ, suc, _+_, _≤_, _<_}
+use Prim.Native.Nat.{ℕ, suc, _+_}
 use mathlib.Core.Logic.{Dec·and}
 use native.Mathlib.Decide.{decLe, decLt}
 use Rattle.calculus.specs.Term.{Sort, Exp, var, lam, app, con, case, nil, cons, end, branch, Branches, count}

@@ -1,11 +1,11 @@
 -- The first items of a word list as trees, whatever words follow them: what the code's positions inside a workspace stand for. Where the list does
 -- not start so, the value is a fixed one that no contract uses.
 use Prim.Native.Nat.{ℕ}
-use mathlib.Core.List.{List, [], _∷_}
-use mathlib.Core.Option.{Option, some, none, bind, Option·map, Option·getD}
+use mathlib.Core.List.{List}
+use mathlib.Core.Option.{bind, Option·map, Option·getD}
 use lib.ListN.{take}
 use Rattle.calculus.specs.Term.{Term, Terms, Branches, var, nil, end}
-use Rattle.calculus.specs.Read.{Item, items, takeTerm, takeTerms, takeBranches}
+use Rattle.calculus.specs.Read.{items, takeTerm, takeTerms, takeBranches}
 use Rattle.calculus.specs.Skip.{span}
 
 -- The first term, the first n terms and the first n branches.

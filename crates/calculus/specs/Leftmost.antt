@@ -1,9 +1,15 @@
--- The leftmost outermost contraction as a function: what the redex whose first word comes earliest gives, or none in a normal term.
--- The relation `Contracts` is the definition; `Leftmost-step` states that this function follows it.
+-- The leftmost outermost redex is the one whose first word comes earliest ("Contraction"), and the contraction of it as a function, which gives
+-- none in a normal term. The relation is the definition; `Leftmost-step` and `Leftmost-none` state that the function follows it.
+use Prim.Native.Nat.{ℕ, _≤_}
 use mathlib.Core.Option.{Option, some, none, Option·map, orElse}
-use Rattle.calculus.specs.Term.{Sort, Exp, var, lam, app, con, case, nil, cons, end, branch, Term, Branches}
+use Rattle.calculus.specs.Term.{Sort, term, Exp, var, lam, app, con, case, nil, cons, end, branch, Term, Branches}
 use Rattle.calculus.specs.Substitution.{subst}
-use Rattle.calculus.specs.Contraction.{select}
+use Rattle.calculus.specs.Contraction.{Rule, Contracts, select}
+
+-- A contraction of t to u whose redex starts first among all redexes of t.
+abbrev pub Contracts-leftmost : Term → Term → Type 0
+Contracts-leftmost t u =
+    (p : ℕ) × (r : Rule) × Contracts term p r t u × ((q : ℕ) (r′ : Rule) (v : Term) → Contracts term q r′ t v → p ≤ q)
 
 -- What the beta rule makes of an application, by its function and argument.
 abbrev pub beta : Term → Term → Option Term

@@ -1,4 +1,4 @@
--- The calculus of document 01: what a reader has to believe. One file a concept, in the document's order.
+-- The calculus of document 01, one file a concept. `Decide` and `Equality` are decided by their types alone and need not be read.
 pub mod Term
 pub mod Words
 pub mod Accepted
@@ -7,6 +7,7 @@ pub mod Read
 pub mod Skip
 pub mod First
 pub mod Workspace
+pub mod Refusal
 pub mod Shift
 pub mod Substitution
 pub mod Contraction
@@ -17,4 +18,5 @@ pub mod Position
 pub mod Equality
 pub mod Rounds
 pub mod Bench
+pub mod Boundaries
 pub mod Theorems

@@ -1,8 +1,8 @@
 -- Contraction by position, as functions: how the unit finds a redex and contracts it. The relation `Contracts` is the definition;
--- `Contract-at-position` and `Leftmost-redex` state that these functions follow it.
+-- `Contract-at-position`, `Redex-first`, `Redex-none` and `Leftmost-at-redex` state that these functions follow it.
 use Prim.Native.Nat.{ℕ, zero, suc, _+_, _-_}
 use mathlib.Core.Bool.{cond}
-use mathlib.Core.Option.{Option, some, none, Option·map, orElse}
+use mathlib.Core.Option.{Option, none, Option·map, orElse}
 use lib.Dec.{ltb}
 use Rattle.calculus.specs.Term.{Sort, Exp, var, lam, app, con, case, nil, cons, end, branch}
 use Rattle.calculus.specs.Words.{size}

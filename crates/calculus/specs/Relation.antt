@@ -2,7 +2,7 @@
 use mathlib.Core.Logic.{_⊎_}
 
 module _ {A : Type 0} (R : A → A → Type 0) where
-  -- None or more steps, one after the other, lead from the first to the second.
+  -- None or more steps, one after the other, lead from the first to the second: the reflexive transitive closure.
   pub data Star : A → A → Type 0 where
     stop : {a : A} → Star a a
     step : {a b c : A} → R a b → Star b c → Star a c

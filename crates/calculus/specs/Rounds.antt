@@ -1,7 +1,7 @@
 -- The rounds of a press ("A press"), on terms, a workspace length C and a budget that may be any natural number. A press is a bounded run; a
 -- round makes one leftmost contraction on each side that is not normal.
 use Prim.Native.Nat.{ℕ, zero, suc, _+_}
-use mathlib.Core.Bool.{Bool, true, false, cond, _||_}
+use mathlib.Core.Bool.{Bool, cond, _||_}
 use mathlib.Core.Logic.{ite}
 use mathlib.Core.Option.{Option, some, none}
 use lib.Dec.{ltb}

@@ -31,7 +31,7 @@ Terms = Exp terms
 abbrev pub Branches : Type 0
 Branches = Exp branches
 
--- How many terms a list of arguments has, and how many branches a list of branches has.
+-- How many terms a list of arguments has, and how many branches a list of branches has; 0 of a term.
 abbrev pub count : {s : Sort} → Exp s → ℕ
 count (var i) = 0
 count (lam b) = 0

@@ -13,7 +13,7 @@ use Rattle.calculus.specs.Read.{read}
 use Rattle.calculus.specs.Shift.{move}
 use Rattle.calculus.specs.Contraction.{Rule, by-beta, by-case, Contracts}
 use Rattle.calculus.specs.Conversion.{Reaches, Joined, Normal}
-use Rattle.calculus.specs.Leftmost.{leftmost}
+use Rattle.calculus.specs.Leftmost.{Contracts-leftmost, leftmost}
 use Rattle.calculus.specs.Position.{contractAt, redexAt}
 
 -- `read` gives t exactly for the words of t where t is accepted.
@@ -42,11 +42,7 @@ Words-prefix-free =
 abbrev pub Move-exact : Type 0
 Move-exact = (z : ℤ) (i n : ℕ) → pos i +ℤ z ≡ pos n → move z i ≡ n
 
--- A contraction of t to u whose redex starts first among all redexes of t.
-abbrev pub Contracts-leftmost : Term → Term → Type 0
-Contracts-leftmost t u =
-    (p : ℕ) × (r : Rule) × Contracts term p r t u × ((q : ℕ) (r′ : Rule) (v : Term) → Contracts term q r′ t v → p ≤ q)
-
+-- `leftmost` gives what the leftmost outermost contraction gives.
 abbrev pub Leftmost-step : Type 0
 Leftmost-step = (t u : Term) → (leftmost t ≡ some u) ↔ Contracts-leftmost t u
 

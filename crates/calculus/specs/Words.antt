@@ -31,10 +31,11 @@ workspaceLeast = 16
 abbrev pub workspaceMost : ℕ
 workspaceMost = 2048
 
--- The word of a kind and a payload, and both of a word.
+-- A payload stands above the kind.
 abbrev pub kindBase : ℕ
 kindBase = 8
 
+-- The word of a kind and a payload, and both of a word.
 abbrev pub word : ℕ → ℕ → ℕ
 word kind payload = payload * kindBase + kind
 
@@ -44,10 +45,11 @@ kindOf w = w % kindBase
 abbrev pub payloadOf : ℕ → ℕ
 payloadOf w = w / kindBase
 
--- The payload of a tag and a count, and both of a payload. It holds counts below 16.
+-- A tag stands above a count, which is below 16.
 abbrev pub countBase : ℕ
 countBase = 16
 
+-- The payload of a tag and a count, and both of a payload.
 abbrev pub pack : ℕ → ℕ → ℕ
 pack tag n = tag * countBase + n
 

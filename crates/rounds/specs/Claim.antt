@@ -3,7 +3,7 @@
 -- not through the functions that define a press.
 use Prim.Native.Nat.{ℕ, _+_, _-_, _≤_}
 use mathlib.Core.Path.{_≡_}
-use mathlib.Core.Bool.{Bool, cond, not, _||_}
+use mathlib.Core.Bool.{cond, not, _||_}
 use mathlib.Core.List.{List, [], _∷_, _++_, map}
 use mathlib.Core.Logic.{_⊎_}
 use mathlib.Core.Option.{some, none}
@@ -12,9 +12,9 @@ use lib.ListN.{length, take, replicate}
 use Rattle.calculus.specs.Term.{Term}
 use Rattle.calculus.specs.Words.{words, size, workspaceLeast, workspaceMost}
 use Rattle.calculus.specs.Accepted.{Accepted}
+use Rattle.calculus.specs.Refusal.{wrongWorkspaceNumber, overBudgetNumber, noTermNumber}
 use Rattle.calculus.specs.Conversion.{Reaches, Joined}
 use Rattle.calculus.specs.Rounds.{Verdict, Same, Different, Outcome, rounds}
-use Rattle.rounds.specs.Session.{Session}
 use Rattle.rounds.specs.Press.{Answer, refused, shown, Memory, Call, Pressed, budgetLimit, totalLimit, press}
 use Rattle.rounds.specs.Runs.{final, history, spentIn, budgetInOneGo, lastAnswer}
 
@@ -44,14 +44,16 @@ pub record Standing : Type 0 where
   pub left : Term
   pub right : Term
 
--- Refusals 7, 9 and 10 by the table, for workspaces of C words; otherwise what the rounds spend.
+-- For workspaces of C words: refusals 7 and 9 by the table, 10 for lengths other than those last returned (until then those of the first terms);
+-- otherwise what the rounds spend.
 abbrev pub replyTo : (C : ℕ) → Standing → Call → Reply
 replyTo C s c =
-    cond (ltb C workspaceLeast || (ltb workspaceMost C || not (eqb (length (c .scratch)) C))) (refuses 7)
-    (cond (ltb budgetLimit (c .budget) || ltb totalLimit (s .total + c .budget)) (refuses 9)
-    (cond (not (eqb (c .leftLength) (size (s .left))) || not (eqb (c .rightLength) (size (s .right)))) (refuses 10)
+    cond (ltb C workspaceLeast || (ltb workspaceMost C || not (eqb (length (c .scratch)) C))) (refuses wrongWorkspaceNumber)
+    (cond (ltb budgetLimit (c .budget) || ltb totalLimit (s .total + c .budget)) (refuses overBudgetNumber)
+    (cond (not (eqb (c .leftLength) (size (s .left))) || not (eqb (c .rightLength) (size (s .right)))) (refuses noTermNumber)
     (spends (rounds C (c .budget) (s .left) (s .right) .spent))))
 
+-- Where the list stands after a call with this reply, and the replies to a whole list.
 abbrev pub advance : (C : ℕ) → Standing → Call → Reply → Standing
 advance C s c (refuses n) = s
 advance C s c (spends p) =
@@ -75,7 +77,8 @@ abbrev pub EachLeaves : Memory → List Call → Type 0
 EachLeaves m [] = Unit {0}
 EachLeaves m (c ∷ cs) = LeavesBy m c (press m c) (press m c .answer) × EachLeaves (press m c .memory) cs
 
--- After the list all is as the rounds made in one go from the first terms with budget B give it: `o` is what they end in.
+-- After the list all is as the rounds made in one go from the first terms give it: `o` is what they end in. What the last unrefused press itself
+-- spent is among the `replies`.
 pub record InOneGo (C : ℕ) (o : Outcome) (start end : Memory) (es : List (Call × Answer)) : Type 0 where
   pub left-words : end .left ≡ words (o .left) ++ replicate (C - size (o .left)) 0
   pub right-words : end .right ≡ words (o .right) ++ replicate (C - size (o .right)) 0
@@ -118,7 +121,7 @@ pub record Claim (C : ℕ) (t u : Term) (start : Memory) (calls : List Call) : T
   pub on-first-terms : (v : Verdict) (l r : ℕ) → Ended start calls v l r → Decided v
       → (C′ : ℕ) (m : Memory) (c : Call) → C ≤ C′ → Holds C′ t (m .left) → Holds C′ u (m .right) → spentIn (history start calls) ≤ c .budget
       → (v′ : Verdict) (s′ l′ r′ : ℕ) → press m c .answer ≡ shown v′ s′ l′ r′
-      → (shown v′ s′ l′ r′ ≡ shown v (spentIn (history start calls)) l r) × SameTerms l r (press m c .memory) (final start calls)
+      → (press m c .answer ≡ shown v (spentIn (history start calls)) l r) × SameTerms l r (press m c .memory) (final start calls)
   -- Two lists from the same first terms, whatever their budgets and their C, that each give Same or Different agree in verdict, spent and terms.
   pub agree : (v : Verdict) (l r : ℕ) → Ended start calls v l r → Decided v
       → (C′ : ℕ) (start′ : Memory) (calls′ : List Call) → Holds C′ t (start′ .left) → Holds C′ u (start′ .right)
@@ -128,7 +131,7 @@ pub record Claim (C : ℕ) (t u : Term) (start : Memory) (calls : List Call) : T
   -- Same: one term stands on both sides that contractions reach from each first term.
   pub same : (l r : ℕ) → Ended start calls Same l r
       → (w : Term) × Reaches t w × Reaches u w × (final start calls .left ≡ words w ++ replicate (C - size w) 0)
-      × (final start calls .right ≡ words w ++ replicate (C - size w) 0)
+      × (final start calls .right ≡ words w ++ replicate (C - size w) 0) × (l ≡ size w) × (r ≡ size w)
   -- Different: no chain joins the first terms.
   pub different : (l r : ℕ) → Ended start calls Different l r → Joined t u → ⊥
 

@@ -8,6 +8,7 @@ use lib.ListN.{length, replicate}
 use Rattle.calculus.specs.Term.{Term}
 use Rattle.calculus.specs.Words.{words, size, workspaceLeast, workspaceMost}
 use Rattle.calculus.specs.Workspace.{termAt, padded}
+use Rattle.calculus.specs.Refusal.{wrongWorkspaceNumber, overBudgetNumber, noTermNumber}
 use Rattle.calculus.specs.Rounds.{Verdict, Outcome, rounds}
 use Rattle.rounds.specs.Session.{Session}
 
@@ -72,8 +73,8 @@ conclude C s o =
 
 -- Refusal 10 on the left, then on the right, then the rounds.
 abbrev pub pressTerms : Memory → Call → Option Term → Option Term → Pressed
-pressTerms m c none u = refuse m c 10
-pressTerms m c (some t) none = refuse m c 10
+pressTerms m c none u = refuse m c noTermNumber
+pressTerms m c (some t) none = refuse m c noTermNumber
 pressTerms m c (some t) (some u) = conclude (length (m .left)) (m .session) (rounds (length (m .left)) (c .budget) t u)
 
 unfoldable pub press : Memory → Call → Pressed
@@ -81,5 +82,5 @@ press m c =
     cond (sized (length (m .left)) (length (m .right)) (length (c .scratch)))
     (cond (affordable (c .budget) (m .session .total))
     (pressTerms m c (termAt (m .left) (c .leftLength)) (termAt (m .right) (c .rightLength)))
-    (refuse m c 9))
-    (refuse m c 7)
+    (refuse m c overBudgetNumber))
+    (refuse m c wrongWorkspaceNumber)

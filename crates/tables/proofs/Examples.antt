@@ -7,15 +7,17 @@ use mathlib.Core.Logic.{Dec·and}
 use mathlib.Core.Option.{bind}
 use lib.ListN.{replicate}
 use native.Mathlib.Decide.{decLe, decLt}
+use native.Mathlib.Omega.{arith}
 use Rattle.calculus.specs.Decide.{both₃, both₄, isTag?, startsAbove?, rising?, accepted?}
 use Rattle.calculus.specs.Read.{takeTerm, takeTerms, takeBranches, readLam, readApp, readCon, readCase, readBranch, item, items, oneTerm, read}
 use Rattle.calculus.specs.Workspace.{termAt}
 use Rattle.tables.specs.Meaning.{termOf, meantTerm, meantTerms, meantBranch, meantBranches, meant, meaning}
 use Rattle.tables.specs.Refusals.{wrongLength, wrongHeader, valueFits, wrongValue, namings, wrongLink, childrenFit, wrongChildren}
-use Rattle.tables.specs.Load.{Answer, refused, returned, Loaded, load}
+use Rattle.tables.specs.Load.{refused, returned, Loaded, load}
 use Rattle.tables.specs.PrefixOrder.{InPrefixOrder, nothing, chained}
 use Rattle.tables.specs.Records.{view1}
-use Rattle.tables.specs.Write.{Written, write}
+use Rattle.tables.specs.Write.{write}
+use Rattle.tables.proofs.PrefixStanding.{fills-first, record-fills}
 
 -- A table is written by its records, the header first.
 abbrev Four : Type 0
@@ -138,3 +140,11 @@ tried =
       write-table-too-long = refl;
       in-order = chained (chained nothing nothing) nothing;
     }
+
+-- The body's record, the fourth, should stand third.
+not-in-order : InPrefixOrder (view1 (table applied)) → ⊥
+not-in-order order =
+    let root = record-fills (omega arith) order .1 in
+    let function = record-fills (omega arith) (root .1) .1 in
+    let body : _≡_ {A = ℕ} 4 3 = fills-first (omega arith) (function .1) in
+    omega arith

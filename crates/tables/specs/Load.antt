@@ -7,6 +7,8 @@ use lib.ListN.{length}
 use Rattle.calculus.specs.Term.{Term}
 use Rattle.calculus.specs.Words.{words, size}
 use Rattle.calculus.specs.Workspace.{padded}
+use Rattle.calculus.specs.Refusal.{wrongLengthNumber, wrongHeaderNumber, wrongValueNumber, wrongLinkNumber, wrongChildrenNumber}
+use Rattle.calculus.specs.Refusal.{wrongFreeNumber, wrongWorkspaceNumber, tooLongNumber}
 use Rattle.tables.specs.Records.{view1}
 use Rattle.tables.specs.Meaning.{meaning}
 use Rattle.tables.specs.Refusals.{wrongWorkspace, wrongLength, wrongHeader, tooLong, wrongValue, wrongLink, wrongChildren, wrongFree}
@@ -21,17 +23,18 @@ pub record Loaded : Type 0 where
   pub answer : Answer
   pub workspace : List ℕ
 
--- The refusals in the order in which loading checks them, each with whether it is met, by the table and the length of the workspace.
+-- The refusals in the order in which loading checks them, 7, 1, 2, 8, 3, 4, 5, 6, each with whether it is met, by the table and the length C of
+-- the workspace.
 abbrev pub checks : (table : List ℕ) (C : ℕ) → List (ℕ × Bool)
 checks table C =
-    (7, wrongWorkspace C)
-    ∷ (1, wrongLength table)
-    ∷ (2, wrongHeader table)
-    ∷ (8, tooLong (view1 table) C)
-    ∷ (3, wrongValue (view1 table))
-    ∷ (4, wrongLink (view1 table))
-    ∷ (5, wrongChildren (view1 table))
-    ∷ (6, wrongFree (view1 table))
+    (wrongWorkspaceNumber, wrongWorkspace C)
+    ∷ (wrongLengthNumber, wrongLength table)
+    ∷ (wrongHeaderNumber, wrongHeader table)
+    ∷ (tooLongNumber, tooLong (view1 table) C)
+    ∷ (wrongValueNumber, wrongValue (view1 table))
+    ∷ (wrongLinkNumber, wrongLink (view1 table))
+    ∷ (wrongChildrenNumber, wrongChildren (view1 table))
+    ∷ (wrongFreeNumber, wrongFree (view1 table))
     ∷ []
 
 abbrev pub firstMet : List (ℕ × Bool) → Option ℕ
@@ -45,7 +48,7 @@ refuseLoad workspace k = record { answer = refused k; workspace = workspace }
 -- The words of the term that the table means, and zeros after them. A table that meets no refusal means a term, so the first clause, which
 -- answers as for wrong children, never arises (`Sound-means`).
 abbrev pub place : (workspace : List ℕ) → Option Term → Loaded
-place workspace none = refuseLoad workspace 5
+place workspace none = refuseLoad workspace wrongChildrenNumber
 place workspace (some t) = record { answer = returned (size t); workspace = padded (length workspace) (words t) }
 
 abbrev pub loadUnless : Option ℕ → (table workspace : List ℕ) → Loaded

@@ -14,7 +14,7 @@ use Rattle.calculus.specs.Theorems.{indexLimit}
 use Rattle.tables.specs.Records.{Record, Table, form, recordWords, recordAt, view1}
 use Rattle.tables.specs.Meaning.{isRecord, meaning}
 
--- The test holds of every index from 1 to n, and the sum over them.
+-- Whether a test holds of every index from 1 to n, and the sum of a function over these indices.
 abbrev pub everyOf : ℕ → (ℕ → Bool) → Bool
 everyOf zero p = true
 everyOf (suc n) p = everyOf n p && p (suc n)
@@ -27,7 +27,8 @@ sumOf (suc n) f = sumOf n f + f (suc n)
 abbrev pub wrongWorkspace : (C : ℕ) → Bool
 wrongWorkspace C = ltb C workspaceLeast || ltb workspaceMost C
 
--- Refusal 1: the length is not 4 × (n + 1), with n from 1 to 2,048, the most words that a workspace has; so is a table shorter than four words.
+-- Refusal 1: the length is not 4 × (n + 1) with n from 1 to 2,048, the most words that a workspace has. A table shorter than four words has no
+-- header and meets it too.
 unfoldable pub wrongLength : List ℕ → Bool
 wrongLength ws =
     ltb (length ws) recordWords
@@ -56,15 +57,14 @@ valueFits k v =
 unfoldable pub wrongValue : Table → Bool
 wrongValue T = not (everyOf (T .n) (λ i. leb (T .at i .kind) branchKind && valueFits (T .at i .kind) (T .at i .value)))
 
--- Refusal 4: a link other than 0 is not above its own record's index or is above n, or a record is not named by exactly one link, the root's
--- included.
+-- Refusal 4: a link other than 0 is not above its own record's index or is above n, or a record is not named by exactly one link.
 abbrev pub linkFits : Table → (own link : ℕ) → Bool
 linkFits T i l = eqb l 0 || (ltb i l && leb l (T .n))
 
 abbrev pub naming : (link i : ℕ) → ℕ
 naming l i = cond (eqb l i) 1 0
 
--- How many links name record i.
+-- How many links name record i, the root's link included.
 unfoldable pub namings : Table → ℕ → ℕ
 namings T i = naming (T .root) i + sumOf (T .n) (λ j. naming (T .at j .first) i + naming (T .at j .next) i)
 
@@ -133,6 +133,7 @@ freeFits d (cons a xs) = freeFits d a && freeFits d xs
 freeFits d end = true
 freeFits d (branch t n b bs) = freeFits (d + n) b && freeFits d bs
 
+-- A table that means no term meets an earlier refusal.
 abbrev pub freeAbove : Option Term → Bool
 freeAbove none = false
 freeAbove (some t) = not (freeFits 0 t)

@@ -12,7 +12,7 @@ use Rattle.calculus.specs.Accepted.{Accepted}
 use Rattle.tables.specs.Records.{Table, recordWords, view1}
 use Rattle.tables.specs.Meaning.{Means, isRecord, meaning}
 use Rattle.tables.specs.Refusals.{wrongWorkspace, wrongValue, wrongLink, wrongChildren, wrongFree}
-use Rattle.tables.specs.Load.{Answer, refused, returned, checks, load}
+use Rattle.tables.specs.Load.{refused, returned, checks, load}
 use Rattle.tables.specs.PrefixOrder.{InPrefixOrder}
 use Rattle.tables.specs.Write.{write}
 

@@ -9,6 +9,7 @@ use lib.ListN.{length}
 use Rattle.calculus.specs.Term.{Sort, Exp, var, lam, app, con, case, nil, cons, end, branch, Term, count}
 use Rattle.calculus.specs.Words.{variableKind, abstractionKind, applicationKind, constructorKind, caseKind, branchKind, pack, size}
 use Rattle.calculus.specs.Workspace.{termAt}
+use Rattle.calculus.specs.Refusal.{wrongLengthNumber, wrongWorkspaceNumber, noTermNumber}
 use Rattle.tables.specs.Records.{Record, form, recordWords, recordsWords}
 use Rattle.tables.specs.Refusals.{wrongWorkspace}
 use Rattle.tables.specs.Load.{Answer, refused, returned}
@@ -52,10 +53,10 @@ refuseWrite table k = record { answer = refused k; table = table }
 
 -- Refusal 10 where the workspace holds no term of that length, then refusal 1 where the lent table has another length than the written one.
 abbrev pub writeTerm : (len : ℕ) (table : List ℕ) → Option Term → Written
-writeTerm len table none = refuseWrite table 10
+writeTerm len table none = refuseWrite table noTermNumber
 writeTerm len table (some t) =
-    cond (eqb (length table) (recordWords * (len + 1))) (record { answer = returned len; table = tableOf t }) (refuseWrite table 1)
+    cond (eqb (length table) (recordWords * (len + 1))) (record { answer = returned len; table = tableOf t }) (refuseWrite table wrongLengthNumber)
 
 unfoldable pub write : (workspace : List ℕ) (len : ℕ) (table : List ℕ) → Written
 write workspace len table =
-    cond (wrongWorkspace (length workspace)) (refuseWrite table 7) (writeTerm len table (termAt workspace len))
+    cond (wrongWorkspace (length workspace)) (refuseWrite table wrongWorkspaceNumber) (writeTerm len table (termAt workspace len))

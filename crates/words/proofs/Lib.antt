@@ -1,1 +1,5 @@
 pub mod Spans
+pub mod Frames
+pub mod Scan
+pub mod Stack
+pub mod IsTerm

@@ -1,2 +1,5 @@
 -- What the contracts of the words' code cite beside the calculus.
 pub mod Limits
+pub mod Bound
+pub mod Frames
+pub mod IsTerm

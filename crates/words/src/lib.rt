@@ -1,5 +1,8 @@
-// The word of a term: payload × 8 + kind ("Terms and words"). Its constants are the only places of the code where the kinds and the limits of the
-// word rules stand as numbers.
+// The word of a term: payload × 8 + kind ("Terms and words"), and what words alone tell: where an item ends, and whether words are one whole term.
+// The constants of `Word` are the only places of the code where the kinds and the limits of the word rules stand as numbers.
+mod frame;
+
+use frame::Frame;
 ghost use mathlib.Core.Path.{_≡_};
 ghost use Prim.Native.Nat.{_≤_, _<_, _+_};
 ghost use lib.ListN.{length, drop};
@@ -8,6 +11,10 @@ ghost use Rattle.calculus.specs.Words.{word, kindOf, payloadOf, tagOf, countOf}
 ghost use Rattle.calculus.specs.Accepted.{tagLimit, argumentLimit, branchLimit, freeLimit};
 ghost use Rattle.calculus.specs.Skip.{arity, span};
 ghost use Rattle.words.specs.Limits.{payloadBound};
+ghost use Rattle.words.specs.Bound.{bound};
+ghost use Rattle.words.specs.IsTerm.{isTerm};
+
+pub mod refusal;
 
 // A word by value. A workspace holds its number, so a word read there is `Word(w)`.
 pub struct Word(pub u32);
@@ -92,6 +99,17 @@ impl Word {
             _ => 0,
         }
     }
+
+    // How many binders stand around these items and not around the word.
+    pub fn bound(self) -> u32
+        ensures { λ r. ⌜ r ≡ bound (self .0) ⌝ }
+    {
+        match self.kind() {
+            Word::ABSTRACTION => 1,
+            Word::BRANCH => self.count(),
+            _ => 0,
+        }
+    }
 }
 
 // The end of the item that starts at a position: where the walk over the words stops.
@@ -109,6 +127,42 @@ pub fn extent(ws: &[u32], at: usize) -> usize
         i += 1;
     }
     i
+}
+
+// Whether the first `n` words are one whole accepted term of at most as many words as a workspace has (refusal 10), by a scan from the left.
+pub fn is_term(ws: &[u32], n: usize) -> bool
+    ensures { λ r. ⌜ r ≡ isTerm (now (ws .entry)) n ⌝ }
+{
+    if n > Word::WORKSPACE_MOST {
+        return false;
+    }
+    if n > ws.len() {
+        return false;
+    }
+    // The frames are the entries below `top`; each word adds at most one.
+    let mut stack = [Frame::WHOLE; Word::WORKSPACE_MOST + 1];
+    let mut top: usize = 1;
+    let mut i: usize = 0;
+    while i < n {
+        if top == 0 {
+            return false;
+        }
+        top -= 1;
+        let frame = stack[top];
+        let word = Word(ws[i]);
+        if !frame.allows(word) {
+            return false;
+        }
+        // The frame on top gives way to what is left of it and, above that, to what follows the word.
+        let rest = frame.rest(word);
+        stack[top] = rest;
+        top += rest.kept();
+        let inside = Frame::inside(word, frame.depth);
+        stack[top] = inside;
+        top += inside.kept();
+        i += 1;
+    }
+    top == 0
 }
 
 // Does nothing. Its contract says that each constant is the number that the calculus gives its name.

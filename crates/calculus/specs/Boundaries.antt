@@ -1,0 +1,40 @@
+-- The edges of the rounds and of the word rules, each with the neighbour that just passes: what the starred bench pairs do not touch.
+use mathlib.Core.Path.{_≡_}
+use Prim.Native.Nat.{ℕ}
+use mathlib.Core.List.{List, [], _∷_}
+use mathlib.Core.Option.{some, none, Option·map}
+use Rattle.calculus.specs.Words.{words}
+use Rattle.calculus.specs.Read.{read}
+use Rattle.calculus.specs.Rounds.{Different, Budget, Full}
+use Rattle.calculus.specs.Bench.{judged, shown}
+
+-- The document's W W: 13 words, whose contractum has 20.
+abbrev pub ww : List ℕ
+ww = 2 ∷ 1 ∷ 2 ∷ 2 ∷ 0 ∷ 0 ∷ 0 ∷ 1 ∷ 2 ∷ 2 ∷ 0 ∷ 0 ∷ 0 ∷ []
+
+pub record Boundaries : Type 0 where
+  pub both-move-within-budget : judged (2 ∷ 1 ∷ 0 ∷ 0 ∷ []) (2 ∷ 1 ∷ 0 ∷ 8 ∷ []) 16 2 ≡ some (shown Different 2 1 1)
+  pub both-move-one-short : judged (2 ∷ 1 ∷ 0 ∷ 0 ∷ []) (2 ∷ 1 ∷ 0 ∷ 8 ∷ []) 16 1 ≡ some (shown Budget 0 4 4)
+  pub right-alone-moves : judged (8 ∷ []) (2 ∷ 1 ∷ 0 ∷ 0 ∷ []) 16 1 ≡ some (shown Different 1 1 1)
+  pub budget-before-full : judged ww (0 ∷ []) 16 0 ≡ some (shown Budget 0 13 1)
+  pub full : judged ww (0 ∷ []) 16 1 ≡ some (shown Full 0 13 1)
+  pub next-term-of-C-words : judged ww (0 ∷ []) 20 1 ≡ some (shown Budget 1 20 1)
+  pub left-too-long : judged ww (2 ∷ 1 ∷ 0 ∷ 0 ∷ []) 16 2 ≡ some (shown Full 0 13 4)
+  pub right-too-long : judged (2 ∷ 1 ∷ 0 ∷ 0 ∷ []) ww 16 2 ≡ some (shown Full 0 4 13)
+  pub right-too-long-one-short : judged (2 ∷ 1 ∷ 0 ∷ 0 ∷ []) ww 16 1 ≡ some (shown Budget 0 4 13)
+  pub right-alone-too-long : judged (0 ∷ []) ww 16 1 ≡ some (shown Full 0 1 13)
+  pub free-255 : Option·map words (read (2040 ∷ [])) ≡ some (2040 ∷ [])
+  pub free-256 : read (2048 ∷ []) ≡ none
+  pub tag-1 : Option·map words (read (131 ∷ [])) ≡ some (131 ∷ [])
+  pub tag-0 : read (3 ∷ []) ≡ none
+  pub tag-255 : Option·map words (read (32643 ∷ [])) ≡ some (32643 ∷ [])
+  pub tag-256 : read (32771 ∷ []) ≡ none
+  pub branch-tag-255 : Option·map words (read (12 ∷ 0 ∷ 32645 ∷ 0 ∷ [])) ≡ some (12 ∷ 0 ∷ 32645 ∷ 0 ∷ [])
+  pub branch-tag-256 : read (12 ∷ 0 ∷ 32773 ∷ 0 ∷ []) ≡ none
+  pub branch-tag-0 : read (12 ∷ 0 ∷ 5 ∷ 0 ∷ []) ≡ none
+  pub arguments-15 : Option·map words (read (251 ∷ 0 ∷ 0 ∷ 0 ∷ 0 ∷ 0 ∷ 0 ∷ 0 ∷ 0 ∷ 0 ∷ 0 ∷ 0 ∷ 0 ∷ 0 ∷ 0 ∷ 0 ∷ [])) ≡ some (251 ∷ 0 ∷ 0 ∷ 0 ∷ 0 ∷ 0 ∷ 0 ∷ 0 ∷ 0 ∷ 0 ∷ 0 ∷ 0 ∷ 0 ∷ 0 ∷ 0 ∷ 0 ∷ [])
+  pub bound-15 : Option·map words (read (12 ∷ 0 ∷ 253 ∷ 2160 ∷ [])) ≡ some (12 ∷ 0 ∷ 253 ∷ 2160 ∷ [])
+  pub bound-15-free-256 : read (12 ∷ 0 ∷ 253 ∷ 2168 ∷ []) ≡ none
+  pub branches-15 : Option·map words (read (124 ∷ 0 ∷ 133 ∷ 0 ∷ 261 ∷ 0 ∷ 389 ∷ 0 ∷ 517 ∷ 0 ∷ 645 ∷ 0 ∷ 773 ∷ 0 ∷ 901 ∷ 0 ∷ 1029 ∷ 0 ∷ 1157 ∷ 0 ∷ 1285 ∷ 0 ∷ 1413 ∷ 0 ∷ 1541 ∷ 0 ∷ 1669 ∷ 0 ∷ 1797 ∷ 0 ∷ 1925 ∷ 0 ∷ [])) ≡ some (124 ∷ 0 ∷ 133 ∷ 0 ∷ 261 ∷ 0 ∷ 389 ∷ 0 ∷ 517 ∷ 0 ∷ 645 ∷ 0 ∷ 773 ∷ 0 ∷ 901 ∷ 0 ∷ 1029 ∷ 0 ∷ 1157 ∷ 0 ∷ 1285 ∷ 0 ∷ 1413 ∷ 0 ∷ 1541 ∷ 0 ∷ 1669 ∷ 0 ∷ 1797 ∷ 0 ∷ 1925 ∷ 0 ∷ [])
+  pub branches-16 : read (132 ∷ 0 ∷ 133 ∷ 0 ∷ 261 ∷ 0 ∷ 389 ∷ 0 ∷ 517 ∷ 0 ∷ 645 ∷ 0 ∷ 773 ∷ 0 ∷ 901 ∷ 0 ∷ 1029 ∷ 0 ∷ 1157 ∷ 0 ∷ 1285 ∷ 0 ∷ 1413 ∷ 0 ∷ 1541 ∷ 0 ∷ 1669 ∷ 0 ∷ 1797 ∷ 0 ∷ 1925 ∷ 0 ∷ 2053 ∷ 0 ∷ []) ≡ none
+  pub tags-equal : read (20 ∷ 0 ∷ 133 ∷ 0 ∷ 133 ∷ 0 ∷ []) ≡ none
