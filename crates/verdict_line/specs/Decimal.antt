@@ -14,5 +14,8 @@ digits zero n = []
 digits (suc k) n = elim (ltb n 10) [ true ↦ digit n ∷ [] | false ↦ digits k (n / 10) ++ (digit (n % 10) ∷ []) ]
 
 -- A number of 64 bits has at most twenty digits.
+abbrev pub digitsMost : ℕ
+digitsMost = 20
+
 unfoldable pub decimal : ℕ → List ℕ
-decimal n = digits 20 n
+decimal n = digits digitsMost n

@@ -1,5 +1,7 @@
 -- What the verdict program prints for the bytes that it reads.
 pub mod Bytes
+pub mod Decode
 pub mod Request
 pub mod Decimal
+pub mod Put
 pub mod Line

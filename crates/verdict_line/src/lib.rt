@@ -1,1 +1,3 @@
 // The verdict program's work on slices: bytes in, the printed line out.
+pub mod bytes;
+pub mod text;
