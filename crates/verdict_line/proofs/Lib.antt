@@ -1,3 +1,4 @@
 pub mod Storing
 pub mod DecodeLaws
+pub mod RequestLaws
 pub mod DecimalLaws

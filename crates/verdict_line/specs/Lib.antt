@@ -2,6 +2,7 @@
 pub mod Bytes
 pub mod Decode
 pub mod Request
+pub mod Parse
 pub mod Decimal
 pub mod Put
 pub mod Line
