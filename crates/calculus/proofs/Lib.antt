@@ -21,3 +21,5 @@ pub mod Parallel
 pub mod ChurchRosser
 pub mod Earliest
 pub mod PositionLaws
+pub mod Focus
+pub mod SizeLaws

@@ -1,6 +1,6 @@
 -- Contraction by position: `contractAt` gives what a contraction at that position gives, `redexAt` the first position at which a redex starts,
 -- and the leftmost step contracts there.
-use Prim.Native.Nat.{ℕ, zero, suc, _+_, _-_, _≤_, _<_}
+use Prim.Native.Nat.{ℕ, zero, suc, _-_, _<_}
 use mathlib.Core.Path.{_≡_, refl, sym, _∙_, ap, subst}
 use mathlib.Core.Logic.{_↔_}
 use mathlib.Core.Option.{Option, some, none, Option·map, orElse, bind, map-eq-some-iff, Option·none-ne-some}
@@ -66,7 +66,7 @@ contractAt-contracts (suc p) (branch t n b bs) =
     (λ h. all-map _ (contractAt-contracts p b) (λ b′ c. (c .0, in-branch (c .1))))
     (λ h. all-map _ (contractAt-contracts (p - size b) bs) (λ bs′ c. moved (omega arith) (c .0, in-later-branch (c .1))))
 
-contracts-contractAt : {s : Sort} {p : ℕ} {r : Rule} {e g : Exp s} → Contracts s p r e g → contractAt p e ≡ some g
+pub contracts-contractAt : {s : Sort} {p : ℕ} {r : Rule} {e g : Exp s} → Contracts s p r e g → contractAt p e ≡ some g
 unfolding contractAt
 contracts-contractAt at-beta = refl
 contracts-contractAt (at-case h) = h
@@ -117,6 +117,14 @@ earliest-redex (branch t n b bs) =
 
 pub redex-first : Redex-first
 redex-first t p = earliest-some (earliest-redex t) p
+
+-- No redex starts behind the words, so there is none where none starts within them.
+pub redex-absent : (t : Term) → ((q : ℕ) → q < size t → contractAt q t ≡ none) → redexAt t ≡ none
+redex-absent t h = earliest-none (earliest-redex t) .1 (λ q. go q (contractAt q t) refl)
+  where
+    go : (q : ℕ) (o : Option Term) → contractAt q t ≡ o → o ≡ none
+    go q none e = refl
+    go q (some u) e = absurd (Option·none-ne-some u (sym (h q (contractAt-within t q u e)) ∙ e))
 
 pub redex-none : Redex-none
 redex-none t = (

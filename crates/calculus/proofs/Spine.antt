@@ -85,6 +85,9 @@ count-spine (branch t n b bs) = ap suc (count-spine bs)
 pub count-kept : {s : Sort} {n : ℕ} (e g : Exp s) → spine e ≡ spine g → count e ≤ n → count g ≤ n
 count-kept e g h le = omega (arith, count-spine e, count-spine g, ap length h)
 
+pub count-contraction : {s : Sort} {p : ℕ} {r : Rule} {e g : Exp s} → Contracts s p r e g → count e ≡ count g
+count-contraction {e = e} {g} c = count-spine e ∙ ap length (spine-contraction c) ∙ sym (count-spine g)
+
 -- `StartsAbove` and `Rising` of the tags alone.
 abbrev HeadAbove : ℕ → List ℕ → Type 0
 HeadAbove t [] = Unit {0}

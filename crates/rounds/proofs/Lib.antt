@@ -1,9 +1,16 @@
+pub mod ClearLaws
+pub mod CompareLaws
 pub mod Walk
 pub mod Verdicts
 pub mod Workspaces
 pub mod PressLaws
+pub mod TurnLaws
+pub mod RunCode
+pub mod RunLoop
+pub mod PressCode
 pub mod RunLaws
 pub mod Settled
 pub mod Claim
 pub mod TwoPresses
 pub mod Instance
+pub mod ShowLaws

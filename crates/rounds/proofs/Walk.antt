@@ -73,7 +73,7 @@ ruled C rest t u = by (equal? t u)
 abbrev resume : (t u : Term) → (after-one after-two : Term → Term → Outcome) → Round → Outcome
 resume t u f g x = elim x [ ends v ↦ ended v t u | one t′ u′ ↦ f t′ u′ | two t′ u′ ↦ g t′ u′ ]
 
-rounds-ends : (C b : ℕ) (t u : Term) {v : Verdict} → round C b t u ≡ ends v → rounds C b t u ≡ ended v t u
+pub rounds-ends : (C b : ℕ) (t u : Term) {v : Verdict} → round C b t u ≡ ends v → rounds C b t u ≡ ended v t u
 unfolding rounds
 rounds-ends C zero t u e = ap (resume t u _ _) e
 rounds-ends C (suc zero) t u e = ap (resume t u _ _) e
@@ -114,14 +114,14 @@ walked C (suc (suc b)) t u =
     walked-resume (ruled C (suc (suc b)) t u) (λ t′ u′ m. walked-on m (walked C (suc b) t′ u′)) (λ t′ u′ m. walked-on m (walked C b t′ u′))
 
 -- A round that moves is made with every budget that is enough for it.
-round-unequal : (C rest : ℕ) {t u : Term} {x y : Option Term} → (t ≡ u → ⊥) → leftmost t ≡ x → leftmost u ≡ y → round C rest t u ≡ unequal C rest t u x y
+pub round-unequal : (C rest : ℕ) {t u : Term} {x y : Option Term} → (t ≡ u → ⊥) → leftmost t ≡ x → leftmost u ≡ y → round C rest t u ≡ unequal C rest t u x y
 unfolding round
 round-unequal C rest {t} {u} n p q = if-neg (equal? t u) n _ _ ∙ ap₂ (unequal C rest t u) p q
 
-contract-made : (rest p : ℕ) {long : Bool} {next : Round} → p ≤ rest → long ≡ false → contract rest p long next ≡ next
+pub contract-made : (rest p : ℕ) {long : Bool} {next : Round} → p ≤ rest → long ≡ false → contract rest p long next ≡ next
 contract-made rest p h e = rw (le-ltb rest p h, e)
 
-rounds-move : {C p : ℕ} {t u t′ u′ : Term} → Moves C p t u t′ u′ → (b : ℕ) → rounds C (p + b) t u ≡ after p (rounds C b t′ u′)
+pub rounds-move : {C p : ℕ} {t u t′ u′ : Term} → Moves C p t u t′ u′ → (b : ℕ) → rounds C (p + b) t u ≡ after p (rounds C b t′ u′)
 rounds-move {C} {t = t} {u = u} (left-moves {t′ = t′} n p q fits) b =
     let e : 1 + b ≡ suc b = omega arith in
     rw e (rounds-one C b t u (round-unequal C (suc b) n p q ∙ contract-made (suc b) 1 (omega arith) (le-ltb C (size t′) fits)))
@@ -133,13 +133,13 @@ rounds-move {C} {t = t} {u = u} (both-move {t′ = t′} {u′ = u′} n p q fit
     rw e (rounds-two C b t u (round-unequal C (suc (suc b)) n p q
     ∙ contract-made (suc (suc b)) 2 (omega arith) (ap₂ _||_ (le-ltb C (size t′) fits) (le-ltb C (size u′) fits′))))
 
-abbrev spending : Outcome → ℕ → Outcome
+abbrev pub spending : Outcome → ℕ → Outcome
 spending o s = record { verdict = o .verdict; spent = s; left = o .left; right = o .right }
 
-after-zero : (o : Outcome) → after 0 o ≡ o
+pub after-zero : (o : Outcome) → after 0 o ≡ o
 after-zero o = ap (spending o) (zero-add (o .spent))
 
-after-after : (p n : ℕ) (o : Outcome) → after p (after n o) ≡ after (p + n) o
+pub after-after : (p n : ℕ) (o : Outcome) → after p (after n o) ≡ after (p + n) o
 after-after p n o = ap (spending o) (sym (add-assoc p n (o .spent)))
 
 -- Rounds whose budget is what a walk spends plus b make the walk, and then the rounds with b.

@@ -1,5 +1,11 @@
 -- What a press does, as a function of everything at entry, and the claim about lists of presses.
 pub mod Session
+pub mod Compare
+pub mod Turn
+pub mod Advance
+pub mod Run
 pub mod Press
+pub mod Show
+pub mod Types
 pub mod Runs
 pub mod Claim

@@ -1,1 +1,206 @@
-// Comparison, the press and showing.
+// The verdict: a press on two workspaces, and showing.
+ghost use mathlib.Core.Path.{_≡_};
+ghost use Prim.Native.Nat.{_+_, _≤_};
+ghost use lib.ListN.{length};
+ghost use Rattle.calculus.specs.Rounds.{rounds};
+ghost use Rattle.rounds.specs.Press.{sized, affordable, press, conclude, totalLimit, budgetLimit};
+ghost use Rattle.rounds.specs.Show.{show, partOf};
+ghost use Rattle.rounds.specs.Types.{sessionOf, memoryOf, callOf, pressedOf};
+ghost use Rattle.rounds.specs.Run.{Runs};
+ghost use Rattle.step.specs.Held.{held};
+use crate::compare::clear;
+use crate::run::run;
+use words::Word;
+use words::refusal::Refusal;
+
+mod compare;
+mod run;
+mod turn;
+
+pub enum Verdict {
+    Same,
+    Different,
+    Budget,
+    Full,
+}
+
+// What the unit keeps between presses: total spent, both lengths and the last verdict.
+pub struct Session {
+    pub total: u32,
+    pub left: usize,
+    pub right: usize,
+    pub verdict: Verdict,
+}
+
+impl Session {
+    // The limits of a budget, and of total spent with a budget.
+    pub const BUDGET_MOST: u32 = 1000000;
+
+    pub const TOTAL_MOST: u64 = 1000000000;
+}
+
+// A press's answer: the number of the refusal, or what is shown.
+pub enum Answer {
+    Refused(u32),
+    Shown {
+        verdict: Verdict,
+        spent: u32,
+        left: usize,
+        right: usize,
+    },
+}
+
+// The answer with the session as the press leaves it.
+pub struct Pressed {
+    pub answer: Answer,
+    pub session: Session,
+}
+
+// Whether workspaces and scratch of these lengths pass refusal 7.
+fn sizes_pass(left: usize, right: usize, scratch: usize) -> bool
+    ensures { λ r. ⌜ r ≡ sized left right scratch ⌝ }
+{
+    if left < Word::WORKSPACE_LEAST {
+        return false;
+    }
+    if Word::WORKSPACE_MOST < left {
+        return false;
+    }
+    if right != left {
+        return false;
+    }
+    if scratch != left {
+        return false;
+    }
+    true
+}
+
+// Whether a budget on top of this total passes refusal 9.
+fn budget_passes(budget: u32, total: u32) -> bool
+    ensures { λ r. ⌜ r ≡ affordable budget total ⌝ }
+{
+    if Session::BUDGET_MOST < budget {
+        return false;
+    }
+    if Session::TOTAL_MOST < total as u64 + budget as u64 {
+        return false;
+    }
+    true
+}
+
+// A press on two workspaces that hold terms, with a budget that it may spend.
+fn press_terms(
+    left: &mut [u32],
+    right: &mut [u32],
+    scratch: &mut [u32],
+    l: usize,
+    r: usize,
+    budget: u32,
+    session: Session,
+) -> Pressed
+    requires { ⌜ Runs (now left) (now right) (now scratch) l r ⌝ }
+    requires { ⌜ session .total + budget ≤ totalLimit ⌝ }
+    ensures { λ p. ⌜ pressedOf p (now (left .exit)) (now (right .exit)) (now (scratch .exit)) ≡ conclude (length (now (left .entry))) (sessionOf session) (rounds (length (now (left .entry))) budget (held (now (left .entry)) l) (held (now (right .entry)) r)) ⌝ }
+{
+    let o = run(left, right, scratch, l, r, budget);
+    let verdict = o.verdict;
+    let spent = o.spent;
+    let m = o.left;
+    let n = o.right;
+    clear(left, m);
+    clear(right, n);
+    clear(scratch, 0);
+    Pressed {
+        answer: Answer::Shown {
+            verdict,
+            spent,
+            left: m,
+            right: n,
+        },
+        session: Session {
+            total: session.total + spent,
+            left: m,
+            right: n,
+            verdict,
+        },
+    }
+}
+
+// A press: refusals 7, 9, 10 on the left and 10 on the right, in this order, which change nothing; otherwise the rounds. Words beyond the given
+// lengths don't matter, and of the session only the total is read.
+pub fn press(
+    left: &mut [u32],
+    right: &mut [u32],
+    scratch: &mut [u32],
+    left_length: usize,
+    right_length: usize,
+    budget: u32,
+    session: Session,
+) -> Pressed
+    ensures { λ p. ⌜ pressedOf p (now (left .exit)) (now (right .exit)) (now (scratch .exit)) ≡ press (memoryOf (now (left .entry)) (now (right .entry)) session) (callOf (now (scratch .entry)) «left_length» «right_length» budget) ⌝ }
+{
+    if !sizes_pass(left.len(), right.len(), scratch.len()) {
+        return Pressed {
+            answer: Answer::Refused(Refusal::WORKSPACE),
+            session,
+        };
+    }
+    if !budget_passes(budget, session.total) {
+        return Pressed {
+            answer: Answer::Refused(Refusal::BUDGET),
+            session,
+        };
+    }
+    if !words::is_term(left, left_length) {
+        return Pressed {
+            answer: Answer::Refused(Refusal::TERM),
+            session,
+        };
+    }
+    if !words::is_term(right, right_length) {
+        return Pressed {
+            answer: Answer::Refused(Refusal::TERM),
+            session,
+        };
+    }
+    press_terms(
+        left,
+        right,
+        scratch,
+        left_length,
+        right_length,
+        budget,
+        session,
+    )
+}
+
+// The shorter current form, a part of the workspace that holds it, the left one at equal lengths; the empty start of the left one where a press
+// would be refused with 7 or 10.
+pub fn show<'a>(
+    left: &'a [u32],
+    right: &'a [u32],
+    left_length: usize,
+    right_length: usize,
+) -> &'a [u32]
+    ensures { λ r. ⌜ (r .ptr, now r) ≡ partOf (left .entry .ptr) (right .entry .ptr) (now (left .entry)) (now (right .entry)) (show (now (left .entry)) (now (right .entry)) «left_length» «right_length») ⌝ }
+{
+    if !sizes_pass(left.len(), right.len(), left.len()) {
+        return &left[..0];
+    }
+    if !words::is_term(left, left_length) {
+        return &left[..0];
+    }
+    if !words::is_term(right, right_length) {
+        return &left[..0];
+    }
+    if right_length < left_length {
+        return &right[..right_length];
+    }
+    &left[..left_length]
+}
+
+// Does nothing. Its contract says that each limit is the number that the definition of a press gives its name.
+fn limits()
+    ensures { λ r. do ⌜ (← ⟦Session::BUDGET_MOST⟧ .entry) ≡ budgetLimit ⌝ }
+    ensures { λ r. do ⌜ (← ⟦Session::TOTAL_MOST⟧ .entry) ≡ totalLimit ⌝ }
+{}

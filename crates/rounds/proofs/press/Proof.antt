@@ -1,0 +1,96 @@
+-- `press` meets its contract: each refusal by the tests that led to it, and the press on two terms otherwise. Assumes nothing.
+use mathlib.Core.Path.{_≡_, sym, _∙_}
+use native.Mathlib.Omega.{arith}
+use borrow.Author.Needs.{needs}
+use borrow.Author.Tests.{not-true, not-false}
+use Rattle.rounds.proofs.PressCode.{affords-total, runs, refused-workspace, refused-budget, refused-left, refused-right, pressed-terms}
+use Rattle.rounds.proofs.press.Statement.{statement}
+use Rattle.rounds.proofs.press.Tie as tie
+
+sizes-pass-requires : tie.Need-sizes-pass-requires
+sizes-pass-requires c κs = search needs
+
+returns : tie.Need-returns
+returns c = sym (refused-workspace _ _ (sym (c .before .sizes-pass .ensures) ∙ not-true _ (c .if1 .taken)))
+
+budget-passes-requires : tie.Need-budget-passes-requires
+budget-passes-requires c κs = search needs
+
+returns-2 : tie.Need-returns-2
+returns-2 c =
+    let fits = sym (c .before .before .before .sizes-pass .ensures) ∙ not-false _ (c .before .before .if1 .left) in
+    sym (refused-budget _ _ fits (sym (c .before .budget-passes .ensures) ∙ not-true _ (c .if2 .taken)))
+
+is-term-requires : tie.Need-is-term-requires
+is-term-requires c κs = search needs
+
+same-length : tie.Need-same-length
+same-length c = search needs
+
+returns-3 : tie.Need-returns-3
+returns-3 c =
+    let fits = sym (c .before .before .before .before .before .before .sizes-pass .ensures) ∙ not-false _ (c .before .before .before .before .before .if1 .left) in
+    let affords = sym (c .before .before .before .before .budget-passes .ensures) ∙ not-false _ (c .before .before .before .if2 .left) in
+    sym (refused-left _ _ fits affords (sym (c .before .is-term .ensures) ∙ not-true _ (c .if3 .taken)))
+
+is-term-requires-2 : tie.Need-is-term-requires-2
+is-term-requires-2 c κs = search needs
+
+same-length-2 : tie.Need-same-length-2
+same-length-2 c = search needs
+
+same-length-3 : tie.Need-same-length-3
+same-length-3 c = search needs
+
+returns-4 : tie.Need-returns-4
+returns-4 c =
+    let fits = sym (c .before .before .before .before .before .before .before .before .before .sizes-pass .ensures) ∙ not-false _ (c .before .before .before .before .before .before .before .before .if1 .left) in
+    let affords = sym (c .before .before .before .before .before .before .before .budget-passes .ensures) ∙ not-false _ (c .before .before .before .before .before .before .if2 .left) in
+    let is-left = sym (c .before .before .before .before .is-term .ensures) ∙ not-false _ (c .before .before .before .if3 .left) in
+    sym (refused-right _ _ fits affords is-left (sym (c .before .is-term2 .ensures) ∙ not-true _ (c .if4 .taken)))
+
+press-terms-requires : tie.Need-press-terms-requires
+press-terms-requires c κs =
+    let fits = sym (c .before .before .before .before .before .before .before .before .before .before .before .before .sizes-pass .ensures) ∙ not-false _ (c .before .before .before .before .before .before .before .before .before .before .before .if1 .left) in
+    let affords = sym (c .before .before .before .before .before .before .before .before .before .before .budget-passes .ensures) ∙ not-false _ (c .before .before .before .before .before .before .before .before .before .if2 .left) in
+    let is-left = sym (c .before .before .before .before .before .before .before .is-term .ensures) ∙ not-false _ (c .before .before .before .before .before .before .if3 .left) in
+    let is-right = sym (c .before .before .before .before .is-term2 .ensures) ∙ not-false _ (c .before .before .before .if4 .left) in
+    (runs _ _ _ _ _ fits is-left is-right, affords-total _ _ affords)
+
+same-length-4 : tie.Need-same-length-4
+same-length-4 c = search needs
+
+same-length-5 : tie.Need-same-length-5
+same-length-5 c = search needs
+
+same-length-6 : tie.Need-same-length-6
+same-length-6 c = search needs
+
+returns-5 : tie.Need-returns-5
+returns-5 c =
+    let fits = sym (c .before .before .before .before .before .before .before .before .before .before .before .before .before .before .before .before .before .before .before .sizes-pass .ensures) ∙ not-false _ (c .before .before .before .before .before .before .before .before .before .before .before .before .before .before .before .before .before .before .if1 .left) in
+    let affords = sym (c .before .before .before .before .before .before .before .before .before .before .before .before .before .before .before .before .before .budget-passes .ensures) ∙ not-false _ (c .before .before .before .before .before .before .before .before .before .before .before .before .before .before .before .before .if2 .left) in
+    let is-left = sym (c .before .before .before .before .before .before .before .before .before .before .before .before .before .before .is-term .ensures) ∙ not-false _ (c .before .before .before .before .before .before .before .before .before .before .before .before .before .if3 .left) in
+    let is-right = sym (c .before .before .before .before .before .before .before .before .before .before .before .is-term2 .ensures) ∙ not-false _ (c .before .before .before .before .before .before .before .before .before .before .if4 .left) in
+    c .before .before .before .before .before .before .press-terms .ensures ∙ sym (pressed-terms _ _ fits affords is-left is-right)
+
+pub press-spec : {M : Type 1} → statement M
+press-spec =
+    tie.close
+    (tie.spec
+    sizes-pass-requires
+    returns
+    budget-passes-requires
+    returns-2
+    is-term-requires
+    same-length
+    returns-3
+    is-term-requires-2
+    same-length-2
+    same-length-3
+    returns-4
+    press-terms-requires
+    same-length-4
+    same-length-5
+    same-length-6
+    returns-5)

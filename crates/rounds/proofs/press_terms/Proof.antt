@@ -1,0 +1,53 @@
+-- `press_terms` meets its contract: the rounds leave the two terms, and clearing leaves zeros after them. Assumes nothing.
+use Prim.Native.Nat.{_≤_}
+use mathlib.Core.Path.{_≡_, _∙_}
+use native.Mathlib.Omega.{arith}
+use borrow.Author.Needs.{needs}
+use Rattle.rounds.specs.Types.{sessionOf}
+use Rattle.rounds.proofs.PressCode.{ran-left-fits, ran-right-fits, ran-concludes}
+use Rattle.rounds.proofs.press_terms.Statement.{statement}
+use Rattle.rounds.proofs.press_terms.Tie as tie
+
+run-requires : tie.Need-run-requires
+run-requires c κs = search needs
+
+clear-requires : tie.Need-clear-requires
+clear-requires c κs = ran-left-fits (c .before .before .before .before .before .before .before .run .ensures)
+
+clear-requires-2 : tie.Need-clear-requires-2
+clear-requires-2 c κs = ran-right-fits (c .before .before .before .before .before .before .before .before .before .before .before .run .ensures)
+
+clear-requires-3 : tie.Need-clear-requires-3
+clear-requires-3 c κs = search needs
+
+add-t27 : tie.Need-add-t27
+add-t27 c = omega (arith, c .before .before .before .before .before .before .before .before .before .before .before .before .before .before .before .before .before .before .before .run .ensures .within)
+
+same-length : tie.Need-same-length
+same-length c = search needs
+
+same-length-2 : tie.Need-same-length-2
+same-length-2 c = search needs
+
+same-length-3 : tie.Need-same-length-3
+same-length-3 c = search needs
+
+returns : tie.Need-returns
+returns c =
+    let start = c .before .before .before .before .before .before .before .before .before .before .before .before .before .before .before .before .before .before .before .before .before .before .before .before .before .before in
+    let ran = c .before .before .before .before .before .before .before .before .before .before .before .before .before .before .before .before .before .before .before .run in
+    ran-concludes (ran .ensures) _ (sessionOf (start .args .session)) (ran .last .1 .1 .0) (ran .kept .0) (ran .kept .1 .0 ∙ start .pre .0 .right-length) (ran .kept .1 .1 .0 ∙ start .pre .0 .scratch-length) (c .before .before .before .before .before .before .before .before .before .before .before .clear .ensures) (c .before .before .before .before .before .before .before .clear2 .ensures) (c .before .before .before .clear3 .ensures)
+
+pub press-terms-spec : {M : Type 1} → statement M
+press-terms-spec =
+    tie.close
+    (tie.spec
+    run-requires
+    clear-requires
+    clear-requires-2
+    clear-requires-3
+    add-t27
+    same-length
+    same-length-2
+    same-length-3
+    returns)

@@ -1,0 +1,27 @@
+-- What the rounds of a press need of the lent words, and what they leave.
+use Prim.Native.Nat.{ℕ, _≤_}
+use mathlib.Core.Path.{_≡_}
+use mathlib.Core.List.{List, _++_}
+use lib.ListN.{length}
+use Rattle.calculus.specs.Words.{words, size}
+use Rattle.calculus.specs.Rounds.{Verdict, Outcome}
+use Rattle.step.specs.Held.{Holds}
+
+-- Both workspaces hold terms, and the three lengths are equal.
+pub record Runs (left right scratch : List ℕ) (l r : ℕ) : Type 0 where
+  pub left-holds : Holds left l
+  pub right-holds : Holds right r
+  pub right-length : length right ≡ length left
+  pub scratch-length : length scratch ≡ length left
+
+-- The workspaces hold the two terms that the rounds with a budget end in. The words after a term are any: the press clears them.
+pub record Ran (budget : ℕ) (o : Outcome) (verdict : Verdict) (spent l r : ℕ) (left right : List ℕ) : Type 0 where
+  pub verdict-is : verdict ≡ o .verdict
+  pub spent-is : spent ≡ o .spent
+  pub within : spent ≤ budget
+  pub left-length : l ≡ size (o .left)
+  pub right-length : r ≡ size (o .right)
+  pub left-others : List ℕ
+  pub left-words : left ≡ words (o .left) ++ left-others
+  pub right-others : List ℕ
+  pub right-words : right ≡ words (o .right) ++ right-others

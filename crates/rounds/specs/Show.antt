@@ -1,0 +1,44 @@
+-- Showing ("A press", "Numbers for refused calls"): the shorter current form, a part of the workspace that holds it, and the left one at equal
+-- lengths; the empty start of the left workspace where a press would be refused with 7 or 10.
+use Prim.Native.Nat.{ℕ}
+use mathlib.Core.Bool.{cond}
+use mathlib.Core.List.{List}
+use mathlib.Core.Option.{Option, some, none}
+use lib.Dec.{leb}
+use lib.ListN.{length, take}
+use Rattle.calculus.specs.Term.{Term}
+use Rattle.calculus.specs.Workspace.{termAt}
+use Rattle.rounds.specs.Press.{sized}
+
+pub data Side : Type 0 where
+  left right : Side
+
+-- A part that is handed back: it starts where this side's workspace starts, and has so many words.
+pub record Part : Type 0 where
+  pub side : Side
+  pub count : ℕ
+
+abbrev pub shorter : (l r : ℕ) → Part
+shorter l r = cond (leb l r) (record { side = left; count = l }) (record { side = right; count = r })
+
+abbrev pub nothing : Part
+nothing = record { side = left; count = 0 }
+
+abbrev pub showTerms : (l r : ℕ) → Option Term → Option Term → Part
+showTerms l r none u = nothing
+showTerms l r (some t) none = nothing
+showTerms l r (some t) (some u) = shorter l r
+
+-- The part that showing hands back, by both workspaces and the length of each side's term. There is no scratch, so the left workspace stands for
+-- it in the test of the lengths.
+unfoldable pub show : (left right : List ℕ) (l r : ℕ) → Part
+show ws vs l r =
+    cond (sized (length ws) (length vs) (length ws)) (showTerms l r (termAt ws l) (termAt vs r)) nothing
+
+-- What is handed back of two slices, each by the pointer to its first word and its words: the pointer and the words of the part.
+abbrev pub partBy : {A : Type 0} → Side → (onLeft onRight : A) → A
+partBy left a b = a
+partBy right a b = b
+
+abbrev pub partOf : (leftAt rightAt : ℕ × ℕ) (ws vs : List ℕ) → Part → (ℕ × ℕ) × List ℕ
+partOf leftAt rightAt ws vs p = (partBy (p .side) leftAt rightAt, take (p .count) (partBy (p .side) ws vs))

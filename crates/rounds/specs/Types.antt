@@ -1,0 +1,50 @@
+-- What the code's types stand for: the verdict's and the answer's enum case by case, and the session.
+use Prim.Native.Nat.{ℕ}
+use mathlib.Core.List.{List}
+use Rattle.calculus.specs.Rounds.{Verdict, Same, Different, Budget, Full}
+use Rattle.rounds.specs.declared.Verdict as code
+use Rattle.rounds.specs.declared.Verdict.the-variants as verdict
+use Rattle.rounds.specs.declared.Answer as codeAnswer
+use Rattle.rounds.specs.declared.Answer.the-variants as answer
+use Rattle.rounds.specs.declared.Session as codeSession
+use Rattle.rounds.specs.declared.Pressed as codePressed
+use Rattle.rounds.specs.declared.turn.Plan as codePlan
+use Rattle.rounds.specs.declared.turn.Plan.the-variants as plan
+use Rattle.rounds.specs.declared.turn.Turn as codeTurn
+use Rattle.rounds.specs.declared.turn.Turn.the-variants as turn
+use Rattle.rounds.specs.Turn.{Plan, normal, contract, Turn, ends, goes}
+use Rattle.rounds.specs.Session.{Session}
+use Rattle.rounds.specs.Press.{Answer, refused, shown, Memory, Call, Pressed}
+
+-- The four verdicts.
+abbrev pub verdictOf : code.Verdict → Verdict
+verdictOf verdict.Same = Same
+verdictOf verdict.Different = Different
+verdictOf verdict.Budget = Budget
+verdictOf verdict.Full = Full
+
+abbrev pub sessionOf : codeSession.Session → Session
+sessionOf s = record { total = s .total; left = s .left; right = s .right; verdict = verdictOf (s .verdict) }
+
+-- A refusal's number, or verdict, spent and both lengths.
+abbrev pub answerOf : codeAnswer.Answer → Answer
+answerOf (answer.Refused n) = refused n
+answerOf (answer.Shown v s l r) = shown (verdictOf v) s l r
+
+abbrev pub memoryOf : (left right : List ℕ) → codeSession.Session → Memory
+memoryOf l r s = record { left = l; right = r; session = sessionOf s }
+
+abbrev pub callOf : (scratch : List ℕ) (leftLength rightLength budget : ℕ) → Call
+callOf scratch l r b = record { scratch = scratch; leftLength = l; rightLength = r; budget = b }
+
+-- Everything at exit of the covered press: its result and the three lent slices.
+abbrev pub pressedOf : codePressed.Pressed → (left right scratch : List ℕ) → Pressed
+pressedOf p l r s = record { answer = answerOf (p .answer); memory = memoryOf l r (p .session); scratch = s }
+
+abbrev pub planOf : codePlan.Plan → Plan
+planOf plan.Normal = normal
+planOf (plan.Contract p n) = contract p n
+
+abbrev pub turnOf : codeTurn.Turn → Turn
+turnOf (turn.Ends v) = ends (verdictOf v)
+turnOf (turn.Goes p) = goes p

@@ -1,0 +1,181 @@
+-- The contraction of the held term in the words of the workspace: the parts found at the redex's position are those that substitution asks for,
+-- and the next term's words are those before the redex, the substituted body's and those behind the redex.
+use Prim.Native.Nat.{ℕ, _+_, _-_, _*_, _≤_, _<_}
+use mathlib.Core.Path.{_≡_, refl, sym, _∙_, ap}
+use mathlib.Core.List.{List, _++_, append-assoc}
+use mathlib.Core.Option.{some, Option·none-ne-some}
+use native.Mathlib.Omega.{arith}
+use lib.ListN.{length, take, drop, length-append, length-drop}
+use lib.Seq.{slice, length-slice, length-take-le, take-at, drop-at}
+use Rattle.calculus.specs.Term.{Sort, Exp, Term, Terms, count}
+use Rattle.calculus.specs.Words.{countBase, workspaceMost, words, size}
+use Rattle.calculus.specs.Skip.{span}
+use Rattle.calculus.specs.Substitution.{subst}
+use Rattle.calculus.specs.Theorems.{Packable, indexLimit, IndicesWithin}
+use Rattle.calculus.proofs.WordLaws.{accepted-packable}
+use Rattle.calculus.proofs.SizeLaws.{size-subst}
+use Rattle.calculus.proofs.FirstLaws.{span-items}
+use Rattle.calculus.proofs.Indices.{indices-bounded}
+use Rattle.calculus.proofs.PositionLaws.{contract-at-position, contractAt-within}
+use Rattle.calculus.proofs.Focus.{Focus, focus}
+use Rattle.substitution.specs.Results.{Substitutable, substituted}
+use Rattle.substitution.proofs.ResultLaws.{substituted-at, substitutable-at}
+use Rattle.step.specs.declared.Redex.the-variants as redex
+use Rattle.step.specs.Held.{held}
+use Rattle.step.specs.Parts.{parts}
+use Rattle.step.specs.Next.{next, nextFrom, HoldsRedex}
+use Rattle.step.proofs.HeldLaws.{Start, termAt-start}
+use Rattle.step.proofs.SearchLaws.{no-redex-here}
+use Rattle.step.proofs.RedexLaws.{From, Stands, stands, Root, contracts, root}
+
+-- The end of the item that starts at a position.
+abbrev pub endAt : List ℕ → ℕ → ℕ
+endAt ws at = at + span 1 (drop at ws)
+
+-- What is known where the parts of the redex at `at` were found at b and a, with m arguments: they may be substituted, and from the redex on the
+-- next term's words are those of the substituted body and those behind the redex.
+pub record Contraction (ws : List ℕ) (n at b a m : ℕ) : Type 0 where
+  pub substitutable : Substitutable ws b a m
+  pub ends : endAt ws at ≤ n
+  pub rest : nextFrom ws n at ≡ words (substituted ws b a m) ++ slice (endAt ws at) n ws
+  pub short : size (substituted ws b a m) ≤ workspaceMost * workspaceMost
+
+stands-short : {s : Sort} {e : Exp s} {W : List ℕ} {p : ℕ} → Stands W p e → size e ≤ length W
+stands-short {e = e} {W} {p} s = omega (arith, ap length (s .words-at .from), length-append (words e) (s .after), length-drop p W)
+
+-- The parts of a term that contracts.
+record Parted (W : List ℕ) (t c : Term) (b a m : ℕ) : Type 0 where
+  body : Term
+  arguments : Terms
+  body-stands : Stands W b body
+  arguments-stand : Stands W a arguments
+  counted : count arguments ≡ m
+  few : m < countBase
+  indices : (limit : ℕ) → IndicesWithin limit t → IndicesWithin limit arguments
+  contracted : c ≡ subst arguments 0 body
+
+parted : {W : List ℕ} {t c : Term} {b a m : ℕ} → Root W t (some c) (redex.Parts b a m) → Parted W t c b a m
+parted (contracts {e = e} {xs = xs} s s′ l i) =
+    record {
+      body = e;
+      arguments = xs;
+      body-stands = s;
+      arguments-stand = s′;
+      counted = refl;
+      few = l;
+      indices = i;
+      contracted = refl;
+    }
+
+module _ {ws : List ℕ} {n at : ℕ} (here : HoldsRedex ws n at) where
+  pub start : Start ws n (held ws n)
+  start = termAt-start ws n (held ws n) (here .holds .term)
+
+  pub redex-within : at < n
+  redex-within = omega (arith, start .long, contractAt-within (held ws n) at (next ws n at) (here .redex))
+
+  pub redex-read : at < length ws
+  redex-read = omega (arith, redex-within, start .within)
+
+  pub length-short : n ≤ workspaceMost
+  length-short = omega (arith, start .within, here .holds .limit)
+
+  -- The parts are found.
+  pub never-nothing : parts at (drop at ws) ≡ redex.Nothing → ⊥
+  never-nothing e = Option·none-ne-some (next ws n at) (sym (no-redex-here (here .holds) redex-within e) ∙ here .redex)
+
+  packable : Packable (held ws n)
+  packable = accepted-packable 0 (held ws n) (start .accepted)
+
+  indices : IndicesWithin indexLimit (held ws n)
+  indices = indices-bounded (held ws n) (start .accepted) (omega (arith, start .long, start .within, here .holds .limit))
+
+  focused : Focus indexLimit (words (held ws n)) (words (next ws n at)) at
+  focused = focus indexLimit (contract-at-position at (held ws n) (next ws n at) .0 (here .redex) .1) packable indices
+
+  -- The redex stands at its position.
+  workspace-is : ws ≡ focused .before ++ (words (focused .redex) ++ (focused .after ++ drop n ws))
+  workspace-is = sym (start .start) ∙ rw (focused .from) (simp append-assoc)
+
+  redex-from : From ws at (words (focused .redex) ++ (focused .after ++ drop n ws))
+  redex-from = record { from = ap (drop at) workspace-is ∙ drop-at (focused .before) _ at (focused .position) }
+
+  redex-stands : Stands ws at (focused .redex)
+  redex-stands = stands (focused .redex) (focused .after ++ drop n ws) redex-from (focused .packable)
+
+  redex-span : span 1 (drop at ws) ≡ size (focused .redex)
+  redex-span = ap (span 1) (redex-from .from) ∙ span-items (focused .redex) _ refl (focused .packable)
+
+  before-is : take at ws ≡ focused .before
+  before-is = ap (take at) workspace-is ∙ take-at (focused .before) _ at (focused .position)
+
+  end-is : length (focused .before ++ words (focused .redex)) ≡ endAt ws at
+  end-is = omega (arith, redex-span, focused .position, length-append (focused .before) (words (focused .redex)))
+
+  -- The words before the redex stay.
+  next-keeps : words (next ws n at) ≡ take at ws ++ (words (focused .contractum) ++ focused .after)
+  next-keeps = rw before-is (focused .to)
+
+  next-rest : nextFrom ws n at ≡ words (focused .contractum) ++ focused .after
+  next-rest = ap (drop at) (focused .to) ∙ drop-at (focused .before) _ at (focused .position)
+
+  pub next-splits : words (next ws n at) ≡ take at ws ++ nextFrom ws n at
+  next-splits = rw next-rest next-keeps
+
+  pub next-size : size (next ws n at) ≡ at + length (nextFrom ws n at)
+  next-size =
+      omega (
+        arith,
+        ap length next-splits,
+        length-append (take at ws) (nextFrom ws n at),
+        length-take-le at ws (omega (arith, redex-within, start .within)),
+      )
+
+  after-is : slice (endAt ws at) n ws ≡ focused .after
+  after-is =
+      let f = focused in
+      ap (drop (endAt ws at)) (sym (start .taken) ∙ f .from ∙ sym (append-assoc (f .before) (words (f .redex)) (f .after)))
+      ∙ drop-at (f .before ++ words (f .redex)) (f .after) (endAt ws at) end-is
+
+  end-within : endAt ws at ≤ n
+  end-within =
+      let f = focused in
+      omega (arith, end-is, start .long, ap length (f .from ∙ sym (append-assoc (f .before) (words (f .redex)) (f .after))), length-append (f .before ++ words (f .redex)) (f .after))
+
+  module _ {b a m : ℕ} (found : parts at (drop at ws) ≡ redex.Parts b a m) where
+    at-parts : Parted ws (focused .redex) (focused .contractum) b a m
+    at-parts = parted (rw (focused .contracts, found) at (root redex-stands))
+
+    substituted-is : substituted ws b a m ≡ focused .contractum
+    substituted-is =
+        let q = at-parts in
+        let s = q .body-stands in
+        let s′ = q .arguments-stand in
+        substituted-at ws b a m (q .body) (q .arguments) (s .after) (s′ .after) (s .words-at .from) (s .packable) (s′ .words-at .from) (s′ .packable) (q .counted)
+        ∙ sym (q .contracted)
+
+    pub contraction : Contraction ws n at b a m
+    contraction =
+        let q = at-parts in
+        let s = q .body-stands in
+        let s′ = q .arguments-stand in
+        record {
+          substitutable =
+              substitutable-at ws b a m (q .body) (q .arguments) (s .after) (s′ .after) (s .words-at .from) (s .packable) (s′ .words-at .from) (s′ .packable)
+              (q .counted) (here .holds .limit) (omega (arith, q .few)) (q .indices indexLimit (focused .indices));
+          ends = end-within;
+          rest = rw (after-is, substituted-is) next-rest;
+          short =
+              rw (substituted-is ∙ q .contracted)
+              (omega (arith, here .holds .limit, size-subst (q .arguments) workspaceMost (omega arith) (omega (arith, stands-short s′, here .holds .limit)) 0 (q .body), stands-short s));
+        }
+
+    -- The lengths of the parts make up that of the next term.
+    pub rest-length : length (nextFrom ws n at) ≡ size (substituted ws b a m) + (n - endAt ws at)
+    rest-length =
+        omega (
+          arith,
+          ap length (contraction .rest),
+          length-append (words (substituted ws b a m)) (slice (endAt ws at) n ws),
+          length-slice (endAt ws at) n ws (start .within),
+        )

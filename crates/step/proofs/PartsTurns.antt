@@ -1,0 +1,94 @@
+-- The parts of a redex, by the words at a position of a workspace: what each turn and each branch of the code finds.
+use Prim.Native.Nat.{ℕ, zero, suc, _+_, _-_, _≤_, _<_}
+use mathlib.Core.Path.{_≡_, refl, _∙_, ap}
+use mathlib.Core.Bool.{cond}
+use mathlib.Core.List.{List, _∷_}
+use native.Mathlib.Numerals.{add-one}
+use native.Mathlib.Omega.{arith}
+use lib.Dec.{eqb}
+use borrow.Author.Tests.{eq-eqb, ne-eqb}
+use lib.ListN.{length, getD, drop, drop-of-length-le}
+use lib.Seq.{drop-cons, drop-drop}
+use Rattle.calculus.specs.Words.{abstractionKind, applicationKind, constructorKind, caseKind, kindOf, payloadOf, tagOf, countOf}
+use Rattle.calculus.specs.Skip.{span}
+use Rattle.calculus.proofs.SkipLaws.{skip-drop}
+use Rattle.step.specs.declared.Found.{Found}
+use Rattle.step.specs.declared.Found.the-variants as found
+use Rattle.step.specs.declared.Redex.the-variants as redex
+use Rattle.step.specs.Parts.{branchBody, withBody, caseParts, parts}
+
+pub branchBody-none : (t n i : ℕ) (ws : List ℕ) → branchBody zero t n i ws ≡ found.Nothing
+unfolding branchBody
+branchBody-none t n i ws = refl
+
+pub branchBody-past : (k t n i : ℕ) (ws : List ℕ) → length ws ≤ i → branchBody k t n i (drop i ws) ≡ found.Nothing
+unfolding branchBody
+branchBody-past zero t n i ws h = refl
+branchBody-past (suc k) t n i ws h = rw (drop-of-length-le ws h)
+
+-- The branch at i, or those behind it.
+branchBody-step : (k t n i : ℕ) (ws : List ℕ) → i < length ws → (k ≡ 0 → ⊥)
+    → branchBody k t n i (drop i ws)
+    ≡ cond (eqb t (tagOf (payloadOf (getD ws i 0))))
+    (cond (eqb n (countOf (payloadOf (getD ws i 0)))) (found.At (i + 1)) found.Nothing)
+    (branchBody (k - 1) t n (i + 1 + span 1 (drop (i + 1) ws)) (drop (i + 1 + span 1 (drop (i + 1) ws)) ws))
+unfolding branchBody
+branchBody-step zero t n i ws h z = absurd (z refl)
+branchBody-step (suc k) t n i ws h z =
+    let e : suc k - 1 ≡ k = omega arith in
+    rw (drop-cons ws i 0 h, e, ← drop-drop (span 1 (drop (i + 1) ws)) (i + 1) ws, ← skip-drop 1 (drop (i + 1) ws), add-one i)
+
+-- The branch at i has the tag and binds n variables, or another number; or it has another tag.
+module _ (k t n i : ℕ) (ws : List ℕ) (within : i < length ws) (left : k ≡ 0 → ⊥) where
+  pub branchBody-fits : t ≡ tagOf (payloadOf (getD ws i 0)) → n ≡ countOf (payloadOf (getD ws i 0)) → branchBody k t n i (drop i ws) ≡ found.At (i + 1)
+  branchBody-fits p q = branchBody-step k t n i ws within left ∙ rw (eq-eqb _ _ p, eq-eqb _ _ q)
+
+  pub branchBody-other : t ≡ tagOf (payloadOf (getD ws i 0)) → (n ≡ countOf (payloadOf (getD ws i 0)) → ⊥) → branchBody k t n i (drop i ws) ≡ found.Nothing
+  branchBody-other p q = branchBody-step k t n i ws within left ∙ rw (eq-eqb _ _ p, ne-eqb _ _ q)
+
+  pub branchBody-later : (t ≡ tagOf (payloadOf (getD ws i 0)) → ⊥) → {j : ℕ} → j ≡ i + 1 + span 1 (drop (i + 1) ws) → branchBody k t n i (drop i ws) ≡ branchBody (k - 1) t n j (drop j ws)
+  branchBody-later p q = branchBody-step k t n i ws within left ∙ rw (ne-eqb _ _ p, q)
+
+-- The words from a position on, by the first, and by the first two.
+first-word : (i : ℕ) (ws : List ℕ) (j : ℕ) → i < length ws → j ≡ i + 1 → drop i ws ≡ getD ws i 0 ∷ drop j ws
+first-word i ws j h e = rw (e, add-one) (drop-cons ws i 0 h)
+
+first-two : (i : ℕ) (ws : List ℕ) → i + 1 < length ws → drop i ws ≡ getD ws i 0 ∷ getD ws (i + 1) 0 ∷ drop (i + 2) ws
+first-two i ws h = first-word i ws (i + 1) (omega arith) refl ∙ ap (_∷_ (getD ws i 0)) (first-word (i + 1) ws (i + 2) h (omega arith))
+
+-- A case of a constructor, by what its words and the search among its branches say.
+pub caseParts-found : (i w v : ℕ) (ws : List ℕ) {p t n j : ℕ} {r x : Found}
+    → p ≡ payloadOf w → t ≡ tagOf (payloadOf v) → n ≡ countOf (payloadOf v) → j ≡ i + 1 + span 1 (drop (i + 1) ws)
+    → r ≡ branchBody p t n j (drop j ws) → r ≡ x → caseParts i w v (drop (i + 1) ws) ≡ withBody (i + 2) n x
+unfolding caseParts
+caseParts-found i w v ws e₁ e₂ e₃ e₄ e₅ e₆ =
+    rw (← e₆, e₅, e₁, e₂, e₃, e₄, ← drop-drop (span 1 (drop (i + 1) ws)) (i + 1) ws, ← skip-drop 1 (drop (i + 1) ws))
+
+-- The last word has none behind it.
+pub parts-last : (i : ℕ) (ws : List ℕ) → i < length ws → length ws ≤ i + 1 → parts i (drop i ws) ≡ redex.Nothing
+unfolding parts
+parts-last i ws h l = rw (drop-cons ws i 0 h, drop-of-length-le ws {i = suc i} (omega arith))
+
+-- The two first words are those of an application of an abstraction, of a case of a constructor, or others.
+module _ (i : ℕ) (ws : List ℕ) (within : i + 1 < length ws) where
+  pub parts-beta : kindOf (getD ws i 0) ≡ applicationKind → kindOf (getD ws (i + 1) 0) ≡ abstractionKind
+      → parts i (drop i ws) ≡ redex.Parts (i + 2) (i + 2 + span 1 (drop (i + 2) ws)) 1
+  unfolding parts
+  parts-beta p q = rw (first-two i ws within, p, q)
+
+  pub parts-applied : kindOf (getD ws i 0) ≡ applicationKind → (kindOf (getD ws (i + 1) 0) ≡ abstractionKind → ⊥) → parts i (drop i ws) ≡ redex.Nothing
+  unfolding parts
+  parts-applied p q = rw (first-two i ws within, p, ne-eqb _ _ q)
+
+  pub parts-case : kindOf (getD ws i 0) ≡ caseKind → kindOf (getD ws (i + 1) 0) ≡ constructorKind
+      → parts i (drop i ws) ≡ caseParts i (getD ws i 0) (getD ws (i + 1) 0) (drop (i + 1) ws)
+  unfolding parts
+  parts-case p q = rw (first-two i ws within, p, q, first-word (i + 1) ws (i + 2) within (omega arith))
+
+  pub parts-stuck : kindOf (getD ws i 0) ≡ caseKind → (kindOf (getD ws (i + 1) 0) ≡ constructorKind → ⊥) → parts i (drop i ws) ≡ redex.Nothing
+  unfolding parts
+  parts-stuck p q = rw (first-two i ws within, p, ne-eqb _ _ q)
+
+  pub parts-other : (kindOf (getD ws i 0) ≡ applicationKind → ⊥) → (kindOf (getD ws i 0) ≡ caseKind → ⊥) → parts i (drop i ws) ≡ redex.Nothing
+  unfolding parts
+  parts-other p q = rw (first-two i ws within, ne-eqb _ _ p, ne-eqb _ _ q)

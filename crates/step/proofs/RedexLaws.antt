@@ -1,0 +1,159 @@
+-- The parts found in the words are those of the tree: at the first word of a term they are there exactly where the term contracts, and then the
+-- contractum is the body found with the arguments found put in.
+use Prim.Native.Nat.{ℕ, _+_, _<_}
+use mathlib.Core.Path.{_≡_, refl, sym, _∙_, ap}
+use mathlib.Core.Bool.{Bool, true, false, cond}
+use mathlib.Core.List.{List, [], _∷_, _++_, append-assoc, append-nil}
+use mathlib.Core.Option.{Option, some, none}
+use native.Mathlib.Omega.{arith}
+use lib.Dec.{eqb}
+use lib.ListN.{length, drop}
+use lib.Seq.{drop-drop, drop-append-seam}
+use borrow.Author.Tests.{ne-eqb}
+use Rattle.calculus.specs.Term.{Sort, Exp, Term, Terms, Branches, var, lam, app, con, case, nil, cons, end, branch, count}
+use Rattle.calculus.specs.Words.{variableKind, abstractionKind, applicationKind, constructorKind, caseKind, branchKind, kindBase, word, countBase, pack, words, size}
+use Rattle.calculus.specs.Skip.{skip, span}
+use Rattle.calculus.specs.Substitution.{subst as substitution}
+use Rattle.calculus.specs.Contraction.{select}
+use Rattle.calculus.specs.Leftmost.{beta, inspect}
+use Rattle.calculus.specs.Position.{contractAt}
+use Rattle.calculus.specs.Theorems.{Packable, IndicesWithin}
+use Rattle.calculus.proofs.WordLaws.{kindOf-word, payloadOf-word, tagOf-pack, countOf-pack}
+use Rattle.calculus.proofs.SkipLaws.{span-words, span-zero, skip-words, skip-zero}
+use Rattle.step.specs.declared.Found.{Found}
+use Rattle.step.specs.declared.Found.the-variants as found
+use Rattle.step.specs.declared.Redex.{Redex}
+use Rattle.step.specs.declared.Redex.the-variants as redex
+use Rattle.step.specs.Parts.{branchBody, withBody, caseParts, parts}
+
+-- From a position on, a workspace is these words.
+pub record From (W : List ℕ) (p : ℕ) (ws : List ℕ) : Type 0 where
+  pub from : drop p W ≡ ws
+
+pub behind-word : {W : List ℕ} {p w : ℕ} {ws : List ℕ} → From W p (w ∷ ws) → From W (p + 1) ws
+behind-word {W} {p} s = record { from = sym (drop-drop 1 p W) ∙ ap (drop 1) (s .from) }
+
+pub behind : {W : List ℕ} {p : ℕ} (xs : List ℕ) {ys : List ℕ} → From W p (xs ++ ys) → From W (p + length xs) ys
+behind {W} {p} xs {ys} s = record { from = sym (drop-drop (length xs) p W) ∙ ap (drop (length xs)) (s .from) ∙ drop-append-seam xs ys }
+
+-- At a position of a workspace stand the words of an expression.
+pub record Stands {s : Sort} (W : List ℕ) (p : ℕ) (e : Exp s) : Type 0 where
+  pub after : List ℕ
+  pub words-at : From W p (words e ++ after)
+  pub packable : Packable e
+
+pub stands : {s : Sort} (e : Exp s) {W : List ℕ} {p : ℕ} (vs : List ℕ) → From W p (words e ++ vs) → Packable e → Stands W p e
+stands e vs f h = record { after = vs; words-at = f; packable = h }
+
+-- A term is a list of one argument.
+stands-alone : (a : Term) {W : List ℕ} {p : ℕ} (vs : List ℕ) → From W p (words a ++ vs) → Packable a → Stands W p (cons a nil)
+stands-alone a vs f h = stands (cons a nil) vs (rw (append-nil (words a)) f) (h, tt)
+
+-- The extent of one term.
+span-term : (t : Term) (ws : List ℕ) → Packable t → span 1 (words t ++ ws) ≡ size t
+span-term t ws h = omega (arith, span-words t 0 ws h, span-zero ws)
+
+skip-term : (t : Term) (ws : List ℕ) → Packable t → skip 1 (words t ++ ws) ≡ ws
+skip-term t ws h = skip-words t 0 ws h ∙ skip-zero ws
+
+-- What the case rule selects, beside the body that was found.
+data Selected (W : List ℕ) (xs : Terms) : Option Term → Found → Type 0 where
+  nowhere : Selected W xs none found.Nothing
+  body : {p : ℕ} {b : Term} → Stands W p b → Selected W xs (some (substitution xs 0 b)) (found.At p)
+
+selected-eqb : {W : List ℕ} {xs : Terms} (x y : Option Term) (q r : Found) (m n : ℕ) → Selected W xs x q → Selected W xs y r
+    → Selected W xs (cond (eqb m n) x y) (cond (eqb m n) q r)
+selected-eqb {W} {xs} x y q r m n s t = go (eqb m n)
+  where
+    go : (b : Bool) → Selected W xs (cond b x y) (cond b q r)
+    go true = s
+    go false = t
+
+selected : (t : ℕ) (xs : Terms) (bs : Branches) {W : List ℕ} {at : ℕ} (vs : List ℕ) → Packable bs → From W at (words bs ++ vs)
+    → Selected W xs (select t xs bs) (branchBody (count bs) t (count xs) at (words bs ++ vs))
+unfolding branchBody
+selected t xs end vs h s = nowhere
+selected t xs (branch u n b bs) vs h s =
+    let q = payloadOf-word branchKind (pack u n) (omega arith) in
+    let s′ = rw (append-assoc (words b) (words bs) vs) at (behind-word s) in
+    rw (q, tagOf-pack u n (h .0), countOf-pack u n (h .0), append-assoc (words b) (words bs) vs, span-term b (words bs ++ vs) (h .1), skip-term b (words bs ++ vs) (h .1))
+    (selected-eqb _ _ _ _ t u (selected-eqb _ _ _ _ (count xs) n (body (stands b (words bs ++ vs) s′ (h .1))) nowhere) (selected t xs bs vs (h .2) (behind (words b) s′)))
+
+-- What contracting a term at its first word gives, beside the parts that were found there.
+pub data Root (W : List ℕ) (t : Term) : Option Term → Redex → Type 0 where
+  stuck : Root W t none redex.Nothing
+  contracts : {b a : ℕ} {e : Term} {xs : Terms} → Stands W b e → Stands W a xs → count xs < countBase
+      → ((limit : ℕ) → IndicesWithin limit t → IndicesWithin limit xs) → Root W t (some (substitution xs 0 e)) (redex.Parts b a (count xs))
+
+-- The words of other kinds start no redex.
+pub other-first : (k p at : ℕ) (ws : List ℕ) → k < kindBase → (k ≡ applicationKind → ⊥) → (k ≡ caseKind → ⊥) → parts at (word k p ∷ ws) ≡ redex.Nothing
+unfolding parts
+other-first k p at [] l a c = refl
+other-first k p at (v ∷ vs) l a c = rw (kindOf-word k p l, ne-eqb _ _ a, ne-eqb _ _ c)
+
+-- Nor do an application and a case where the wrong kind stands behind them.
+other-function : (k p at : ℕ) (ws : List ℕ) → k < kindBase → (k ≡ abstractionKind → ⊥) → parts at (word applicationKind 0 ∷ word k p ∷ ws) ≡ redex.Nothing
+unfolding parts
+other-function k p at ws l a = rw (kindOf-word k p l, ne-eqb _ _ a)
+
+other-subject : (n k p at : ℕ) (ws : List ℕ) → k < kindBase → (k ≡ constructorKind → ⊥) → parts at (word caseKind n ∷ word k p ∷ ws) ≡ redex.Nothing
+unfolding parts
+other-subject n k p at ws l a = rw (kindOf-word caseKind n (omega arith), kindOf-word k p l, ne-eqb _ _ a)
+
+at-function : {W : List ℕ} (f a : Term) {at : ℕ} (vs : List ℕ) → Packable (app f a) → From W at (words (app f a) ++ vs) → Root W (app f a) (beta f a) (parts at (words (app f a) ++ vs))
+unfolding parts
+at-function (var i) a vs h s = rw (other-function variableKind i _ _ (omega arith) (λ e. omega arith)) stuck
+at-function (lam b) a {at} vs h s =
+    let two : at + 1 + 1 ≡ at + 2 = omega arith in
+    let s′ = rw (append-assoc (words b) (words a) vs, two) at (behind-word (behind-word s)) in
+    rw (append-assoc (words b) (words a) vs, span-term b (words a ++ vs) (h .0))
+    (contracts (stands b (words a ++ vs) s′ (h .0)) (stands-alone a vs (behind (words b) s′) (h .1)) (omega arith) (λ limit i. (i .1, tt)))
+at-function (app f g) a vs h s = stuck
+at-function (con t xs) a vs h s = rw (other-function constructorKind (pack t (count xs)) _ _ (omega arith) (λ e. omega arith)) stuck
+at-function (case e bs) a vs h s = rw (other-function caseKind (count bs) _ _ (omega arith) (λ e. omega arith)) stuck
+
+root-selected : {W : List ℕ} {t : Term} {xs : Terms} {a : ℕ} {o : Option Term} {r : Found} → Selected W xs o r → Stands W a xs → count xs < countBase
+    → ((limit : ℕ) → IndicesWithin limit t → IndicesWithin limit xs) → Root W t o (withBody a (count xs) r)
+root-selected nowhere s l i = stuck
+root-selected (body b) s l i = contracts b s l i
+
+parts-constructor : (n p at : ℕ) (ws : List ℕ)
+    → parts at (word caseKind n ∷ word constructorKind p ∷ ws) ≡ caseParts at (word caseKind n) (word constructorKind p) (word constructorKind p ∷ ws)
+unfolding parts
+parts-constructor n p at ws = rw (kindOf-word caseKind n (omega arith), kindOf-word constructorKind p (omega arith))
+
+caseParts-words : (n t : ℕ) (xs : Terms) (at : ℕ) (vs : List ℕ) → Packable (con t xs)
+    → caseParts at (word caseKind n) (word constructorKind (pack t (count xs))) (words (con t xs) ++ vs)
+    ≡ withBody (at + 2) (count xs) (branchBody n t (count xs) (at + 1 + size (con t xs)) vs)
+unfolding caseParts
+caseParts-words n t xs at vs h =
+    rw (
+      span-term (con t xs) vs h,
+      skip-term (con t xs) vs h,
+      payloadOf-word caseKind n (omega arith),
+      payloadOf-word constructorKind (pack t (count xs)) (omega arith),
+      tagOf-pack t (count xs) (h .0),
+      countOf-pack t (count xs) (h .0),
+    )
+
+at-subject : {W : List ℕ} (e : Term) (bs : Branches) {at : ℕ} (vs : List ℕ) → Packable (case e bs) → From W at (words (case e bs) ++ vs) → Root W (case e bs) (inspect e bs) (parts at (words (case e bs) ++ vs))
+at-subject (var i) bs vs h s = rw (other-subject (count bs) variableKind i _ _ (omega arith) (λ e. omega arith)) stuck
+at-subject (lam b) bs vs h s = rw (other-subject (count bs) abstractionKind 0 _ _ (omega arith) (λ e. omega arith)) stuck
+at-subject (app f g) bs vs h s = rw (other-subject (count bs) applicationKind 0 _ _ (omega arith) (λ e. omega arith)) stuck
+at-subject (con t xs) bs {at} vs h s =
+    let two : at + 1 + 1 ≡ at + 2 = omega arith in
+    let s′ = rw (append-assoc (words (con t xs)) (words bs) vs) at (behind-word s) in
+    rw (append-assoc (words (con t xs)) (words bs) vs, parts-constructor (count bs) (pack t (count xs)) at (words xs ++ (words bs ++ vs)), caseParts-words (count bs) t xs at (words bs ++ vs) (h .0))
+    (root-selected (selected t xs bs vs (h .1) (behind (words (con t xs)) s′)) (stands xs (words bs ++ vs) (rw two at (behind-word s′)) (h .0 .1)) (h .0 .0) (λ limit i. i .0))
+at-subject (case e cs) bs vs h s = rw (other-subject (count bs) caseKind (count cs) _ _ (omega arith) (λ e. omega arith)) stuck
+
+root-words : {W : List ℕ} (t : Term) {at : ℕ} (vs : List ℕ) → Packable t → From W at (words t ++ vs) → Root W t (contractAt 0 t) (parts at (words t ++ vs))
+unfolding contractAt
+root-words (var i) vs h s = rw (other-first variableKind i _ _ (omega arith) (λ e. omega arith) (λ e. omega arith)) stuck
+root-words (lam b) vs h s = rw (other-first abstractionKind 0 _ _ (omega arith) (λ e. omega arith) (λ e. omega arith)) stuck
+root-words (app f a) vs h s = at-function f a vs h s
+root-words (con t xs) vs h s = rw (other-first constructorKind (pack t (count xs)) _ _ (omega arith) (λ e. omega arith) (λ e. omega arith)) stuck
+root-words (case e bs) vs h s = at-subject e bs vs h s
+
+pub root : {W : List ℕ} {t : Term} {p : ℕ} → Stands W p t → Root W t (contractAt 0 t) (parts p (drop p W))
+root {t = t} s = rw (s .words-at .from) (root-words t (s .after) (s .packable) (s .words-at))

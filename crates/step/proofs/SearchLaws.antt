@@ -1,0 +1,124 @@
+-- A redex starts at a position of a term exactly where its parts are found in the words there.
+use Prim.Native.Nat.{ℕ, zero, suc, _+_, _-_, _≤_, _<_}
+use mathlib.Core.Path.{_≡_, refl, sym, subst}
+use mathlib.Core.Bool.{Bool, true, false, cond}
+use mathlib.Core.List.{List, _++_, append-assoc}
+use mathlib.Core.Option.{Option, some, none, Option·map}
+use native.Mathlib.Omega.{arith}
+use lib.Dec.{ltb}
+use lib.ListN.{length, drop, length-append}
+use borrow.Author.Count.{below-more}
+use borrow.Author.Tests.{ltb-true, ltb-false}
+use Rattle.calculus.specs.Term.{Sort, Exp, Term, var, lam, app, con, case, nil, cons, end, branch}
+use Rattle.calculus.specs.Words.{branchKind, pack, words, size}
+use Rattle.calculus.specs.Position.{contractAt, redexAt}
+use Rattle.calculus.specs.Theorems.{Packable}
+use Rattle.step.specs.declared.Redex.{Redex}
+use Rattle.step.specs.declared.Redex.the-variants as redex
+use Rattle.step.specs.Held.{held, Holds}
+use Rattle.step.specs.Search.{Searched}
+use Rattle.step.specs.Parts.{parts}
+use Rattle.calculus.proofs.PositionLaws.{redex-first, redex-absent}
+use Rattle.calculus.proofs.WordLaws.{accepted-packable}
+use Rattle.step.proofs.HeldLaws.{termAt-start}
+use Rattle.step.proofs.RedexLaws.{From, behind-word, behind, Root, stuck, contracts, root, stands, other-first}
+
+-- A contraction and its parts are both there, or neither is.
+pub data Agrees {A : Type 0} : Option A → Redex → Type 0 where
+  neither : Agrees none redex.Nothing
+  both : {a : A} {b x n : ℕ} → Agrees (some a) (redex.Parts b x n)
+
+agrees-map : {A B : Type 0} (f : A → B) {o : Option A} {r : Redex} → Agrees o r → Agrees (Option·map f o) r
+agrees-map f neither = neither
+agrees-map f both = both
+
+agrees-ltb : {A : Type 0} (m n : ℕ) {x y : Option A} {r : Redex} → (m < n → Agrees x r) → (n ≤ m → Agrees y r) → Agrees (cond (ltb m n) x y) r
+agrees-ltb m n {x} {y} {r} f g = go (ltb m n) refl
+  where
+    go : (b : Bool) → ltb m n ≡ b → Agrees (cond b x y) r
+    go true e = f (ltb-true m n e)
+    go false e = g (ltb-false m n e)
+
+agrees-root : {W : List ℕ} {t : Term} {o : Option Term} {r : Redex} → Root W t o r → Agrees o r
+agrees-root stuck = neither
+agrees-root (contracts b a l i) = both
+
+agrees-some : {A : Type 0} {o : Option A} {b x n : ℕ} → Agrees o (redex.Parts b x n) → (a : A) × (o ≡ some a)
+agrees-some (both {a = a}) = (a, refl)
+
+agrees-none : {A : Type 0} {o : Option A} → Agrees o redex.Nothing → o ≡ none
+agrees-none neither = refl
+
+-- The contractions at p of an expression, beside the parts found at the position q of a workspace.
+abbrev FoundAt : {s : Sort} → List ℕ → (q p : ℕ) → Exp s → Type 0
+FoundAt W q p e = Agrees (contractAt p e) (parts q (drop q W))
+
+found-root : (t : Term) {W : List ℕ} (at : ℕ) {q : ℕ} (vs : List ℕ) → Packable t → From W at (words t ++ vs) → at ≡ q → FoundAt W q 0 t
+found-root t {W} at vs h s e = subst (λ q. FoundAt W q 0 t) e (agrees-root (root (stands t vs s h)))
+
+found-at : {s : Sort} (e : Exp s) {W : List ℕ} (at p : ℕ) {q : ℕ} (vs : List ℕ) → Packable e → From W at (words e ++ vs) → p < size e → at + p ≡ q → FoundAt W q p e
+unfolding contractAt
+found-at (var i) at p vs h s l e = found-root (var i) at vs h s (omega arith)
+found-at (lam b) at zero vs h s l e = found-root (lam b) at vs h s (omega arith)
+found-at (lam b) at (suc p) vs h s l e = agrees-map lam (found-at b (at + 1) p vs h (behind-word s) (omega arith) (omega arith))
+found-at (app f a) at zero vs h s l e = found-root (app f a) at vs h s (omega arith)
+found-at (app f a) at (suc p) vs h s l e =
+    let s′ = rw (append-assoc (words f) (words a) vs) at (behind-word s) in
+    agrees-ltb p (size f)
+    (λ m. agrees-map (λ f′. app f′ a) (found-at f (at + 1) p (words a ++ vs) (h .0) s′ m (omega arith)))
+    (λ m. agrees-map (app f) (found-at a (at + 1 + size f) (p - size f) vs (h .1) (behind (words f) s′) (omega (arith, length-append (words f) (words a))) (omega arith)))
+found-at (con t xs) at zero vs h s l e = found-root (con t xs) at vs h s (omega arith)
+found-at (con t xs) at (suc p) vs h s l e = agrees-map (con t) (found-at xs (at + 1) p vs (h .1) (behind-word s) (omega arith) (omega arith))
+found-at (case c bs) at zero vs h s l e = found-root (case c bs) at vs h s (omega arith)
+found-at (case c bs) at (suc p) vs h s l e =
+    let s′ = rw (append-assoc (words c) (words bs) vs) at (behind-word s) in
+    agrees-ltb p (size c)
+    (λ m. agrees-map (λ c′. case c′ bs) (found-at c (at + 1) p (words bs ++ vs) (h .0) s′ m (omega arith)))
+    (λ m. agrees-map (case c) (found-at bs (at + 1 + size c) (p - size c) vs (h .1) (behind (words c) s′) (omega (arith, length-append (words c) (words bs))) (omega arith)))
+found-at nil at p vs h s l e = absurd (omega arith)
+found-at (cons a xs) at p vs h s l e =
+    let s′ = rw (append-assoc (words a) (words xs) vs) at s in
+    agrees-ltb p (size a)
+    (λ m. agrees-map (λ a′. cons a′ xs) (found-at a at p (words xs ++ vs) (h .0) s′ m e))
+    (λ m. agrees-map (cons a) (found-at xs (at + size a) (p - size a) vs (h .1) (behind (words a) s′) (omega (arith, length-append (words a) (words xs))) (omega arith)))
+found-at end at p vs h s l e = absurd (omega arith)
+found-at (branch t n b bs) at zero {q} vs h s l e =
+    let z : q ≡ at = omega arith in
+    rw (z, s .from, other-first branchKind (pack t n) at _ (omega arith) (λ e. omega arith) (λ e. omega arith)) neither
+found-at (branch t n b bs) at (suc p) vs h s l e =
+    let s′ = rw (append-assoc (words b) (words bs) vs) at (behind-word s) in
+    agrees-ltb p (size b)
+    (λ m. agrees-map (λ b′. branch t n b′ bs) (found-at b (at + 1) p (words bs ++ vs) (h .1) s′ m (omega arith)))
+    (λ m. agrees-map (branch t n b) (found-at bs (at + 1 + size b) (p - size b) vs (h .2) (behind (words b) s′) (omega (arith, length-append (words b) (words bs))) (omega arith)))
+
+-- At each position of the held term.
+module _ {ws : List ℕ} {n : ℕ} (holds : Holds ws n) {p : ℕ} (within : p < n) where
+  found-here : FoundAt ws p p (held ws n)
+  found-here =
+      let h = termAt-start ws n (held ws n) (holds .term) in
+      found-at (held ws n) 0 p (drop n ws) (accepted-packable 0 (held ws n) (h .accepted)) (record { from = sym (h .start) })
+      (omega arith) (omega arith)
+
+  redex-here : {b x m : ℕ} → parts p (drop p ws) ≡ redex.Parts b x m → (u : Term) × (contractAt p (held ws n) ≡ some u)
+  redex-here e = agrees-some (rw e at found-here)
+
+  pub no-redex-here : parts p (drop p ws) ≡ redex.Nothing → contractAt p (held ws n) ≡ none
+  no-redex-here e = agrees-none (rw e at found-here)
+
+-- The turns of the search.
+module _ {ws : List ℕ} {n i : ℕ} (searched : Searched ws n i) where
+  pub search-within : n ≤ length ws
+  search-within = termAt-start ws n (held ws n) (searched .holds .term) .within
+
+  pub search-stops : i < n → {b x m : ℕ} → parts i (drop i ws) ≡ redex.Parts b x m → redexAt (held ws n) ≡ some i
+  search-stops l e = redex-first (held ws n) i .1 (redex-here (searched .holds) l e, searched .before)
+
+  pub search-goes-on : i < n → parts i (drop i ws) ≡ redex.Nothing → Searched ws n (i + 1)
+  search-goes-on l e =
+      record {
+        holds = searched .holds;
+        before = below-more _ _ (searched .before) (no-redex-here (searched .holds) l e);
+      }
+
+  pub search-ends : n ≤ i → redexAt (held ws n) ≡ none
+  search-ends l = redex-absent (held ws n) (λ p m. searched .before p (omega (arith, termAt-start ws n (held ws n) (searched .holds .term) .long)))

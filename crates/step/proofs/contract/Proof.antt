@@ -1,0 +1,24 @@
+-- `contract` meets its contract: what was gathered is put back from the redex on.
+use Rattle.step.proofs.GatherLaws.{back-fits, contracted}
+use borrow.Author.Needs.{needs}
+use Rattle.step.proofs.contract.Statement.{statement}
+use Rattle.step.proofs.contract.Tie as tie
+
+gather-requires : tie.Need-gather-requires
+gather-requires c κs = search needs
+
+copy-requires : tie.Need-copy-requires
+copy-requires c κs = back-fits (c .before .before .before .before .before .before .before .before .before .pre) (c .before .before .before .before .gather .ensures)
+
+same-length : tie.Need-same-length
+same-length c = search needs
+
+same-length-2 : tie.Need-same-length-2
+same-length-2 c = search needs
+
+returns : tie.Need-returns
+returns c = contracted (c .before .before .before .before .before .before .before .before .before .before .before .before .pre) (c .before .before .before .before .before .before .before .gather .ensures) (c .before .before .copy .ensures)
+
+pub contract-spec : {M : Type 1} → statement M
+contract-spec =
+    tie.close (tie.spec gather-requires copy-requires same-length same-length-2 returns)

@@ -1,0 +1,44 @@
+-- Where the parts of a redex stand, found from the words alone: the rule's body, the arguments that replace together, and their number. A redex
+-- is an application word and behind it an abstraction word, or a case word and behind it a constructor word with a branch of its tag that binds
+-- as many variables as the constructor has arguments.
+--
+-- The functions are total. They take the words of a workspace from the position `at` on.
+use Prim.Native.Nat.{ℕ, zero, suc, _+_}
+use mathlib.Core.Bool.{cond}
+use mathlib.Core.List.{List, [], _∷_}
+use lib.Dec.{eqb}
+use Rattle.calculus.specs.Words.{abstractionKind, applicationKind, constructorKind, caseKind, kindOf, payloadOf, tagOf, countOf}
+use Rattle.calculus.specs.Skip.{skip, span}
+use Rattle.step.specs.declared.Found.{Found}
+use Rattle.step.specs.declared.Found.the-variants as found
+use Rattle.step.specs.declared.Redex.{Redex}
+use Rattle.step.specs.declared.Redex.the-variants as redex
+
+-- The body of the first of k branches that has the tag, if it binds n variables.
+unfoldable pub branchBody : (k tag n at : ℕ) → List ℕ → Found
+branchBody zero t n at ws = found.Nothing
+branchBody (suc k) t n at [] = found.Nothing
+branchBody (suc k) t n at (w ∷ ws) =
+    cond (eqb t (tagOf (payloadOf w)))
+    (cond (eqb n (countOf (payloadOf w))) (found.At (at + 1)) found.Nothing)
+    (branchBody k t n (at + 1 + span 1 ws) (skip 1 ws))
+
+-- The parts by the body that a search among the branches found.
+abbrev pub withBody : (args n : ℕ) → Found → Redex
+withBody args n found.Nothing = redex.Nothing
+withBody args n (found.At body) = redex.Parts body args n
+
+-- The parts of a case of a constructor, by its word, the constructor's word and the words from there on.
+unfoldable pub caseParts : (at w v : ℕ) → List ℕ → Redex
+caseParts at w v vs =
+    withBody (at + 2) (countOf (payloadOf v))
+    (branchBody (payloadOf w) (tagOf (payloadOf v)) (countOf (payloadOf v)) (at + 1 + span 1 vs) (skip 1 vs))
+
+-- The parts by the first two words.
+unfoldable pub parts : ℕ → List ℕ → Redex
+parts at [] = redex.Nothing
+parts at (w ∷ []) = redex.Nothing
+parts at (w ∷ v ∷ vs) =
+    cond (eqb (kindOf w) applicationKind)
+    (cond (eqb (kindOf v) abstractionKind) (redex.Parts (at + 2) (at + 2 + span 1 vs) 1) redex.Nothing)
+    (cond (eqb (kindOf w) caseKind) (cond (eqb (kindOf v) constructorKind) (caseParts at w v (v ∷ vs)) redex.Nothing) redex.Nothing)

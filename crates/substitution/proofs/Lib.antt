@@ -1,0 +1,9 @@
+pub mod MoveLaws
+pub mod RewrittenLaws
+pub mod DepthLaws
+pub mod Traversal
+pub mod ResultLaws
+pub mod Writing
+pub mod StartLaws
+pub mod ArgumentLaws
+pub mod Chosen

@@ -1,0 +1,45 @@
+-- Where consecutive items start: the extents of the items before them add up.
+use Prim.Native.Nat.{ℕ, zero, suc, _+_, _≤_, _<_}
+use mathlib.Core.Path.{_≡_, refl, sym, _∙_, ap}
+use mathlib.Core.List.{List, [], _∷_}
+use mathlib.Core.Logic.{⊎-elim}
+use native.Mathlib.Nat.{zero-add, suc-add, add-assoc, eq-or-lt-of-le}
+use native.Mathlib.Omega.{arith}
+use lib.ListN.{length, getD, drop, set}
+use lib.Seq.{drop-drop, getD-set-same, getD-set-other}
+use Rattle.calculus.specs.Skip.{arity, span}
+use Rattle.calculus.proofs.SkipLaws.{span-zero}
+
+pub span-add : (ws : List ℕ) (j k : ℕ) → span (j + k) ws ≡ span j ws + span k (drop (span j ws) ws)
+span-add [] j k = refl
+span-add (w ∷ ws) zero k = ap (λ m. span m (w ∷ ws)) (zero-add k) ∙ sym (zero-add _)
+span-add (w ∷ ws) (suc j) k =
+    ap (λ m. span m (w ∷ ws)) (suc-add j k)
+    ∙ ap (λ m. suc (span m ws)) (sym (add-assoc (arity w) j k))
+    ∙ ap suc (span-add ws (arity w + j) k)
+    ∙ sym (suc-add _ _)
+
+-- The positions at which the items from position `args` on start, written up to the j-th.
+pub record Placed (src : List ℕ) (args : ℕ) (starts : List ℕ) (j : ℕ) : Type 0 where
+  pub placed : (i : ℕ) → i ≤ j → getD starts i 0 ≡ args + span i (drop args src)
+
+pub placed-first : (src : List ℕ) (args : ℕ) (starts : List ℕ) → getD starts 0 0 ≡ args → Placed src args starts 0
+placed-first src args starts q =
+    record { placed = λ i h. let e : i ≡ 0 = omega arith in rw e (omega (arith, q, span-zero (drop args src))) }
+
+pub placed-next : (src : List ℕ) (args : ℕ) (starts : List ℕ) (j end : ℕ) → j + 1 < length starts → Placed src args starts j
+    → end ≡ getD starts j 0 + span 1 (drop (getD starts j 0) src) → Placed src args (set starts (j + 1) end) (j + 1)
+placed-next src args starts j end room p q =
+    record { placed = λ i h. ⊎-elim (here i) (before i) (eq-or-lt-of-le h) }
+  where
+    next : end ≡ args + span (j + 1) (drop args src)
+    next =
+        let at : getD starts j 0 ≡ args + span j (drop args src) = p .placed j (omega arith) in
+        let e : drop (getD starts j 0) src ≡ drop (span j (drop args src)) (drop args src) = ap (λ m. drop m src) at ∙ sym (drop-drop _ args src) in
+        omega (arith, q, at, ap (span 1) e, span-add (drop args src) j 1)
+
+    here : (i : ℕ) → i ≡ j + 1 → getD (set starts (j + 1) end) i 0 ≡ args + span i (drop args src)
+    here i e = rw e (getD-set-same starts (j + 1) end 0 room ∙ next)
+
+    before : (i : ℕ) → i < j + 1 → getD (set starts (j + 1) end) i 0 ≡ args + span i (drop args src)
+    before i l = getD-set-other starts (j + 1) i end 0 (omega arith) ∙ p .placed i (omega arith)

@@ -1,0 +1,113 @@
+-- Loops over the words that `depths` found, from the first: what is still to do after k of them leads to what the whole work leads to.
+use Prim.Native.Nat.{ℕ, zero, suc, _+_, _*_, _-_, _≤_, _<_}
+use mathlib.Core.Path.{_≡_, refl, sym, _∙_, ap}
+use mathlib.Core.List.{List, [], _∷_, _++_}
+use native.Mathlib.Nat.{add-zero}
+use native.Mathlib.Numerals.{add-one}
+use native.Mathlib.Omega.{arith}
+use lib.ListN.{length, getD, drop, set, length-append, length-drop, drop-of-length-le, List·getD-append}
+use lib.Seq.{sets, length-sets, sets-eq, drop-cons, getD-drop}
+use Rattle.calculus.specs.Term.{Term}
+use Rattle.calculus.specs.Words.{workspaceMost}
+use Rattle.calculus.specs.Accepted.{argumentLimit}
+use Rattle.substitution.specs.Depths.{depths}
+use Rattle.substitution.specs.Rewritten.{rewritten, Written}
+use Rattle.substitution.proofs.DepthLaws.{length-depths, Bounded, bounded-depths}
+use Rattle.substitution.proofs.Traversal.{marked, flat, Every, every-first, every-rest}
+
+sets-append : (xs ys l : List ℕ) (i : ℕ) → sets l i (xs ++ ys) ≡ sets (sets l i xs) (i + length xs) ys
+sets-append [] ys l i = ap (λ k. sets l k ys) (sym (add-zero i))
+sets-append (x ∷ xs) ys l i =
+    let e : suc i + length xs ≡ i + suc (length xs) = omega arith in
+    sets-append xs ys (set l i x) (suc i) ∙ ap (λ k. sets (sets l i (x ∷ xs)) k ys) e
+
+-- What was written at the start of a slice is read there.
+getD-written : {before after : List ℕ} {end : ℕ} (vs : List ℕ) (k : ℕ) → Written before 0 vs after end → length vs ≤ length before → k < length vs
+    → getD after k 0 ≡ getD vs k 0
+getD-written {before} vs k v h g =
+    ap (λ l. getD l k 0) (v .slice ∙ sets-eq vs before 0 (omega arith)) ∙ List·getD-append vs _ 0 k g
+
+pub written-as : {before after vs us : List ℕ} {out end : ℕ} → vs ≡ us → Written before out vs after end → Written before out us after end
+written-as e v = rw e at v
+
+bounded-at : (b : ℕ) (ds : List ℕ) (k : ℕ) → Bounded b ds → getD ds k 0 ≤ b
+bounded-at b [] k p = omega arith
+bounded-at b (d ∷ ds) zero p = p .0
+bounded-at b (d ∷ ds) (suc k) p = bounded-at b ds k (p .1)
+
+-- The words of the item at a position, from the k-th on, each with the binders around it.
+abbrev pub ahead : List ℕ → (at k : ℕ) → List (ℕ × ℕ)
+ahead src at k = marked (drop k (depths (0 ∷ []) (drop at src))) (drop k (drop at src))
+
+-- The loop has rewritten k words, and stands at o of dst.
+pub record Writing (f : ℕ → ℕ → Term) (src : List ℕ) (at : ℕ) (dst₀ : List ℕ) (out : ℕ) (dst : List ℕ) (o k : ℕ) : Type 0 where
+  pub same-length : length dst ≡ length dst₀
+  pub work : sets dst o (flat f (ahead src at k)) ≡ sets dst₀ out (flat f (ahead src at 0))
+  pub position : o + length (flat f (ahead src at k)) ≡ out + length (flat f (ahead src at 0))
+
+pub writing-start : (f : ℕ → ℕ → Term) (src : List ℕ) (at : ℕ) (dst : List ℕ) (out : ℕ) → Writing f src at dst out dst out 0
+writing-start f src at dst out = record { same-length = refl; work = refl; position = refl }
+
+-- What the code's `depths` found.
+module _ (src : List ℕ) (at : ℕ) {before depth : List ℕ} {count : ℕ} (short : length src ≤ workspaceMost) (room : length before ≡ workspaceMost) (found : Written before 0 (depths (0 ∷ []) (drop at src)) depth count) where
+  whole : length (depths (0 ∷ []) (drop at src)) ≤ length (drop at src)
+  whole = length-depths (drop at src) (0 ∷ [])
+
+  pub found-within : count ≤ length src - at
+  found-within = omega (arith, found .position, whole, length-drop at src)
+
+  -- No word is left.
+  pub ahead-none : (k : ℕ) → count ≤ k → ahead src at k ≡ []
+  ahead-none k past = let h : length (depths (0 ∷ []) (drop at src)) ≤ k = omega (arith, found .position) in rw (drop-of-length-le _ h)
+
+  -- The k-th word.
+  module _ (k : ℕ) (more : k < count) where
+    within : k < length (depths (0 ∷ []) (drop at src))
+    within = omega (arith, found .position)
+
+    depth-is : getD depth k 0 ≡ getD (depths (0 ∷ []) (drop at src)) k 0
+    depth-is = getD-written (depths (0 ∷ []) (drop at src)) k found (omega (arith, whole, length-drop at src, short, room)) within
+
+    pub found-bounded : getD depth k 0 ≤ argumentLimit * workspaceMost
+    found-bounded =
+        rw depth-is
+        (bounded-at (argumentLimit * workspaceMost) (depths (0 ∷ []) (drop at src)) k
+        (bounded-depths (drop at src) (0 ∷ []) 0 (argumentLimit * workspaceMost) (omega arith, tt) (omega (arith, length-drop at src))))
+
+    pub ahead-next : ahead src at k ≡ (getD depth k 0, getD src (at + k) 0) ∷ ahead src at (k + 1)
+    ahead-next =
+        let h : k < length (drop at src) = omega (arith, whole, within) in
+        rw (drop-cons (depths (0 ∷ []) (drop at src)) k 0 within, drop-cons (drop at src) k 0 h, depth-is, getD-drop at src k 0, add-one k)
+
+    pub every-next : {P : ℕ → ℕ → Type 0} → Every P (ahead src at k) → P (getD depth k 0) (getD src (at + k) 0)
+    every-next p = every-first (rw ahead-next at p)
+
+    pub every-later : {P : ℕ → ℕ → Type 0} → Every P (ahead src at k) → Every P (ahead src at (k + 1))
+    every-later p = every-rest (rw ahead-next at p)
+
+    module _ (f : ℕ → ℕ → Term) where
+      abbrev here : List ℕ
+      here = rewritten f (getD depth k 0) (getD src (at + k) 0)
+
+      pub length-next : length (flat f (ahead src at k)) ≡ length here + length (flat f (ahead src at (k + 1)))
+      length-next = ap (λ ms. length (flat f ms)) ahead-next ∙ length-append here (flat f (ahead src at (k + 1)))
+
+      module _ {dst₀ : List ℕ} {out : ℕ} {dst : List ℕ} {o : ℕ} (v : Writing f src at dst₀ out dst o k) where
+        pub writing-room : o + length here ≤ out + length (flat f (ahead src at 0))
+        writing-room = omega (arith, v .position, length-next)
+
+        pub writing-next : {dst′ : List ℕ} {o′ : ℕ} → Written dst o here dst′ o′ → Writing f src at dst₀ out dst′ o′ (k + 1)
+        writing-next n =
+            record {
+              same-length = ap length (n .slice) ∙ length-sets dst o here ∙ v .same-length;
+              work =
+                  rw (n .slice, n .position)
+                  (sym (sets-append here (flat f (ahead src at (k + 1))) dst o) ∙ ap (λ ms. sets dst o (flat f ms)) (sym ahead-next) ∙ v .work);
+              position = omega (arith, n .position, v .position, length-next);
+            }
+
+  pub writing-done : (f : ℕ → ℕ → Term) {dst₀ : List ℕ} {out : ℕ} {dst : List ℕ} {o k : ℕ} → Writing f src at dst₀ out dst o k → count ≤ k
+      → Written dst₀ out (flat f (ahead src at 0)) dst o
+  writing-done f {k = k} v past =
+      let e = ahead-none k past in
+      record { slice = rw e at (v .work); position = omega (arith, rw e at (v .position)) }

@@ -1,0 +1,99 @@
+-- `argument` meets its contract: `moved` counts the index from the binders around the word, and the tests are those of `place`.
+use Prim.Native.Nat.{_-_, _≤_}
+use mathlib.Core.Path.{_≡_, sym, _∙_, ap, ap₂, subst₂}
+use native.Mathlib.Omega.{arith}
+use borrow.Author.Needs.{needs}
+use lib.IntN.{pos, negℤ}
+use mir.Syntax.{w32}
+use mir.Val.{toZ, ofZ}
+use mir.ValLaws.{toZ-ofZ}
+use Rattle.calculus.specs.Words.{variableKind, kindOf, payloadOf}
+use Rattle.calculus.specs.Shift.{move}
+use Rattle.substitution.specs.Moves.{Moves}
+use Rattle.substitution.proofs.MoveLaws.{moves-down, move-down}
+use Rattle.substitution.proofs.RewrittenLaws.{place-argument, place-past, place-bound, place-other}
+use Rattle.substitution.proofs.index.argument.Statement.{statement}
+use Rattle.substitution.proofs.index.argument.Tie as tie
+
+payload-requires : tie.Need-payload-requires
+payload-requires c κs = search needs
+
+kind-requires : tie.Need-kind-requires
+kind-requires c κs = search needs
+
+down-requires : tie.Need-down-requires
+down-requires c κs = search needs
+
+-- A word that is a variable and not bound inside the body.
+module _ (c : tie.After-down) where
+  abbrev start : tie.Start
+  start = c .before .before .before .before .before
+
+  variable : kindOf (start .args .w) ≡ variableKind
+  variable = sym (c .before .before .before .kind .ensures) ∙ c .before .before .if1 .taken
+
+  free : start .args .depth ≤ payloadOf (start .args .w)
+  free = rw (c .before .before .before .before .payload .ensures) at (c .before .if2 .taken)
+
+  distance : toZ w32 (ofZ w32 (c .down .result)) ≡ negℤ (pos (start .args .depth))
+  distance = toZ-ofZ w32 (c .down .result) (record { sfits = c .down .ok }) ∙ c .down .ensures
+
+moved-requires : tie.Need-moved-requires
+moved-requires c κs =
+    subst₂ Moves (sym (distance c)) (sym (c .before .before .before .before .payload .ensures))
+    (moves-down (start c .args .depth) (payloadOf (start c .args .w)) (free c) (omega (arith, start c .fits .w .fits)))
+
+cast-k : tie.Need-cast-k
+cast-k c = search needs
+
+counted : (c : tie.After-moved) → c .moved .result ≡ payloadOf (start (c .before) .args .w) - start (c .before) .args .depth
+counted c =
+    c .moved .ensures
+    ∙ ap₂ move (distance (c .before)) (c .before .before .before .before .before .payload .ensures)
+    ∙ move-down (start (c .before) .args .depth) (payloadOf (start (c .before) .args .w))
+
+sub-result : tie.Need-sub-result
+sub-result c = search needs
+
+sub-result-2 : tie.Need-sub-result-2
+sub-result-2 c = search needs
+
+returns : tie.Need-returns
+returns c =
+    let d = c .before .before in
+    let a = start d .args in
+    ap (λ k. a .n - 1 - k) (counted (c .before)) ∙ sym (place-argument (a .n) (a .depth) (a .w) (variable d) (free d) (omega (arith, counted (c .before))))
+
+returns-2 : tie.Need-returns-2
+returns-2 c =
+    let d = c .before .before in
+    let a = start d .args in
+    sym (place-past (a .n) (a .depth) (a .w) (variable d) (free d) (omega (arith, counted (c .before))))
+
+returns-3 : tie.Need-returns-3
+returns-3 c =
+    let a = c .before .before .before .before .args in
+    sym (place-bound (a .n) (a .depth) (a .w)
+    (sym (c .before .before .kind .ensures) ∙ c .before .if1 .taken)
+    (rw (c .before .before .before .payload .ensures) at (c .if2 .left)))
+
+returns-4 : tie.Need-returns-4
+returns-4 c =
+    let a = c .before .before .before .args in
+    sym (place-other (a .n) (a .depth) (a .w) (λ q. c .if1 .left (c .before .kind .ensures ∙ q)))
+
+pub argument-spec : {M : Type 1} → statement M
+argument-spec =
+    tie.close
+    (tie.spec
+    payload-requires
+    kind-requires
+    down-requires
+    moved-requires
+    cast-k
+    sub-result
+    sub-result-2
+    returns
+    returns-2
+    returns-3
+    returns-4)

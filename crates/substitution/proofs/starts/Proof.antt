@@ -1,0 +1,77 @@
+-- `starts` meets its contract. The invariant: the positions up to j are written.
+use Prim.Native.Nat.{suc, _-_, _≤_}
+use mathlib.Core.Path.{_≡_, refl}
+use native.Mathlib.Omega.{arith}
+use borrow.Author.Needs.{needs}
+use lib.ListN.{length, length-set}
+use Rattle.calculus.specs.Accepted.{argumentLimit}
+use Rattle.substitution.proofs.StartLaws.{Placed, placed-first, placed-next}
+use Rattle.substitution.proofs.starts.Statement.{statement}
+use Rattle.substitution.proofs.starts.Tie as tie
+
+abbrev Inv-loop : tie.InvT-loop
+Inv-loop src args n starts₀ j₀ starts j = (length starts ≡ suc argumentLimit) × (j ≤ n) × Placed src args starts j
+
+abbrev μ-loop : tie.MeasureT-loop
+μ-loop src args n starts₀ j₀ starts j = n - j
+
+array-write-starts : tie.Need-array-write-starts Inv-loop μ-loop
+array-write-starts c = omega arith
+
+loop-holds : tie.Need-loop-holds Inv-loop μ-loop
+loop-holds c = (refl, omega arith, placed-first (c .before .args .src .now) (c .before .args .args) _ refl)
+
+mul-extent : tie.Need-mul-extent Inv-loop μ-loop
+mul-extent c = search needs
+
+array-read-extent : tie.Need-array-read-extent Inv-loop μ-loop
+array-read-extent c = omega arith
+
+extent-requires : tie.Need-extent-requires Inv-loop μ-loop
+extent-requires c κs = search needs
+
+add-starts : tie.Need-add-starts Inv-loop μ-loop
+add-starts c = omega arith
+
+mul-starts : tie.Need-mul-starts Inv-loop μ-loop
+mul-starts c = search needs
+
+array-write-starts-2 : tie.Need-array-write-starts-2 Inv-loop μ-loop
+array-write-starts-2 c = omega arith
+
+add-j : tie.Need-add-j Inv-loop μ-loop
+add-j c = omega arith
+
+loop-less : tie.Need-loop-less Inv-loop μ-loop
+loop-less c = omega arith
+
+loop-again : tie.Need-loop-again Inv-loop μ-loop
+loop-again c =
+    let l = c .before .before .loop in
+    let s = c .before .before .before .before in (
+      simp length-set (l .inv .0),
+      omega arith,
+      placed-next (s .args .src .now) (s .args .args) (l .starts) (l .j) (c .extent .result) (omega arith) (l .inv .2) (c .extent .ensures),
+    )
+
+returns : tie.Need-returns Inv-loop μ-loop
+returns c j h = c .before .loop .inv .2 .placed j (omega arith)
+
+pub starts-spec : {M : Type 1} → statement M
+starts-spec =
+    tie.close
+    (tie.spec
+    Inv-loop
+    μ-loop
+    array-write-starts
+    loop-holds
+    mul-extent
+    array-read-extent
+    extent-requires
+    add-starts
+    mul-starts
+    array-write-starts-2
+    add-j
+    loop-less
+    loop-again
+    returns)

@@ -1,0 +1,42 @@
+-- What shift and substitution make of terms that stand in a workspace, and what they ask of these terms.
+use Prim.Native.Nat.{ℕ, _≤_}
+use mathlib.Core.Path.{_≡_}
+use mathlib.Core.List.{List}
+use lib.IntN.{ℤ}
+use lib.ListN.{length, take, drop}
+use Rattle.calculus.specs.Term.{Sort, Exp, Term, count}
+use Rattle.calculus.specs.Words.{workspaceMost, words, size}
+use Rattle.calculus.specs.Accepted.{argumentLimit}
+use Rattle.calculus.specs.First.{firstTerm, firstTerms}
+use Rattle.calculus.specs.Shift.{shift}
+use Rattle.calculus.specs.Substitution.{subst}
+use Rattle.calculus.specs.Theorems.{Packable, indexLimit, IndicesWithin}
+use Rattle.substitution.specs.Moves.{Movable}
+
+-- The words start with those of e.
+pub record Starts {s : Sort} (ws : List ℕ) (e : Exp s) : Type 0 where
+  pub first : take (size e) ws ≡ words e
+  pub packable : Packable e
+
+-- The term at a position with its free indices moved.
+unfoldable pub shifted : List ℕ → (at : ℕ) → ℤ → Term
+shifted ws at z = shift z 0 (firstTerm (drop at ws))
+
+-- A term stands at the position, and each of its free indices may be moved.
+pub record Shiftable (ws : List ℕ) (at : ℕ) (distance : ℤ) : Type 0 where
+  pub short : length ws ≤ workspaceMost
+  pub starts : Starts (drop at ws) (firstTerm (drop at ws))
+  pub movable : Movable distance 0 (firstTerm (drop at ws))
+
+-- The body at a position with the n arguments at another put for its first n indices.
+unfoldable pub substituted : List ℕ → (body args n : ℕ) → Term
+substituted ws body args n = subst (firstTerms n (drop args ws)) 0 (firstTerm (drop body ws))
+
+-- A body stands at the one position and n arguments at the other, with indices as in accepted terms of a workspace (`Indices-bounded`).
+pub record Substitutable (ws : List ℕ) (body args n : ℕ) : Type 0 where
+  pub short : length ws ≤ workspaceMost
+  pub few : n ≤ argumentLimit
+  pub body-starts : Starts (drop body ws) (firstTerm (drop body ws))
+  pub args-start : Starts (drop args ws) (firstTerms n (drop args ws))
+  pub args-count : count (firstTerms n (drop args ws)) ≡ n
+  pub args-indices : IndicesWithin indexLimit (firstTerms n (drop args ws))

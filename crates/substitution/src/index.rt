@@ -1,0 +1,65 @@
+// Moves of a single index ("Contraction").
+use words::Word;
+ghost use mathlib.Core.Path.{_≡_};
+ghost use mathlib.Core.List.{[], _∷_};
+ghost use Prim.Native.Nat.{_<_};
+ghost use lib.IntN.{pos, negℤ};
+ghost use Rattle.calculus.specs.Term.{var};
+ghost use Rattle.calculus.specs.Words.{variableKind, kindOf, payloadOf};
+ghost use Rattle.calculus.specs.Shift.{move};
+ghost use Rattle.substitution.specs.Moves.{distanceBound, Moves, Movable};
+ghost use Rattle.substitution.specs.Rewritten.{shifting, rewritten, place};
+
+// The index moved by a signed distance: their sum as integers. No other code adds to an index or takes from it.
+fn moved(index: u32, distance: i32) -> u32
+    requires { ⌜ Moves distance index ⌝ }
+    ensures { λ r. ⌜ r ≡ move distance index ⌝ }
+{
+    (index as i64 + distance as i64) as u32
+}
+
+// The distance up by so many binders, and down.
+pub fn up(binders: u32) -> i32
+    requires { ⌜ binders < distanceBound ⌝ }
+    ensures { λ r. ⌜ r ≡ pos binders ⌝ }
+{
+    binders as i32
+}
+
+pub fn down(binders: u32) -> i32
+    requires { ⌜ binders < distanceBound ⌝ }
+    ensures { λ r. ⌜ r ≡ negℤ (pos binders) ⌝ }
+{
+    -(binders as i32)
+}
+
+// A word under so many binders of the moved part, its index moved if it is a free variable.
+pub fn shift_word(w: u32, depth: u32, distance: i32) -> u32
+    requires { ⌜ (kindOf w ≡ variableKind → Movable distance depth (var (payloadOf w))) ⌝ }
+    ensures { λ r. ⌜ rewritten (shifting distance) depth w ≡ r ∷ [] ⌝ }
+{
+    let index = Word(w).payload();
+    if Word(w).kind() == Word::VARIABLE {
+        if depth <= index {
+            return Word::new(Word::VARIABLE, moved(index, distance)).0;
+        }
+    }
+    w
+}
+
+// The place, from the first, of the one of n arguments that stands for a word under so many binders, and n where none does.
+pub fn argument(w: u32, depth: u32, n: usize) -> usize
+    requires { ⌜ depth < distanceBound ⌝ }
+    ensures { λ r. ⌜ r ≡ place n depth w ⌝ }
+{
+    let index = Word(w).payload();
+    if Word(w).kind() == Word::VARIABLE {
+        if depth <= index {
+            let k = moved(index, down(depth)) as usize;
+            if k < n {
+                return n - 1 - k;
+            }
+        }
+    }
+    n
+}

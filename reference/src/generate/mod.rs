@@ -1,0 +1,9 @@
+//! Inputs for the programs, made from seeds alone.
+
+pub mod damage;
+pub mod families;
+pub mod inputs;
+pub mod pairs;
+pub mod scripts;
+pub mod tables;
+pub mod terms;

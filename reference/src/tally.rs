@@ -1,0 +1,143 @@
+//! Counts of what a run saw, and the least it has to see.
+
+use crate::replay::Event;
+use crate::verdict::Outcome;
+use std::collections::BTreeMap;
+use std::fmt;
+
+/// Verdicts and refusals that the verdict program can give.
+const VERDICT_KINDS: [&str; 14] = [
+    "verdict: Same",
+    "verdict: Different",
+    "verdict: Budget",
+    "verdict: Full",
+    "verdict: Refused 1",
+    "verdict: Refused 2",
+    "verdict: Refused 3",
+    "verdict: Refused 4",
+    "verdict: Refused 5",
+    "verdict: Refused 6",
+    "verdict: Refused 7",
+    "verdict: Refused 8",
+    "verdict: Refused 9",
+    "verdict: Input",
+];
+
+/// Answers that the calls of a script can give.
+const REPLAY_KINDS: [&str; 27] = [
+    "replay: load",
+    "replay: load refused 1",
+    "replay: load refused 2",
+    "replay: load refused 3",
+    "replay: load refused 4",
+    "replay: load refused 5",
+    "replay: load refused 6",
+    "replay: load refused 7",
+    "replay: load refused 8",
+    "replay: press Same",
+    "replay: press Different",
+    "replay: press Budget",
+    "replay: press Full",
+    "replay: press refused 7",
+    "replay: press refused 9",
+    "replay: press refused 10",
+    "replay: show Left",
+    "replay: show Right",
+    "replay: show refused",
+    "replay: write",
+    "replay: write refused 1",
+    "replay: write refused 7",
+    "replay: write refused 10",
+    "replay: set session",
+    "replay: store",
+    "replay: print",
+    "replay: Script",
+];
+
+/// Each kind has to be seen once in so many cases.
+const CASES_PER_KIND: usize = 30;
+/// Runs with fewer cases need half of that, since chance weighs more there.
+const FEW_CASES: usize = 3_000;
+
+/// How often each kind of answer was seen.
+#[derive(Clone, Debug, Default, PartialEq, Eq)]
+pub struct Tally {
+    counts: BTreeMap<String, usize>,
+}
+
+impl Tally {
+    pub fn verdict(&mut self, outcome: &Outcome) {
+        let kind = match outcome {
+            Outcome::Answered(answer) => answer.verdict.to_string(),
+            Outcome::Refused(refusal) => format!("Refused {refusal}"),
+            Outcome::Input => "Input".to_string(),
+        };
+        self.count(format!("verdict: {kind}"), 1);
+    }
+
+    pub fn event(&mut self, event: &Event) {
+        let kind = match event {
+            Event::Load(Ok(_)) => "load".to_string(),
+            Event::Load(Err(refusal)) => format!("load refused {refusal}"),
+            Event::Press(Ok(answer)) => format!("press {}", answer.verdict),
+            Event::Press(Err(refusal)) => format!("press refused {refusal}"),
+            Event::Show(Some((side, _))) => format!("show {side:?}"),
+            Event::Show(None) => "show refused".to_string(),
+            Event::Write(Ok(_)) => "write".to_string(),
+            Event::Write(Err(refusal)) => format!("write refused {refusal}"),
+            Event::SetSession => "set session".to_string(),
+            Event::Store => "store".to_string(),
+            Event::Print => "print".to_string(),
+            Event::Script => "Script".to_string(),
+        };
+        self.count(format!("replay: {kind}"), 1);
+    }
+
+    fn count(&mut self, kind: String, times: usize) {
+        *self.counts.entry(kind).or_default() += times;
+    }
+
+    /// Adds another run's counts.
+    pub fn add(&mut self, other: Tally) {
+        for (kind, times) in other.counts {
+            self.count(kind, times);
+        }
+    }
+
+    pub fn seen(&self, kind: &str) -> usize {
+        self.counts.get(kind).copied().unwrap_or(0)
+    }
+
+    /// The kinds that a run of `cases` cases saw too seldom, and the least
+    /// number that would do.
+    pub fn too_few(&self, cases: usize, halves: Halves) -> (Vec<&'static str>, usize) {
+        let least = match cases / CASES_PER_KIND {
+            some if cases < FEW_CASES => some / 2,
+            all => all,
+        };
+        let verdict = VERDICT_KINDS.iter().filter(|_| halves.verdict);
+        let replay = REPLAY_KINDS.iter().filter(|_| halves.replay);
+        let few = verdict
+            .chain(replay)
+            .filter(|kind| self.seen(kind) < least)
+            .copied()
+            .collect();
+        (few, least)
+    }
+}
+
+/// The programs that a run compares.
+#[derive(Clone, Copy, Debug, PartialEq, Eq)]
+pub struct Halves {
+    pub verdict: bool,
+    pub replay: bool,
+}
+
+impl fmt::Display for Tally {
+    fn fmt(&self, f: &mut fmt::Formatter<'_>) -> fmt::Result {
+        for (kind, times) in &self.counts {
+            writeln!(f, "{times:8} {kind}")?;
+        }
+        Ok(())
+    }
+}

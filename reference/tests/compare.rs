@@ -1,0 +1,126 @@
+//! The comparing program, run on the reference itself and on programs that
+//! answer otherwise.
+
+use reference::generate::inputs;
+use reference::on_large_stack;
+use reference::tally::{Halves, Tally};
+use std::fs;
+use std::path::PathBuf;
+use std::process::{Command, Output};
+
+const VERDICT: &str = env!("CARGO_BIN_EXE_reference-verdict");
+const REPLAY: &str = env!("CARGO_BIN_EXE_reference-replay");
+
+fn compare(arguments: &[&str]) -> Output {
+    Command::new(env!("CARGO_BIN_EXE_compare"))
+        .args(arguments)
+        .output()
+        .expect("compare can be started")
+}
+
+/// A directory of its own for one test.
+fn directory(name: &str) -> PathBuf {
+    let path = PathBuf::from(env!("CARGO_TARGET_TMPDIR")).join(name);
+    fs::create_dir_all(&path).expect("the directory can be made");
+    path
+}
+
+/// The message of a run that must fail with a difference.
+fn difference(name: &str, programs: [&str; 2]) -> (String, Vec<u8>) {
+    let directory = directory(name);
+    let keep = directory.to_str().expect("the path is text");
+    let [verdict, replay] = programs;
+    let output = compare(&[verdict, replay, "60", "2", "--keep", keep]);
+    assert_eq!(output.status.code(), Some(1));
+    assert!(output.stdout.is_empty());
+    let kept = fs::read(directory.join("difference.bin")).expect("the input is kept");
+    (String::from_utf8_lossy(&output.stderr).into_owned(), kept)
+}
+
+#[test]
+fn silent_on_success() {
+    for programs in [[VERDICT, REPLAY], [VERDICT, "-"], ["-", REPLAY]] {
+        let output = compare(&[programs[0], programs[1], "150", "2"]);
+        assert_eq!(output.status.code(), Some(0));
+        assert!(output.stdout.is_empty() && output.stderr.is_empty());
+    }
+}
+
+#[test]
+fn the_report_counts_every_case() {
+    let output = compare(&[VERDICT, REPLAY, "150", "2", "--report"]);
+    let report = String::from_utf8_lossy(&output.stdout).into_owned();
+    // Two of three cases are inputs of the verdict program.
+    let verdicts = report.lines().filter(|line| line.contains("verdict: "));
+    let counts = verdicts.filter_map(|line| line.split_whitespace().next()?.parse::<usize>().ok());
+    assert_eq!(counts.sum::<usize>(), 100);
+    assert!(report.contains("replay: press refused 10"));
+}
+
+#[test]
+fn the_first_difference_is_kept() {
+    // The replaying program reads every input of the other as a script.
+    let (message, kept) = difference("swapped", [REPLAY, REPLAY]);
+    let first = on_large_stack(|| inputs::input(2, 0));
+    assert_eq!(kept, first);
+    assert!(message.contains("case 0 of seed 2"), "{message}");
+    assert!(message.contains("\nexpected: Same "), "{message}");
+    assert!(message.contains("\ngot:      "), "{message}");
+}
+
+#[test]
+fn a_difference_in_a_script_is_found() {
+    let (message, _) = difference("script", [VERDICT, VERDICT]);
+    assert!(message.contains("case 2 of seed 2"), "{message}");
+}
+
+#[test]
+fn silence_and_endless_output_are_differences() {
+    let (message, _) = difference("silent", ["true", "-"]);
+    assert!(message.contains("got:      (end of output)"), "{message}");
+    let (message, _) = difference("endless", ["yes", "-"]);
+    assert!(message.contains("got:      y"), "{message}");
+}
+
+#[test]
+fn a_program_that_is_not_there() {
+    let (message, _) = difference("absent", ["./no-such-program", "-"]);
+    assert!(message.contains("(not run: "), "{message}");
+}
+
+#[test]
+fn wrong_arguments() {
+    for arguments in [
+        &[][..],
+        &[VERDICT],
+        &["-", "-"],
+        &[VERDICT, REPLAY, "many"],
+        &[VERDICT, REPLAY, "1", "1", "1"],
+        &[VERDICT, REPLAY, "--fast"],
+        &[VERDICT, REPLAY, "--keep"],
+    ] {
+        let output = compare(arguments);
+        assert_eq!(output.status.code(), Some(2), "{arguments:?}");
+        assert!(String::from_utf8_lossy(&output.stderr).contains("usage: compare"));
+    }
+}
+
+#[test]
+fn kinds_that_are_not_seen_are_named() {
+    let none = Tally::default();
+    let both = Halves {
+        verdict: true,
+        replay: true,
+    };
+    // Four verdicts, refusals 1 to 9 and Input; in scripts nine answers of
+    // load, seven of press, three of show, four of write and four others.
+    assert_eq!(none.too_few(60, both).0.len(), 14 + 27);
+    assert_eq!(none.too_few(59, both).0.len(), 0);
+    let verdict = Halves {
+        replay: false,
+        ..both
+    };
+    let (few, least) = none.too_few(6_000, verdict);
+    assert_eq!((few.len(), least), (14, 200));
+    assert!(few.contains(&"verdict: Refused 9"));
+}
