@@ -6,3 +6,4 @@ pub mod Parse
 pub mod Decimal
 pub mod Put
 pub mod Line
+pub mod Types

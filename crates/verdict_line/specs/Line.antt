@@ -57,15 +57,18 @@ inputName = 73 ∷ 110 ∷ 112 ∷ 117 ∷ 116 ∷ []
 abbrev pub refusedName : List ℕ
 refusedName = 82 ∷ 101 ∷ 102 ∷ 117 ∷ 115 ∷ 101 ∷ 100 ∷ []
 
+abbrev pub newline : ℕ
+newline = 10
+
 -- A number behind a space.
 abbrev pub field : ℕ → List ℕ
 field n = 32 ∷ decimal n
 
 -- The bytes of a line, the newline included.
 abbrev pub lineBytes : Line → List ℕ
-lineBytes input = inputName ++ (10 ∷ [])
-lineBytes (refuses n) = refusedName ++ (field n ++ (10 ∷ []))
-lineBytes (shows v s l r) = nameOf v ++ (field s ++ (field l ++ (field r ++ (10 ∷ []))))
+lineBytes input = inputName ++ (newline ∷ [])
+lineBytes (refuses n) = refusedName ++ (field n ++ (newline ∷ []))
+lineBytes (shows v s l r) = nameOf v ++ (field s ++ (field l ++ (field r ++ (newline ∷ []))))
 
 -- What the program prints for the bytes that it reads.
 unfoldable pub printed : List ℕ → List ℕ
