@@ -1,4 +1,3 @@
-pub mod ClearLaws
 pub mod CompareLaws
 pub mod Walk
 pub mod Verdicts

@@ -33,14 +33,14 @@ cleared-padded C ws others t m e s l =
     ap₂ (λ xs k. xs ++ replicate k 0) f (ap₂ _-_ l s)
 
 -- What the rounds leave: each term fits its workspace, and with the words after the terms cleared it is what `conclude` says.
-module _ {budget : ℕ} {o : Outcome} {v : Verdict} {spent m n : ℕ} {ws vs : List ℕ} (h : Ran budget o v spent m n ws vs) where
+module _ {budget : ℕ} {o : Outcome} {v : Verdict} {spent m n : ℕ} {ws vs cs : List ℕ} (h : Ran budget o v spent m n ws vs cs) where
   pub ran-left-fits : m ≤ length ws
   ran-left-fits = omega (arith, h .left-length, ap length (h .left-words), length-append (words (o .left)) (h .left-others))
 
   pub ran-right-fits : n ≤ length vs
   ran-right-fits = omega (arith, h .right-length, ap length (h .right-words), length-append (words (o .right)) (h .right-others))
 
-  pub ran-concludes : (C : ℕ) (s : Session) (cs : List ℕ) {l r c : List ℕ} → length ws ≡ C → length vs ≡ C → length cs ≡ C
+  pub ran-concludes : (C : ℕ) (s : Session) {l r c : List ℕ} → length ws ≡ C → length vs ≡ C
       → l ≡ take m ws ++ replicate (length ws - m) 0 → r ≡ take n vs ++ replicate (length vs - n) 0 → c ≡ take 0 cs ++ replicate (length cs - 0) 0
       → _≡_ {A = Pressed}
       (record {
@@ -49,10 +49,10 @@ module _ {budget : ℕ} {o : Outcome} {v : Verdict} {spent m n : ℕ} {ws vs : L
         scratch = c;
       })
       (conclude C s o)
-  ran-concludes C s cs {l} {r} {c} lw lv lc el er ec i =
+  ran-concludes C s {l} {r} {c} lw lv el er ec i =
       let left : l ≡ padded C (words (o .left)) = el ∙ cleared-padded C ws (h .left-others) (o .left) m (h .left-words) (h .left-length) lw in
       let right : r ≡ padded C (words (o .right)) = er ∙ cleared-padded C vs (h .right-others) (o .right) n (h .right-words) (h .right-length) lv in
-      let zeros : length cs - 0 ≡ C = omega arith in
+      let zeros : length cs - 0 ≡ C = omega (arith, h .scratch-length) in
       let scratch : c ≡ replicate C 0 = ec ∙ take-zero-append cs (replicate (length cs - 0) 0) ∙ ap (λ k. replicate k 0) zeros in
       let verdict = h .verdict-is in
       let spent′ = h .spent-is in

@@ -105,7 +105,7 @@ module _ {left₀ right₀ scratch₀ : List ℕ} {l r budget : ℕ} {left right
       rw (j, p, q, g .left-kept) (turned equal (λ s. same-terms lh rh (sym e ∙ s)) (λ s. other-terms lh rh (sym e ∙ s)))
 
   pub ran : {v : Verdict} → Turned (length left₀) (budget - spent) (held left m) (held right n) (ends v)
-      → Ran budget (rounds (length left₀) budget (held left₀ l) (held right₀ r)) v spent m n left right
+      → Ran budget (rounds (length left₀) budget (held left₀ l) (held right₀ r)) v spent m n left right scratch
   ran {v} t =
       let o : after spent (ended v (held left m) (held right n)) ≡ rounds (length left₀) budget (held left₀ l) (held right₀ r)
       = sym (ap (after spent) (rounds-stopped t)) ∙ g .rest in
@@ -122,6 +122,7 @@ module _ {left₀ right₀ scratch₀ : List ℕ} {l r budget : ℕ} {left right
         left-words = sym (ls .start) ∙ ap (λ k. words (k .left) ++ drop m left) o;
         right-others = drop n right;
         right-words = sym (rs .start) ∙ ap (λ k. words (k .right) ++ drop n right) o;
+        scratch-length = g .runs .scratch-length;
       }
 
   module _ {p : ℕ} (t : Turned (length left₀) (budget - spent) (held left m) (held right n) (goes p)) where

@@ -14,8 +14,9 @@ pub record Runs (left right scratch : List ℕ) (l r : ℕ) : Type 0 where
   pub right-length : length right ≡ length left
   pub scratch-length : length scratch ≡ length left
 
--- The workspaces hold the two terms that the rounds with a budget end in. The words after a term are any: the press clears them.
-pub record Ran (budget : ℕ) (o : Outcome) (verdict : Verdict) (spent l r : ℕ) (left right : List ℕ) : Type 0 where
+-- The workspaces hold the two terms that the rounds with a budget end in. The words after a term, and those of the scratch, are any: the press
+-- clears them.
+pub record Ran (budget : ℕ) (o : Outcome) (verdict : Verdict) (spent l r : ℕ) (left right scratch : List ℕ) : Type 0 where
   pub verdict-is : verdict ≡ o .verdict
   pub spent-is : spent ≡ o .spent
   pub within : spent ≤ budget
@@ -25,3 +26,4 @@ pub record Ran (budget : ℕ) (o : Outcome) (verdict : Verdict) (spent l r : ℕ
   pub left-words : left ≡ words (o .left) ++ left-others
   pub right-others : List ℕ
   pub right-words : right ≡ words (o .right) ++ right-others
+  pub scratch-length : length scratch ≡ length left

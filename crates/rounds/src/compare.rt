@@ -1,8 +1,7 @@
-// The words of two workspaces: comparison and clearing.
+// Comparison of the terms in two workspaces.
 ghost use mathlib.Core.Path.{_≡_};
-ghost use mathlib.Core.List.{_++_};
-ghost use Prim.Native.Nat.{_-_, _≤_};
-ghost use lib.ListN.{length, take, replicate};
+ghost use Prim.Native.Nat.{_≤_};
+ghost use lib.ListN.{length, take};
 ghost use Rattle.rounds.specs.Compare.{sameWords};
 
 // Whether the first n words of one workspace and the first m of another are the same.
@@ -21,16 +20,4 @@ pub fn same(ws: &[u32], n: usize, vs: &[u32], m: usize) -> bool
         i += 1;
     }
     true
-}
-
-// Zeros from a position to the end.
-pub fn clear(ws: &mut [u32], from: usize)
-    requires { ⌜ from ≤ length (now ws) ⌝ }
-    ensures { λ _. ⌜ now (ws .exit) ≡ take from (now (ws .entry)) ++ replicate (length (now (ws .entry)) - from) 0 ⌝ }
-{
-    let mut i = from;
-    while i < ws.len() {
-        ws[i] = 0;
-        i += 1;
-    }
 }

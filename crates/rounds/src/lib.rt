@@ -8,9 +8,9 @@ ghost use Rattle.rounds.specs.Show.{show, partOf};
 ghost use Rattle.rounds.specs.Types.{sessionOf, memoryOf, callOf, pressedOf};
 ghost use Rattle.rounds.specs.Run.{Runs};
 ghost use Rattle.step.specs.Held.{held};
-use crate::compare::clear;
 use crate::run::run;
 use words::Word;
+use words::clear;
 use words::refusal::Refusal;
 
 mod compare;

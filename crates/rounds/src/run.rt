@@ -29,7 +29,7 @@ pub fn run(
     budget: u32,
 ) -> Ended
     requires { ⌜ Runs (now left) (now right) (now scratch) l r ⌝ }
-    ensures { λ o. ⌜ Ran budget (rounds (length (now (left .entry))) budget (held (now (left .entry)) l) (held (now (right .entry)) r)) (verdictOf (o .verdict)) (o .spent) (o .left) (o .right) (now (left .exit)) (now (right .exit)) ⌝ }
+    ensures { λ o. ⌜ Ran budget (rounds (length (now (left .entry))) budget (held (now (left .entry)) l) (held (now (right .entry)) r)) (verdictOf (o .verdict)) (o .spent) (o .left) (o .right) (now (left .exit)) (now (right .exit)) (now (scratch .exit)) ⌝ }
 {
     let mut m = l;
     let mut n = r;

@@ -9,7 +9,7 @@ use lib.Seq.{sets, sets-eq, length-sets, slice}
 use Rattle.calculus.specs.Words.{words, size}
 use Rattle.substitution.specs.Rewritten.{Written}
 use Rattle.substitution.specs.Results.{substituted}
-use Rattle.step.specs.declared.Redex.the-variants as redex
+use Rattle.step.specs.declared.redex.Redex.the-variants as redex
 use Rattle.step.specs.Parts.{parts}
 use Rattle.step.specs.Next.{next, nextFrom, Gathers, HasRoom, Contracted}
 use Rattle.step.specs.Copies.{Copies}
@@ -49,13 +49,8 @@ module _ {ws : List ℕ} {n at : ℕ} {scratch : List ℕ} (room : HasRoom ws n 
     gathered-words : slice 0 k scratch′ ≡ nextFrom ws n at
     gathered-words = written-start (nextFrom ws n at) (omega (arith, next-size (room .redex), room .scratch-fits)) gathers
 
-    pub back-fits : Copies scratch′ 0 k ws at
-    back-fits =
-        record {
-          ordered = omega arith;
-          within = omega (arith, written-length gathers, gathers .position, room .scratch-fits, next-size (room .redex));
-          fits = omega (arith, gathers .position, room .fits, next-size (room .redex));
-        }
+    pub back-fits : (k ≤ length scratch′) × (at + k ≤ length ws)
+    back-fits = omega (arith, written-length gathers, gathers .position, room .fits, room .scratch-fits, next-size (room .redex))
 
     pub contracted : {ws′ : List ℕ} {r : ℕ} → Written ws at (slice 0 k scratch′) ws′ r → Contracted ws n at scratch r ws′ scratch′
     contracted w =

@@ -20,7 +20,7 @@ use Rattle.calculus.proofs.PositionLaws.{contract-at-position, contractAt-withi
 use Rattle.calculus.proofs.Focus.{Focus, focus}
 use Rattle.substitution.specs.Results.{Substitutable, substituted}
 use Rattle.substitution.proofs.ResultLaws.{substituted-at, substitutable-at}
-use Rattle.step.specs.declared.Redex.the-variants as redex
+use Rattle.step.specs.declared.redex.Redex.the-variants as redex
 use Rattle.step.specs.Held.{held}
 use Rattle.step.specs.Parts.{parts}
 use Rattle.step.specs.Next.{next, nextFrom, HoldsRedex}

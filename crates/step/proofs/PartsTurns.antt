@@ -14,7 +14,7 @@ use Rattle.calculus.specs.Skip.{span}
 use Rattle.calculus.proofs.SkipLaws.{skip-drop}
 use Rattle.step.specs.declared.Found.{Found}
 use Rattle.step.specs.declared.Found.the-variants as found
-use Rattle.step.specs.declared.Redex.the-variants as redex
+use Rattle.step.specs.declared.redex.Redex.the-variants as redex
 use Rattle.step.specs.Parts.{branchBody, withBody, caseParts, parts}
 
 pub branchBody-none : (t n i : ℕ) (ws : List ℕ) → branchBody zero t n i ws ≡ found.Nothing

@@ -12,18 +12,19 @@ use lib.Seq.{drop-drop, drop-append-seam}
 use borrow.Author.Tests.{ne-eqb}
 use Rattle.calculus.specs.Term.{Sort, Exp, Term, Terms, Branches, var, lam, app, con, case, nil, cons, end, branch, count}
 use Rattle.calculus.specs.Words.{variableKind, abstractionKind, applicationKind, constructorKind, caseKind, branchKind, kindBase, word, countBase, pack, words, size}
-use Rattle.calculus.specs.Skip.{skip, span}
+use Rattle.calculus.specs.Skip.{skip}
 use Rattle.calculus.specs.Substitution.{subst as substitution}
 use Rattle.calculus.specs.Contraction.{select}
 use Rattle.calculus.specs.Leftmost.{beta, inspect}
 use Rattle.calculus.specs.Position.{contractAt}
 use Rattle.calculus.specs.Theorems.{Packable, IndicesWithin}
 use Rattle.calculus.proofs.WordLaws.{kindOf-word, payloadOf-word, tagOf-pack, countOf-pack}
-use Rattle.calculus.proofs.SkipLaws.{span-words, span-zero, skip-words, skip-zero}
+use Rattle.calculus.proofs.SkipLaws.{skip-words, skip-zero}
+use Rattle.calculus.proofs.FirstLaws.{span-items}
 use Rattle.step.specs.declared.Found.{Found}
 use Rattle.step.specs.declared.Found.the-variants as found
-use Rattle.step.specs.declared.Redex.{Redex}
-use Rattle.step.specs.declared.Redex.the-variants as redex
+use Rattle.step.specs.declared.redex.Redex.{Redex}
+use Rattle.step.specs.declared.redex.Redex.the-variants as redex
 use Rattle.step.specs.Parts.{branchBody, withBody, caseParts, parts}
 
 -- From a position on, a workspace is these words.
@@ -49,10 +50,7 @@ stands e vs f h = record { after = vs; words-at = f; packable = h }
 stands-alone : (a : Term) {W : List ℕ} {p : ℕ} (vs : List ℕ) → From W p (words a ++ vs) → Packable a → Stands W p (cons a nil)
 stands-alone a vs f h = stands (cons a nil) vs (rw (append-nil (words a)) f) (h, tt)
 
--- The extent of one term.
-span-term : (t : Term) (ws : List ℕ) → Packable t → span 1 (words t ++ ws) ≡ size t
-span-term t ws h = omega (arith, span-words t 0 ws h, span-zero ws)
-
+-- What stands behind one term.
 skip-term : (t : Term) (ws : List ℕ) → Packable t → skip 1 (words t ++ ws) ≡ ws
 skip-term t ws h = skip-words t 0 ws h ∙ skip-zero ws
 
@@ -76,7 +74,7 @@ selected t xs end vs h s = nowhere
 selected t xs (branch u n b bs) vs h s =
     let q = payloadOf-word branchKind (pack u n) (omega arith) in
     let s′ = rw (append-assoc (words b) (words bs) vs) at (behind-word s) in
-    rw (q, tagOf-pack u n (h .0), countOf-pack u n (h .0), append-assoc (words b) (words bs) vs, span-term b (words bs ++ vs) (h .1), skip-term b (words bs ++ vs) (h .1))
+    rw (q, tagOf-pack u n (h .0), countOf-pack u n (h .0), append-assoc (words b) (words bs) vs, span-items b (words bs ++ vs) refl (h .1), skip-term b (words bs ++ vs) (h .1))
     (selected-eqb _ _ _ _ t u (selected-eqb _ _ _ _ (count xs) n (body (stands b (words bs ++ vs) s′ (h .1))) nowhere) (selected t xs bs vs (h .2) (behind (words b) s′)))
 
 -- What contracting a term at its first word gives, beside the parts that were found there.
@@ -106,7 +104,7 @@ at-function (var i) a vs h s = rw (other-function variableKind i _ _ (omega arit
 at-function (lam b) a {at} vs h s =
     let two : at + 1 + 1 ≡ at + 2 = omega arith in
     let s′ = rw (append-assoc (words b) (words a) vs, two) at (behind-word (behind-word s)) in
-    rw (append-assoc (words b) (words a) vs, span-term b (words a ++ vs) (h .0))
+    rw (append-assoc (words b) (words a) vs, span-items b (words a ++ vs) refl (h .0))
     (contracts (stands b (words a ++ vs) s′ (h .0)) (stands-alone a vs (behind (words b) s′) (h .1)) (omega arith) (λ limit i. (i .1, tt)))
 at-function (app f g) a vs h s = stuck
 at-function (con t xs) a vs h s = rw (other-function constructorKind (pack t (count xs)) _ _ (omega arith) (λ e. omega arith)) stuck
@@ -128,7 +126,7 @@ caseParts-words : (n t : ℕ) (xs : Terms) (at : ℕ) (vs : List ℕ) → Packab
 unfolding caseParts
 caseParts-words n t xs at vs h =
     rw (
-      span-term (con t xs) vs h,
+      span-items (con t xs) vs refl h,
       skip-term (con t xs) vs h,
       payloadOf-word caseKind n (omega arith),
       payloadOf-word constructorKind (pack t (count xs)) (omega arith),

@@ -13,8 +13,8 @@ use Rattle.calculus.specs.Term.{Sort, Exp, Term, var, lam, app, con, case, nil,
 use Rattle.calculus.specs.Words.{branchKind, pack, words, size}
 use Rattle.calculus.specs.Position.{contractAt, redexAt}
 use Rattle.calculus.specs.Theorems.{Packable}
-use Rattle.step.specs.declared.Redex.{Redex}
-use Rattle.step.specs.declared.Redex.the-variants as redex
+use Rattle.step.specs.declared.redex.Redex.{Redex}
+use Rattle.step.specs.declared.redex.Redex.the-variants as redex
 use Rattle.step.specs.Held.{held, Holds}
 use Rattle.step.specs.Search.{Searched}
 use Rattle.step.specs.Parts.{parts}

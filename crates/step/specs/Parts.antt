@@ -11,8 +11,8 @@ use Rattle.calculus.specs.Words.{abstractionKind, applicationKind, constructorK
 use Rattle.calculus.specs.Skip.{skip, span}
 use Rattle.step.specs.declared.Found.{Found}
 use Rattle.step.specs.declared.Found.the-variants as found
-use Rattle.step.specs.declared.Redex.{Redex}
-use Rattle.step.specs.declared.Redex.the-variants as redex
+use Rattle.step.specs.declared.redex.Redex.{Redex}
+use Rattle.step.specs.declared.redex.Redex.the-variants as redex
 
 -- The body of the first of k branches that has the tag, if it binds n variables.
 unfoldable pub branchBody : (k tag n at : ℕ) → List ℕ → Found

@@ -1,8 +1,7 @@
 -- What stands for a word of the body: the argument of the place that the code finds, raised, or the word itself, lowered.
-use Prim.Native.Nat.{ℕ, zero, suc, _+_, _-_, _^_, _≤_, _<_}
+use Prim.Native.Nat.{ℕ, suc, _-_, _^_, _≤_, _<_}
 use mathlib.Core.Path.{_≡_, refl, sym, _∙_, ap}
-use mathlib.Core.Bool.{cond}
-use mathlib.Core.List.{List, [], _∷_, _++_, append-assoc}
+use mathlib.Core.List.{List, _++_, append-assoc}
 use mathlib.Core.Logic.{⊎-elim}
 use mathlib.Core.Option.{some, none}
 use native.Mathlib.Nat.{eq-or-lt-of-le}
@@ -13,7 +12,7 @@ use lib.IntN.{ℤ, pos, negℤ}
 use lib.ListN.{length, drop}
 use lib.Seq.{drop-append-add}
 use Rattle.calculus.specs.Term.{Term, Terms, nil, cons, count}
-use Rattle.calculus.specs.Words.{variableKind, kindOf, payloadOf, words, size}
+use Rattle.calculus.specs.Words.{variableKind, kindOf, payloadOf, words}
 use Rattle.calculus.specs.Skip.{span}
 use Rattle.calculus.specs.Shift.{shift}
 use Rattle.calculus.specs.Substitution.{argument}

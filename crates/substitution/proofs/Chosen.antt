@@ -2,14 +2,13 @@
 -- the next start tells its length.
 use Prim.Native.Nat.{ℕ, suc, _+_, _*_, _-_, _≤_, _<_}
 use mathlib.Core.Path.{_≡_, refl, sym, _∙_, ap, ap₂}
-use mathlib.Core.List.{List, [], _∷_, _++_}
+use mathlib.Core.List.{List, _++_}
 use native.Mathlib.Omega.{arith}
 use lib.IntN.{ℤ, pos}
 use lib.ListN.{length, getD, drop, length-append, length-drop}
 use lib.Seq.{drop-drop}
-use Rattle.calculus.specs.Term.{Sort, Exp, Term, Terms, var, lam, app, con, case, nil, cons, end, branch, count}
-use Rattle.calculus.specs.Words.{workspaceMost, payloadOf, words, size}
-use Rattle.calculus.specs.Accepted.{argumentLimit}
+use Rattle.calculus.specs.Term.{Sort, Exp, Terms, var, lam, app, con, case, nil, cons, end, branch, count}
+use Rattle.calculus.specs.Words.{workspaceMost, countBase, payloadOf, words, size}
 use Rattle.calculus.specs.Skip.{span}
 use Rattle.calculus.specs.First.{firstTerms}
 use Rattle.calculus.specs.Shift.{shift}
@@ -44,7 +43,7 @@ size-shift z c (branch t n b bs) =
       size-shift z c bs,
     )
 
-module _ (ws : List ℕ) (body args n : ℕ) (h : Substitutable ws body args n) (starts : List ℕ) (p : Placed ws args starts n) (d w : ℕ) (bounded : d ≤ argumentLimit * workspaceMost) (j : ℕ) (place-is : j ≡ place n d w) (chosen : j < n) where
+module _ {ws : List ℕ} {body args n : ℕ} (h : Substitutable ws body args n) {starts : List ℕ} (p : Placed ws args starts n) (d w : ℕ) (bounded : d ≤ countBase * workspaceMost) {j : ℕ} (place-is : j ≡ place n d w) (chosen : j < n) where
   abbrev xs : Terms
   xs = firstTerms n (drop args ws)
 
@@ -64,14 +63,14 @@ module _ (ws : List ℕ) (body args n : ℕ) (h : Substitutable ws body args n) 
   start-is = p .placed j (omega arith)
 
   -- The argument stands at the start of its place.
-  stands : drop (getD starts (j) 0) ws ≡ words (found .tree) ++ found .rest
+  stands : drop (getD starts j 0) ws ≡ words (found .tree) ++ found .rest
   stands =
       ap (λ m. drop m ws) start-is
-      ∙ sym (drop-drop (span (j) (drop args ws)) args ws)
+      ∙ sym (drop-drop (span j (drop args ws)) args ws)
       ∙ ap₂ (λ m ys. drop (span m ys) ys) before (starts-split xs (drop args ws) (h .args-start))
       ∙ found .stands
 
-  pub chosen-shiftable : Shiftable ws (getD starts (j) 0) (pos d)
+  pub chosen-shiftable : Shiftable ws (getD starts j 0) (pos d)
   chosen-shiftable =
       shiftable-at ws _ (found .tree) (found .rest) stands (found .packable) (pos d) (h .short)
       (movable-up indexLimit d 0 (found .tree) (found .indices) (omega arith))
@@ -79,20 +78,20 @@ module _ (ws : List ℕ) (body args n : ℕ) (h : Substitutable ws body args n) 
   is-argument : rewritten (substituting xs) d w ≡ words (shift (pos d) 0 (found .tree))
   is-argument = rewritten-argument xs d w (rw (h .args-count, ← place-is) chosen) (found .is)
 
-  pub chosen-words : rewritten (substituting xs) d w ≡ words (shifted ws (getD starts (j) 0) (pos d))
+  pub chosen-words : rewritten (substituting xs) d w ≡ words (shifted ws (getD starts j 0) (pos d))
   chosen-words = is-argument ∙ ap words (sym (shifted-at ws _ (found .tree) (found .rest) stands (found .packable) (pos d)))
 
-  pub chosen-length : length (rewritten (substituting xs) d w) ≡ getD starts (j + 1) 0 - getD starts (j) 0
+  pub chosen-length : length (rewritten (substituting xs) d w) ≡ getD starts (j + 1) 0 - getD starts j 0
   chosen-length =
       omega (
         arith,
         ap length is-argument,
         size-shift (pos d) 0 (found .tree),
         span-items (found .tree) (found .rest) refl (found .packable),
-        ap (span 1) (sym (drop-drop (span (j) (drop args ws)) args ws)),
+        ap (span 1) (sym (drop-drop (span j (drop args ws)) args ws)),
         ap (λ m. span 1 (drop m ws)) start-is,
         ap (span 1) stands,
-        span-add (drop args ws) (j) 1,
+        span-add (drop args ws) j 1,
         start-is,
         p .placed (j + 1) (omega arith),
       )

@@ -1,6 +1,7 @@
 pub mod MoveLaws
 pub mod RewrittenLaws
 pub mod DepthLaws
+pub mod Walking
 pub mod Traversal
 pub mod ResultLaws
 pub mod Writing

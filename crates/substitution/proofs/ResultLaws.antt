@@ -1,9 +1,9 @@
 -- What a caller shows and learns, from the terms that it knows to stand in the workspace.
 use Prim.Native.Nat.{ℕ, _≤_}
-use mathlib.Core.Path.{_≡_, refl, sym, _∙_, ap, ap₂}
+use mathlib.Core.Path.{_≡_, sym, _∙_, ap, ap₂}
 use mathlib.Core.List.{List, [], _∷_, _++_}
 use lib.IntN.{ℤ}
-use lib.ListN.{length, take, drop, take-append-drop}
+use lib.ListN.{length, drop, take-append-drop}
 use lib.Seq.{take-append-seam}
 use Rattle.calculus.specs.Term.{Sort, Exp, Term, Terms, count}
 use Rattle.calculus.specs.Words.{workspaceMost, words, size}

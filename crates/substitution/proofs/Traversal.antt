@@ -1,16 +1,16 @@
 -- One traversal for shift and substitution. The words of an expression, each with the binders around it, are what the walk of `depths` finds,
 -- whatever words follow; rewriting them one by one gives the words of the expression with a term put for each variable.
-use Prim.Native.Nat.{ℕ, suc, _+_, _≤_, _<_}
+use Prim.Native.Nat.{ℕ, suc, _+_, _<_}
 use mathlib.Core.Path.{_≡_, refl, sym, _∙_, ap, ap₂}
 use mathlib.Core.List.{List, [], _∷_, _++_, append-assoc, append-nil}
 use native.Mathlib.Nat.{add-zero}
 use native.Mathlib.Numerals.{add-one}
 use native.Mathlib.Omega.{arith}
 use lib.IntN.{ℤ}
-use lib.ListN.{length, replicate}
+use lib.ListN.{replicate}
 use Rattle.calculus.specs.Term.{Sort, term, terms, branches, Exp, Term, Terms, Branches, var, lam, app, con, case, nil, cons, end, branch, count}
 use Rattle.calculus.specs.Words.{variableKind, abstractionKind, applicationKind, constructorKind, caseKind, branchKind, kindBase, word, kindOf, payloadOf, pack, words}
-use Rattle.calculus.specs.Skip.{following, arity}
+use Rattle.calculus.specs.Skip.{following}
 use Rattle.calculus.specs.Shift.{shift}
 use Rattle.calculus.specs.Substitution.{subst}
 use Rattle.calculus.specs.Theorems.{Packable}

@@ -8,8 +8,7 @@ use native.Mathlib.Omega.{arith}
 use lib.ListN.{length, getD, drop, set, length-append, length-drop, drop-of-length-le, List·getD-append}
 use lib.Seq.{sets, length-sets, sets-eq, drop-cons, getD-drop}
 use Rattle.calculus.specs.Term.{Term}
-use Rattle.calculus.specs.Words.{workspaceMost}
-use Rattle.calculus.specs.Accepted.{argumentLimit}
+use Rattle.calculus.specs.Words.{workspaceMost, countBase}
 use Rattle.substitution.specs.Depths.{depths}
 use Rattle.substitution.specs.Rewritten.{rewritten, Written}
 use Rattle.substitution.proofs.DepthLaws.{length-depths, Bounded, bounded-depths}
@@ -48,36 +47,46 @@ pub record Writing (f : ℕ → ℕ → Term) (src : List ℕ) (at : ℕ) (dst�
 pub writing-start : (f : ℕ → ℕ → Term) (src : List ℕ) (at : ℕ) (dst : List ℕ) (out : ℕ) → Writing f src at dst out dst out 0
 writing-start f src at dst out = record { same-length = refl; work = refl; position = refl }
 
--- What the code's `depths` found.
-module _ (src : List ℕ) (at : ℕ) {before depth : List ℕ} {count : ℕ} (short : length src ≤ workspaceMost) (room : length before ≡ workspaceMost) (found : Written before 0 (depths (0 ∷ []) (drop at src)) depth count) where
-  whole : length (depths (0 ∷ []) (drop at src)) ≤ length (drop at src)
-  whole = length-depths (drop at src) (0 ∷ [])
+-- What the code's `depths` found of the item at a position: how many words it has, and the binders around each.
+pub record Found (src : List ℕ) (at : ℕ) (depth : List ℕ) (count : ℕ) : Type 0 where
+  pub short : length src ≤ workspaceMost
+  pub all : count ≡ length (depths (0 ∷ []) (drop at src))
+  pub around : (k : ℕ) → k < count → getD depth k 0 ≡ getD (depths (0 ∷ []) (drop at src)) k 0
 
+pub found : {src before depth : List ℕ} {at count : ℕ} → length src ≤ workspaceMost → length before ≡ workspaceMost
+    → Written before 0 (depths (0 ∷ []) (drop at src)) depth count → Found src at depth count
+found {src} {at = at} short room v =
+    record {
+      short = short;
+      all = omega (arith, v .position);
+      around = λ k more. getD-written (depths (0 ∷ []) (drop at src)) k v (omega (arith, length-depths (drop at src) (0 ∷ []), length-drop at src)) (omega (arith, v .position));
+    }
+
+module _ {src : List ℕ} {at : ℕ} {depth : List ℕ} {count : ℕ} (h : Found src at depth count) where
   pub found-within : count ≤ length src - at
-  found-within = omega (arith, found .position, whole, length-drop at src)
+  found-within = omega (arith, length-depths (drop at src) (0 ∷ []), length-drop at src)
 
   -- No word is left.
   pub ahead-none : (k : ℕ) → count ≤ k → ahead src at k ≡ []
-  ahead-none k past = let h : length (depths (0 ∷ []) (drop at src)) ≤ k = omega (arith, found .position) in rw (drop-of-length-le _ h)
+  ahead-none k past = rw (drop-of-length-le (depths (0 ∷ []) (drop at src)) {i = k} (omega arith))
 
   -- The k-th word.
   module _ (k : ℕ) (more : k < count) where
-    within : k < length (depths (0 ∷ []) (drop at src))
-    within = omega (arith, found .position)
-
-    depth-is : getD depth k 0 ≡ getD (depths (0 ∷ []) (drop at src)) k 0
-    depth-is = getD-written (depths (0 ∷ []) (drop at src)) k found (omega (arith, whole, length-drop at src, short, room)) within
-
-    pub found-bounded : getD depth k 0 ≤ argumentLimit * workspaceMost
+    pub found-bounded : getD depth k 0 ≤ countBase * workspaceMost
     found-bounded =
-        rw depth-is
-        (bounded-at (argumentLimit * workspaceMost) (depths (0 ∷ []) (drop at src)) k
-        (bounded-depths (drop at src) (0 ∷ []) 0 (argumentLimit * workspaceMost) (omega arith, tt) (omega (arith, length-drop at src))))
+        rw (h .around k more)
+        (bounded-at (countBase * workspaceMost) (depths (0 ∷ []) (drop at src)) k
+        (bounded-depths (drop at src) (0 ∷ []) 0 (countBase * workspaceMost) (omega arith, tt) (omega (arith, length-drop at src))))
 
-    pub ahead-next : ahead src at k ≡ (getD depth k 0, getD src (at + k) 0) ∷ ahead src at (k + 1)
+    ahead-next : ahead src at k ≡ (getD depth k 0, getD src (at + k) 0) ∷ ahead src at (k + 1)
     ahead-next =
-        let h : k < length (drop at src) = omega (arith, whole, within) in
-        rw (drop-cons (depths (0 ∷ []) (drop at src)) k 0 within, drop-cons (drop at src) k 0 h, depth-is, getD-drop at src k 0, add-one k)
+        rw (
+          drop-cons (depths (0 ∷ []) (drop at src)) k 0 (omega arith),
+          drop-cons (drop at src) k 0 (omega (arith, length-depths (drop at src) (0 ∷ []))),
+          h .around k more,
+          getD-drop at src k 0,
+          add-one k,
+        )
 
     pub every-next : {P : ℕ → ℕ → Type 0} → Every P (ahead src at k) → P (getD depth k 0) (getD src (at + k) 0)
     every-next p = every-first (rw ahead-next at p)

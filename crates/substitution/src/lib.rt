@@ -19,14 +19,14 @@ ghost use Rattle.substitution.specs.Rewritten.{Written};
 ghost use Rattle.substitution.specs.Results.{Shiftable, shifted, Substitutable, substituted};
 
 // Room for the starts of the arguments and the end of the last.
-const ENDS: usize = Word::ARGUMENTS_MOST as usize + 1;
+const STARTS: usize = Word::ARGUMENTS_MOST as usize + 1;
 
 // The positions at which n consecutive items start, and after them the end of the last.
-fn starts(src: &[u32], args: usize, n: usize) -> [usize; ENDS]
+fn starts(src: &[u32], args: usize, n: usize) -> [usize; STARTS]
     requires { ⌜ (length (now src) ≤ workspaceMost) × (n ≤ argumentLimit) ⌝ }
     ensures { λ r. ⌜ ((j : ℕ) → j ≤ n → getD r j 0 ≡ args + span j (drop args (now (src .entry)))) ⌝ }
 {
-    let mut starts = [0usize; ENDS];
+    let mut starts = [0usize; STARTS];
     starts[0] = args;
     let mut j: usize = 0;
     while j < n {
@@ -95,17 +95,17 @@ pub fn substituted_length(src: &[u32], body: usize, args: usize, n: usize) -> us
     let mut depth = [0u32; Word::WORKSPACE_MOST];
     let count = depths(src, body, &mut depth);
     let starts = starts(src, args, n);
-    let mut length: usize = 0;
+    let mut total: usize = 0;
     let mut k: usize = 0;
     while k < count {
         let j = argument(src[body + k], depth[k], n);
         if j < n {
-            length += starts[j + 1] - starts[j];
+            total += starts[j + 1] - starts[j];
             k += 1;
         } else {
-            length += 1;
+            total += 1;
             k += 1;
         }
     }
-    length
+    total
 }

@@ -18,3 +18,13 @@ pub mod WrittenTable
 pub mod WriteLaws
 pub mod RoundTrips
 pub mod Examples
+pub mod RecordLaws
+pub mod Loops
+pub mod NamingLaws
+pub mod Hanging
+pub mod Walks
+pub mod ShapeLaws
+pub mod ReadingLaws
+pub mod Stores
+pub mod ReadingMeaning
+pub mod LoadCode

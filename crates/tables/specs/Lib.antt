@@ -1,7 +1,11 @@
 -- Stored tables ("The stored table"): what a table means, which tables are refused, loading and writing.
 pub mod Records
+pub mod Types
 pub mod Meaning
 pub mod Refusals
+pub mod Links
+pub mod Chains
+pub mod Reading
 pub mod Load
 pub mod Write
 pub mod PrefixOrder

@@ -1,1 +1,81 @@
 // Loading a stored table and writing one.
+mod header;
+mod naming;
+mod reader;
+mod record;
+mod scope;
+mod shape;
+mod values;
+
+use header::wrong_header;
+use header::wrong_length;
+use header::wrong_workspace;
+use naming::wrong_links;
+use reader::read_term;
+use record::Record;
+use record::count;
+use scope::wrong_free;
+use shape::wrong_children;
+use values::wrong_values;
+use words::clear;
+use words::refusal::Refusal;
+ghost use mathlib.Core.Path.{_≡_};
+ghost use Rattle.tables.specs.Load.{checks, firstMet, load};
+ghost use Rattle.tables.specs.Types.{metOf, loadedOf};
+
+// What loading and writing answer: the number of the refusal, or the length of the term or the number of records.
+pub enum Answer {
+    Refused(u32),
+    Returned(usize),
+}
+
+// What the checks of a table come to: the number of the refusal that is met first, or that none is met.
+enum Check {
+    Met(u32),
+    Passed,
+}
+
+fn first_met(table: &[u32], room: usize) -> Check
+    ensures { λ r. ⌜ metOf r ≡ firstMet (checks (now (table .entry)) room) ⌝ }
+{
+    if wrong_workspace(room) {
+        return Check::Met(Refusal::WORKSPACE);
+    }
+    if wrong_length(table) {
+        return Check::Met(Refusal::LENGTH);
+    }
+    if wrong_header(table) {
+        return Check::Met(Refusal::HEADER);
+    }
+    if room < count(table) {
+        return Check::Met(Refusal::LONG);
+    }
+    if wrong_values(table) {
+        return Check::Met(Refusal::VALUE);
+    }
+    if wrong_links(table) {
+        return Check::Met(Refusal::LINK);
+    }
+    if wrong_children(table) {
+        return Check::Met(Refusal::CHILDREN);
+    }
+    if wrong_free(table) {
+        return Check::Met(Refusal::FREE);
+    }
+    Check::Passed
+}
+
+// Puts the term that a table means into a workspace, with zeros after it. A refusal changes nothing.
+pub fn load(table: &[u32], workspace: &mut [u32]) -> Answer
+    ensures { λ r. ⌜ loadedOf r (now (workspace .exit)) ≡ load (now (table .entry)) (now (workspace .entry)) ⌝ }
+{
+    match first_met(table, workspace.len()) {
+        Check::Met(number) => Answer::Refused(number),
+        Check::Passed => {
+            let root = Record::at(table, 0).first;
+            let end = read_term(table, root, workspace, 0);
+            clear(workspace, end);
+            Answer::Returned(end)
+        }
+    }
+}

@@ -4,8 +4,9 @@ mod frame;
 
 use frame::Frame;
 ghost use mathlib.Core.Path.{_≡_};
-ghost use Prim.Native.Nat.{_≤_, _<_, _+_};
-ghost use lib.ListN.{length, drop};
+ghost use mathlib.Core.List.{_++_};
+ghost use Prim.Native.Nat.{_≤_, _<_, _+_, _-_};
+ghost use lib.ListN.{length, take, drop, replicate};
 ghost use Rattle.calculus.specs.Words.{variableKind, abstractionKind, applicationKind, constructorKind, caseKind, branchKind, workspaceLeast, workspaceMost, kindBase, countBase};
 ghost use Rattle.calculus.specs.Words.{word, kindOf, payloadOf, tagOf, countOf};
 ghost use Rattle.calculus.specs.Accepted.{tagLimit, argumentLimit, branchLimit, freeLimit};
@@ -163,6 +164,18 @@ pub fn is_term(ws: &[u32], n: usize) -> bool
         i += 1;
     }
     top == 0
+}
+
+// Zeros from a position to the end.
+pub fn clear(ws: &mut [u32], from: usize)
+    requires { ⌜ from ≤ length (now ws) ⌝ }
+    ensures { λ _. ⌜ now (ws .exit) ≡ take from (now (ws .entry)) ++ replicate (length (now (ws .entry)) - from) 0 ⌝ }
+{
+    let mut i = from;
+    while i < ws.len() {
+        ws[i] = 0;
+        i += 1;
+    }
 }
 
 // Does nothing. Its contract says that each constant is the number that the calculus gives its name.

@@ -36,7 +36,7 @@ returns : tie.Need-returns
 returns c =
     let start = c .before .before .before .before .before .before .before .before .before .before .before .before .before .before .before .before .before .before .before .before .before .before .before .before .before .before in
     let ran = c .before .before .before .before .before .before .before .before .before .before .before .before .before .before .before .before .before .before .before .run in
-    ran-concludes (ran .ensures) _ (sessionOf (start .args .session)) (ran .last .1 .1 .0) (ran .kept .0) (ran .kept .1 .0 ∙ start .pre .0 .right-length) (ran .kept .1 .1 .0 ∙ start .pre .0 .scratch-length) (c .before .before .before .before .before .before .before .before .before .before .before .clear .ensures) (c .before .before .before .before .before .before .before .clear2 .ensures) (c .before .before .before .clear3 .ensures)
+    ran-concludes (ran .ensures) _ (sessionOf (start .args .session)) (ran .kept .0) (ran .kept .1 .0 ∙ start .pre .0 .right-length) (c .before .before .before .before .before .before .before .before .before .before .before .clear .ensures) (c .before .before .before .before .before .before .before .clear2 .ensures) (c .before .before .before .clear3 .ensures)
 
 pub press-terms-spec : {M : Type 1} → statement M
 press-terms-spec =

@@ -1,20 +1,19 @@
 -- `shift` meets its contract. The invariant: the words still to be rewritten lead to the whole copy, and each of them may be moved.
-use Prim.Native.Nat.{_+_, _-_, _≤_, _<_}
-use mathlib.Core.Path.{_≡_, refl, sym, _∙_, ap}
-use mathlib.Core.List.{[], _∷_}
+use Prim.Native.Nat.{ℕ, _+_, _-_, _≤_, _<_}
+use mathlib.Core.Path.{_≡_, refl, sym, ap}
 use native.Mathlib.Nat.{add-zero}
 use native.Mathlib.Omega.{arith}
-use lib.ListN.{length, drop, getD}
+use lib.ListN.{length, drop}
 use mir.Syntax.{w32}
 use mir.Val.{toZ, ofZ}
 use mir.ValLaws.{toZ-ofZ}
-use Rattle.calculus.specs.Words.{workspaceMost, words}
-use Rattle.calculus.specs.First.{firstTerm}
-use Rattle.substitution.specs.Rewritten.{shifting, rewritten, Written}
+use Rattle.calculus.specs.Term.{Term}
+use Rattle.calculus.specs.Words.{words}
+use Rattle.substitution.specs.Rewritten.{shifting, Written}
 use Rattle.substitution.specs.Results.{shifted}
 use Rattle.substitution.proofs.Traversal.{flat, Every, MovableWord}
 use Rattle.substitution.proofs.ResultLaws.{movable-starts, shift-starts}
-use Rattle.substitution.proofs.Writing.{ahead, found-within, every-next, every-later, Writing, writing-start, writing-room, writing-next, writing-done}
+use Rattle.substitution.proofs.Writing.{written-as, ahead, Writing, writing-start, Found, found, found-within, every-next, every-later, writing-room, writing-next, writing-done}
 use Rattle.substitution.proofs.shift.Statement.{statement}
 use Rattle.substitution.proofs.shift.Tie as tie
 
@@ -37,7 +36,10 @@ module _ (c : tie.Start Inv-loop μ-loop) where
   distance : toZ w32 (ofZ w32 (c .args .distance)) ≡ c .args .distance
   distance = toZ-ofZ w32 (c .args .distance) (c .fits .distance)
 
-  copy : flat (shifting (toZ w32 (ofZ w32 (c .args .distance)))) (ahead (c .args .src .now) (c .args .at) 0)
+  abbrev moving : ℕ → ℕ → Term
+  moving = shifting (toZ w32 (ofZ w32 (c .args .distance)))
+
+  copy : flat moving (ahead (c .args .src .now) (c .args .at) 0)
       ≡ words (shifted (c .args .src .now) (c .args .at) (c .args .distance))
   unfolding shifted
   copy = rw distance (shift-starts _ (drop (c .args .at) (c .args .src .now)) (c .pre .0 .starts) (c .args .distance))
@@ -50,60 +52,55 @@ loop-holds c =
       omega arith,
     )
 
--- A turn.
-module _ (c : tie.In-loop Inv-loop μ-loop) where
+-- What `depths` found.
+module _ (c : tie.At-loop Inv-loop μ-loop) where
   abbrev start : tie.Start Inv-loop μ-loop
-  start = c .before .before .before .before .before .before .before
+  start = c .before .before .before .before .before .before
 
-  count-within : c .before .before .before .depths .result ≤ length (start .args .src .now) - start .args .at
-  count-within = found-within (start .args .src .now) (start .args .at) (start .pre .0 .short) refl (c .before .before .before .depths .ensures)
+  item : Found (start .args .src .now) (start .args .at) (c .before .before .depths .last .1 .1 .0) (c .before .before .depths .result)
+  item = found (start .pre .0 .short) refl (c .before .before .depths .ensures)
 
 add-shift-word : tie.Need-add-shift-word Inv-loop μ-loop
-add-shift-word c = omega (arith, count-within c)
+add-shift-word c = omega (arith, found-within (item (c .before)))
 
 mul-shift-word : tie.Need-mul-shift-word Inv-loop μ-loop
-mul-shift-word c = omega (arith, count-within c, start c .pre .0 .short)
+mul-shift-word c = omega (arith, found-within (item (c .before)), item (c .before) .short)
 
 shared-slice-read-shift-word : tie.Need-shared-slice-read-shift-word Inv-loop μ-loop
-shared-slice-read-shift-word c = omega (arith, count-within (c .before))
+shared-slice-read-shift-word c = omega (arith, found-within (item (c .before .before)))
 
 mul-shift-word-2 : tie.Need-mul-shift-word-2 Inv-loop μ-loop
-mul-shift-word-2 c = omega (arith, count-within (c .before), start (c .before) .pre .0 .short)
+mul-shift-word-2 c = omega (arith, found-within (item (c .before .before)), item (c .before .before) .short)
 
 array-read-shift-word : tie.Need-array-read-shift-word Inv-loop μ-loop
-array-read-shift-word c = omega (arith, count-within (c .before), start (c .before) .pre .0 .short)
+array-read-shift-word c = omega (arith, found-within (item (c .before .before)), item (c .before .before) .short)
 
 shift-word-requires : tie.Need-shift-word-requires Inv-loop μ-loop
 shift-word-requires c κs =
-    let m = c .before in
-    every-next (start m .args .src .now) (start m .args .at) (start m .pre .0 .short) refl (m .before .before .before .depths .ensures)
-    (m .before .loop .k) (m .loop-test .taken) (m .before .loop .inv .1)
+    let l = c .before .before in
+    every-next (item l) (l .loop .k) (c .before .loop-test .taken) (l .loop .inv .1)
 
--- After `shift_word`.
+-- One word more.
 module _ (c : tie.After-shift-word Inv-loop μ-loop) where
-  abbrev turn : tie.In-loop Inv-loop μ-loop
-  turn = c .before .before
+  abbrev l : tie.At-loop Inv-loop μ-loop
+  l = c .before .before .before
 
-  abbrev s : tie.Start Inv-loop μ-loop
-  s = start turn
-
-  room : s .args .out + turn .before .loop .k < length (turn .before .loop .dst)
+  room : start l .args .out + l .loop .k < length (l .loop .dst)
   room =
       omega (
         arith,
-        writing-room (s .args .src .now) (s .args .at) (s .pre .0 .short) refl (turn .before .before .before .depths .ensures)
-            (turn .before .loop .k) (turn .loop-test .taken) (shifting (toZ w32 (ofZ w32 (s .args .distance)))) (turn .before .loop .inv .0),
+        writing-room (item l) (l .loop .k) (c .before .before .loop-test .taken) (moving (start l)) (l .loop .inv .0),
         ap length (c .shift-word .ensures),
-        ap length (copy s),
-        s .pre .1,
-        turn .before .loop .inv .0 .same-length,
+        ap length (copy (start l)),
+        start l .pre .1,
+        l .loop .inv .0 .same-length,
       )
 
 add-dst : tie.Need-add-dst Inv-loop μ-loop
 add-dst c = omega (arith, room c)
 
 mul-dst : tie.Need-mul-dst Inv-loop μ-loop
-mul-dst c = omega (arith, room c, turn c .before .loop .inv .0 .same-length, s c .good .1 .1 .1 .0 .1)
+mul-dst c = omega (arith, room c, l c .loop .inv .0 .same-length, start (l c) .good .1 .1 .1 .0 .1)
 
 slice-write-dst : tie.Need-slice-write-dst Inv-loop μ-loop
 slice-write-dst c = room c
@@ -116,26 +113,22 @@ loop-less c = omega arith
 
 loop-again : tie.Need-loop-again Inv-loop μ-loop
 loop-again c =
-    let m = turn c in
-    let a = s c .args in (
-      writing-next (a .src .now) (a .at) (s c .pre .0 .short) refl (m .before .before .before .depths .ensures)
-          (m .before .loop .k) (m .loop-test .taken) (shifting (toZ w32 (ofZ w32 (a .distance)))) (m .before .loop .inv .0)
-          (record { slice = rw (c .shift-word .ensures); position = omega (arith, ap length (c .shift-word .ensures)) }),
-      every-later (a .src .now) (a .at) (s c .pre .0 .short) refl (m .before .before .before .depths .ensures)
-          (m .before .loop .k) (m .loop-test .taken) (m .before .loop .inv .1),
+    let k = l c .loop .k in
+    let more = c .before .before .loop-test .taken in (
+      writing-next (item (l c)) k more (moving (start (l c))) (l c .loop .inv .0)
+          (written-as (sym (c .shift-word .ensures)) (record { slice = refl; position = omega arith })),
+      every-later (item (l c)) k more (l c .loop .inv .1),
       omega arith,
     )
 
--- At the end.
 written : (c : tie.After-loop Inv-loop μ-loop)
-    → let s = c .before .before .before .before .before .before .before in
+    → let s = start (c .before) in
     Written (s .args .dst .now) (s .args .out) (words (shifted (s .args .src .now) (s .args .at) (s .args .distance))) (c .before .loop .dst)
     (s .args .out + c .before .before .before .depths .result)
 written c =
-    let s = c .before .before .before .before .before .before .before in
-    let k : c .before .loop .k ≡ c .before .before .before .depths .result = omega arith in
-    rw (← copy s, ← k)
-    (writing-done (s .args .src .now) (s .args .at) (s .pre .0 .short) refl (c .before .before .before .depths .ensures) _ (c .before .loop .inv .0) (c .loop-test .left))
+    let s = start (c .before) in
+    let d = written-as (copy s) (writing-done (item (c .before)) (moving s) (c .before .loop .inv .0) (c .loop-test .left)) in
+    record { slice = d .slice; position = omega (arith, d .position) }
 
 add-result : tie.Need-add-result Inv-loop μ-loop
 add-result c = omega (arith, written c .position)

@@ -1,18 +1,17 @@
 -- `substituted_length` meets its contract. The invariant: the words passed and those ahead, rewritten, are as long as all of them rewritten.
-use Prim.Native.Nat.{ℕ, _+_, _*_, _-_, _≤_, _<_}
-use mathlib.Core.Path.{_≡_, refl, sym, _∙_, ap}
+use Prim.Native.Nat.{ℕ, _+_, _*_, _-_, _≤_}
+use mathlib.Core.Path.{_≡_, refl, ap}
 use mathlib.Core.List.{List}
 use native.Mathlib.Omega.{arith}
-use lib.ListN.{getD, drop}
-use Rattle.calculus.specs.Term.{Term}
-use Rattle.calculus.specs.Words.{workspaceMost, words, size}
-use Rattle.calculus.specs.Accepted.{argumentLimit}
+use lib.ListN.{length, getD, drop}
+use Rattle.calculus.specs.Term.{Terms}
+use Rattle.calculus.specs.Words.{workspaceMost, countBase}
 use Rattle.calculus.specs.First.{firstTerms}
 use Rattle.substitution.specs.Rewritten.{substituting, rewritten}
 use Rattle.substitution.specs.Results.{substituted}
 use Rattle.substitution.proofs.Traversal.{flat}
 use Rattle.substitution.proofs.ResultLaws.{subst-starts}
-use Rattle.substitution.proofs.Writing.{ahead, found-within, found-bounded, length-next, ahead-none}
+use Rattle.substitution.proofs.Writing.{ahead, Found, found, found-within, found-bounded, ahead-none, length-next}
 use Rattle.substitution.proofs.StartLaws.{Placed}
 use Rattle.substitution.proofs.ArgumentLaws.{length-body}
 use Rattle.substitution.proofs.Chosen.{chosen-length, chosen-rises, chosen-short}
@@ -21,14 +20,14 @@ use Rattle.substitution.proofs.substituted_length.Tie as tie
 
 -- The length of the words from the k-th on, rewritten.
 abbrev lengthAhead : List ℕ → (body args n k : ℕ) → ℕ
-lengthAhead src body args n k = lib.ListN.length (flat (substituting (firstTerms n (drop args src))) (ahead src body k))
+lengthAhead src body args n k = length (flat (substituting (firstTerms n (drop args src))) (ahead src body k))
 
 abbrev Inv-loop : tie.InvT-loop
-Inv-loop src body args n depth count starts length₀ k₀ length k =
-    (length + lengthAhead src body args n k ≡ lengthAhead src body args n 0) × (length ≤ k * workspaceMost) × (k ≤ count)
+Inv-loop src body args n depth count starts total₀ k₀ total k =
+    (total + lengthAhead src body args n k ≡ lengthAhead src body args n 0) × (total ≤ k * workspaceMost) × (k ≤ count)
 
 abbrev μ-loop : tie.MeasureT-loop
-μ-loop src body args n depth count starts length₀ k₀ length k = count - k
+μ-loop src body args n depth count starts total₀ k₀ total k = count - k
 
 slice-aggregate-depths : tie.Need-slice-aggregate-depths Inv-loop μ-loop
 slice-aggregate-depths c = refl
@@ -42,147 +41,132 @@ starts-requires c κs = (c .before .before .before .before .pre .short, c .befor
 loop-holds : tie.Need-loop-holds Inv-loop μ-loop
 loop-holds c = (omega arith, omega arith, omega arith)
 
--- A turn.
-module _ (c : tie.In-loop Inv-loop μ-loop) where
+-- What `depths` and `starts` found.
+module _ (c : tie.At-loop Inv-loop μ-loop) where
   abbrev start : tie.Start Inv-loop μ-loop
-  start = c .before .before .before .before .before .before .before
+  start = c .before .before .before .before .before .before
 
   abbrev src : List ℕ
   src = start .args .src .now
 
-  count-within : c .before .before .before .before .depths .result ≤ lib.ListN.length src - start .args .body
-  count-within = found-within src (start .args .body) (start .pre .short) refl (c .before .before .before .before .depths .ensures)
+  abbrev xs : Terms
+  xs = firstTerms (start .args .n) (drop (start .args .args) src)
 
-  few-binders : getD (c .before .before .before .before .depths .last .1 .1 .0) (c .before .loop .k) 0 ≤ argumentLimit * workspaceMost
-  few-binders =
-      found-bounded src (start .args .body) (start .pre .short) refl (c .before .before .before .before .depths .ensures) (c .before .loop .k) (c .loop-test .taken)
+  item : Found src (start .args .body) (c .before .before .before .depths .last .1 .1 .0) (c .before .before .before .depths .result)
+  item = found (start .pre .short) refl (c .before .before .before .depths .ensures)
 
-add-argument : tie.Need-add-argument Inv-loop μ-loop
-add-argument c = omega (arith, count-within c)
+  placed : Placed src (start .args .args) (c .before .starts .result) (start .args .n)
+  placed = record { placed = c .before .starts .ensures }
 
-mul-argument : tie.Need-mul-argument Inv-loop μ-loop
-mul-argument c = omega (arith, count-within c, start c .pre .short)
-
-shared-slice-read-argument : tie.Need-shared-slice-read-argument Inv-loop μ-loop
-shared-slice-read-argument c = omega (arith, count-within (c .before))
-
-mul-argument-2 : tie.Need-mul-argument-2 Inv-loop μ-loop
-mul-argument-2 c = omega (arith, count-within (c .before), start (c .before) .pre .short)
-
-array-read-argument : tie.Need-array-read-argument Inv-loop μ-loop
-array-read-argument c = omega (arith, count-within (c .before), start (c .before) .pre .short)
-
-argument-requires : tie.Need-argument-requires Inv-loop μ-loop
-argument-requires c κs = omega (arith, few-binders (c .before))
-
--- The length ahead, by the length of what stands for the next word.
-module _ (c : tie.In-loop Inv-loop μ-loop) where
+  -- The next word and the binders around it.
   abbrev depth : ℕ
-  depth = getD (c .before .before .before .before .depths .last .1 .1 .0) (c .before .loop .k) 0
+  depth = getD (c .before .before .before .depths .last .1 .1 .0) (c .loop .k) 0
 
   abbrev word : ℕ
-  word = getD (src c) (start c .args .body + c .before .loop .k) 0
+  word = getD src (start .args .body + c .loop .k) 0
 
-  abbrev f : ℕ → ℕ → Term
-  f = substituting (firstTerms (start c .args .n) (drop (start c .args .args) (src c)))
+add-argument : tie.Need-add-argument Inv-loop μ-loop
+add-argument c = omega (arith, found-within (item (c .before)))
 
-  one-less : lib.ListN.length (flat f (ahead (src c) (start c .args .body) (c .before .loop .k)))
-      ≡ lib.ListN.length (rewritten f depth word) + lib.ListN.length (flat f (ahead (src c) (start c .args .body) (c .before .loop .k + 1)))
-  one-less =
-      length-next (src c) (start c .args .body) (start c .pre .short) refl (c .before .before .before .before .depths .ensures) (c .before .loop .k)
-      (c .loop-test .taken) f
+mul-argument : tie.Need-mul-argument Inv-loop μ-loop
+mul-argument c = omega (arith, found-within (item (c .before)), item (c .before) .short)
+
+shared-slice-read-argument : tie.Need-shared-slice-read-argument Inv-loop μ-loop
+shared-slice-read-argument c = omega (arith, found-within (item (c .before .before)))
+
+mul-argument-2 : tie.Need-mul-argument-2 Inv-loop μ-loop
+mul-argument-2 c = omega (arith, found-within (item (c .before .before)), item (c .before .before) .short)
+
+array-read-argument : tie.Need-array-read-argument Inv-loop μ-loop
+array-read-argument c = omega (arith, found-within (item (c .before .before)), item (c .before .before) .short)
+
+argument-requires : tie.Need-argument-requires Inv-loop μ-loop
+argument-requires c κs = omega (arith, found-bounded (item (c .before .before)) (c .before .before .loop .k) (c .before .loop-test .taken))
 
 -- An argument stands for the word.
 module _ (c : tie.Then1 Inv-loop μ-loop) where
-  abbrev turn : tie.In-loop Inv-loop μ-loop
-  turn = c .before .before .before
+  abbrev l : tie.At-loop Inv-loop μ-loop
+  l = c .before .before .before .before
 
-  placed : Placed (src turn) (start turn .args .args) (turn .before .before .starts .result) (start turn .args .n)
-  placed = record { placed = turn .before .before .starts .ensures }
+  few-binders : depth l ≤ countBase * workspaceMost
+  few-binders = found-bounded (item l) (l .loop .k) (c .before .before .before .loop-test .taken)
 
-  long : lib.ListN.length (rewritten (f turn) (depth turn) (word turn))
-      ≡ getD (turn .before .before .starts .result) (c .before .argument .result + 1) 0 - getD (turn .before .before .starts .result) (c .before .argument .result) 0
-  long =
-      chosen-length (src turn) (start turn .args .body) (start turn .args .args) (start turn .args .n) (start turn .pre) _ placed (depth turn) (word turn)
-      (few-binders turn) (c .before .argument .result) (c .before .argument .ensures) (c .if1 .taken)
+  long : length (rewritten (substituting (xs l)) (depth l) (word l))
+      ≡ getD (l .before .starts .result) (c .before .argument .result + 1) 0 - getD (l .before .starts .result) (c .before .argument .result) 0
+  long = chosen-length (start l .pre) (placed l) (depth l) (word l) few-binders (c .before .argument .ensures) (c .if1 .taken)
 
-  short : getD (turn .before .before .starts .result) (c .before .argument .result + 1) 0 - getD (turn .before .before .starts .result) (c .before .argument .result) 0 ≤ workspaceMost
-  short =
-      chosen-short (src turn) (start turn .args .body) (start turn .args .args) (start turn .args .n) (start turn .pre) _ placed (depth turn) (word turn)
-      (few-binders turn) (c .before .argument .result) (c .before .argument .ensures) (c .if1 .taken)
+  short : getD (l .before .starts .result) (c .before .argument .result + 1) 0 - getD (l .before .starts .result) (c .before .argument .result) 0 ≤ workspaceMost
+  short = chosen-short (start l .pre) (placed l) (depth l) (word l) few-binders (c .before .argument .ensures) (c .if1 .taken)
 
-add-length : tie.Need-add-length Inv-loop μ-loop
-add-length c = omega arith
+add-total : tie.Need-add-total Inv-loop μ-loop
+add-total c = omega arith
 
-mul-length : tie.Need-mul-length Inv-loop μ-loop
-mul-length c = omega (arith, start (turn c) .pre .few)
+mul-total : tie.Need-mul-total Inv-loop μ-loop
+mul-total c = omega (arith, start (l c) .pre .few)
 
-array-read-length : tie.Need-array-read-length Inv-loop μ-loop
-array-read-length c = omega (arith, start (turn c) .pre .few)
+array-read-total : tie.Need-array-read-total Inv-loop μ-loop
+array-read-total c = omega (arith, start (l c) .pre .few)
 
-mul-length-2 : tie.Need-mul-length-2 Inv-loop μ-loop
-mul-length-2 c = omega (arith, start (turn c) .pre .few)
+mul-total-2 : tie.Need-mul-total-2 Inv-loop μ-loop
+mul-total-2 c = omega (arith, start (l c) .pre .few)
 
-array-read-length-2 : tie.Need-array-read-length-2 Inv-loop μ-loop
-array-read-length-2 c = omega (arith, start (turn c) .pre .few)
+array-read-total-2 : tie.Need-array-read-total-2 Inv-loop μ-loop
+array-read-total-2 c = omega (arith, start (l c) .pre .few)
 
-sub-length : tie.Need-sub-length Inv-loop μ-loop
-sub-length c =
-    let m = turn c in
-    chosen-rises (src m) (start m .args .body) (start m .args .args) (start m .args .n) (start m .pre) _ (placed c) (depth m) (word m)
-    (few-binders m) (c .before .argument .result) (c .before .argument .ensures) (c .if1 .taken)
+sub-total : tie.Need-sub-total Inv-loop μ-loop
+sub-total c = chosen-rises (start (l c) .pre) (placed (l c)) (depth (l c)) (word (l c)) (few-binders c) (c .before .argument .ensures) (c .if1 .taken)
 
-add-length-2 : tie.Need-add-length-2 Inv-loop μ-loop
-add-length-2 c = omega (arith, short c, turn c .before .loop .inv .1, count-within (turn c), start (turn c) .pre .short)
+add-total-2 : tie.Need-add-total-2 Inv-loop μ-loop
+add-total-2 c = omega (arith, short c, l c .loop .inv .1, found-within (item (l c)), item (l c) .short)
 
 add-k : tie.Need-add-k Inv-loop μ-loop
-add-k c = omega (arith, count-within (turn c), start (turn c) .pre .short)
+add-k c = omega (arith, found-within (item (l c)), item (l c) .short)
 
 loop-less : tie.Need-loop-less Inv-loop μ-loop
 loop-less c = omega arith
 
 loop-again : tie.Need-loop-again Inv-loop μ-loop
-loop-again c = (
-  omega (arith, one-less (turn c), long c, turn c .before .loop .inv .0),
-  omega (arith, short c, turn c .before .loop .inv .1),
-  omega (arith, turn c .loop-test .taken),
-)
+loop-again c =
+    let more = c .before .before .before .loop-test .taken in (
+      omega (arith, length-next (item (l c)) (l c .loop .k) more (substituting (xs (l c))), long c, l c .loop .inv .0),
+      omega (arith, short c, l c .loop .inv .1),
+      omega (arith, more),
+    )
 
 -- The word stands for itself, lowered or not.
 module _ (c : tie.Else1 Inv-loop μ-loop) where
-  abbrev turn′ : tie.In-loop Inv-loop μ-loop
-  turn′ = c .before .before .before
+  abbrev l′ : tie.At-loop Inv-loop μ-loop
+  l′ = c .before .before .before .before
 
-  one : lib.ListN.length (rewritten (f turn′) (depth turn′) (word turn′)) ≡ 1
+  one : length (rewritten (substituting (xs l′)) (depth l′) (word l′)) ≡ 1
   one =
-      length-body (start turn′ .args .n) (depth turn′) (word turn′) (omega (arith, c .before .argument .ensures, c .if1 .left))
-      (firstTerms (start turn′ .args .n) (drop (start turn′ .args .args) (src turn′))) (start turn′ .pre .args-count)
+      length-body (start l′ .args .n) (depth l′) (word l′) (omega (arith, c .before .argument .ensures, c .if1 .left)) (xs l′) (start l′ .pre .args-count)
 
-add-length-3 : tie.Need-add-length-3 Inv-loop μ-loop
-add-length-3 c = omega (arith, turn′ c .before .loop .inv .1, count-within (turn′ c), start (turn′ c) .pre .short)
+add-total-3 : tie.Need-add-total-3 Inv-loop μ-loop
+add-total-3 c = omega (arith, l′ c .loop .inv .1, found-within (item (l′ c)), item (l′ c) .short)
 
 add-k-2 : tie.Need-add-k-2 Inv-loop μ-loop
-add-k-2 c = omega (arith, count-within (turn′ c), start (turn′ c) .pre .short)
+add-k-2 c = omega (arith, found-within (item (l′ c)), item (l′ c) .short)
 
 loop-less-2 : tie.Need-loop-less-2 Inv-loop μ-loop
 loop-less-2 c = omega arith
 
 loop-again-2 : tie.Need-loop-again-2 Inv-loop μ-loop
-loop-again-2 c = (
-  omega (arith, one-less (turn′ c), one c, turn′ c .before .loop .inv .0),
-  omega (arith, turn′ c .before .loop .inv .1),
-  omega (arith, turn′ c .loop-test .taken),
-)
+loop-again-2 c =
+    let more = c .before .before .before .loop-test .taken in (
+      omega (arith, length-next (item (l′ c)) (l′ c .loop .k) more (substituting (xs (l′ c))), one c, l′ c .loop .inv .0),
+      omega (arith, l′ c .loop .inv .1),
+      omega (arith, more),
+    )
 
 returns : tie.Need-returns Inv-loop μ-loop
 unfolding substituted
 returns c =
-    let s = c .before .before .before .before .before .before .before in
-    let none = ahead-none (s .args .src .now) (s .args .body) (s .pre .short) refl (c .before .before .before .before .depths .ensures) (c .before .loop .k) (c .loop-test .left) in
+    let m = c .before in
     omega (
       arith,
-      rw none at (c .before .loop .inv .0),
-      ap lib.ListN.length (subst-starts _ (drop (s .args .body) (s .args .src .now)) (s .pre .body-starts) (firstTerms (s .args .n) (drop (s .args .args) (s .args .src .now)))),
+      rw (ahead-none (item m) (m .loop .k) (c .loop-test .left)) at (m .loop .inv .0),
+      ap length (subst-starts _ (drop (start m .args .body) (src m)) (start m .pre .body-starts) (xs m)),
     )
 
 pub substituted-length-spec : {M : Type 1} → statement M
@@ -201,17 +185,17 @@ substituted-length-spec =
     mul-argument-2
     array-read-argument
     argument-requires
-    add-length
-    mul-length
-    array-read-length
-    mul-length-2
-    array-read-length-2
-    sub-length
-    add-length-2
+    add-total
+    mul-total
+    array-read-total
+    mul-total-2
+    array-read-total-2
+    sub-total
+    add-total-2
     add-k
     loop-less
     loop-again
-    add-length-3
+    add-total-3
     add-k-2
     loop-less-2
     loop-again-2

@@ -3,7 +3,7 @@ use mathlib.Core.Path.{_≡_, _∙_, ap}
 use borrow.Author.Needs.{needs}
 use lib.IntN.{pos, negℤ, _-ℤ_, +ℤ-idl}
 use mir.Syntax.{w32}
-use mir.Val.{SFits, toZ}
+use mir.Val.{toZ}
 use mir.ValLaws.{toZ-pos, toZ-ofZ}
 use Rattle.substitution.proofs.MoveLaws.{negation-fits}
 use Rattle.substitution.proofs.index.down.Statement.{statement}

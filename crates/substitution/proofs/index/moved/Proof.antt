@@ -1,13 +1,11 @@
 -- `substitution::moved` meets its contract. Index and distance are read back from their bits unchanged at both widths, so the machine's sum is
--- the sum of integers, which the `requires` says is a payload. Assumes nothing.
-use mathlib.Core.Path.{_≡_, sym, _∙_, ap, ap₂, subst}
+-- the sum of integers, which the `requires` says is a payload.
+use mathlib.Core.Path.{_≡_, _∙_, ap, ap₂}
 use native.Mathlib.Omega.{arith}
 use borrow.Author.Needs.{needs}
 use lib.IntN.{pos, natAbs, _+ℤ_}
-use lib.Signed.{nonNeg}
-use lib.Dec.{T}
 use mir.Syntax.{w32, w64}
-use mir.Val.{SFits, Fits, toZ, ofZ}
+use mir.Val.{SFits, toZ, ofZ}
 use mir.ValLaws.{toZ-pos, toZ-ofZ}
 use Rattle.calculus.specs.Shift.{move}
 use Rattle.substitution.proofs.index.moved.Statement.{statement}

@@ -1,0 +1,81 @@
+-- Loading where no refusal is met: what the code relies on there, and what it leaves.
+use Prim.Native.Nat.{ℕ, _+_, _-_, _≤_}
+use mathlib.Core.Path.{_≡_, refl, sym, ap, ap₂, _∙_}
+use mathlib.Core.Bool.{Bool, true, false, cond}
+use mathlib.Core.List.{List, [], _∷_, _++_}
+use mathlib.Core.Option.{some, none}
+use native.Mathlib.Omega.{arith}
+use lib.ListN.{length, take, drop, replicate}
+use lib.Seq.{sets-eq, take-append-seam}
+use borrow.Author.Tests.{ltb-false}
+use Rattle.calculus.specs.Words.{words, size}
+use Rattle.calculus.specs.Workspace.{padded}
+use Rattle.tables.specs.Records.{view1}
+use Rattle.tables.specs.Load.{returned, Loaded, checks, firstMet, load}
+use Rattle.tables.specs.Theorems.{Meant, NoneMet}
+use Rattle.tables.specs.Reading.{termWords, Readable, Placed}
+use Rattle.tables.proofs.Links.{linked}
+use Rattle.tables.proofs.Fits.{valued}
+use Rattle.tables.proofs.LoadLaws.{Passes, passes, unmet-means, load-returned}
+use Rattle.tables.proofs.RecordLaws.{rooted}
+use Rattle.tables.proofs.ReadingMeaning.{means-spelled}
+use Rattle.tables.proofs.Stores.{placed-length}
+
+none-first : (cs : List (ℕ × Bool)) → firstMet cs ≡ none → NoneMet cs
+none-first [] h = tt
+none-first (c ∷ cs) h = go (c .1) refl h (λ k. none-first cs k)
+  where
+    go : (b : Bool) → c .1 ≡ b → cond b (some (c .0)) (firstMet cs) ≡ none → (firstMet cs ≡ none → NoneMet cs) → NoneMet (c ∷ cs)
+    go true e k f = let never : _≡_ {A = ℕ} 0 1 = cc in absurd (omega arith)
+    go false e k f = (e, f k)
+
+module _ (table workspace : List ℕ) (h : firstMet (checks table (length workspace)) ≡ none) where
+  unmet : NoneMet (checks table (length workspace))
+  unmet = none-first (checks table (length workspace)) h
+
+  pub passed : Passes table (length workspace)
+  passed = passes table (length workspace) unmet
+
+  meant : Meant (view1 table)
+  meant = unmet-means table (length workspace) unmet
+
+  pub root-readable : Readable table (view1 table .root) × (1 ≤ view1 table .root)
+  root-readable =
+      let root = rooted table (passed .header-fits) in (
+        record {
+          walkable = record { length-fits = passed .length-fits; links-fit = passed .links-fit; link-within = root .1 };
+          values-fit = passed .values-fit;
+          children-fit = passed .children-fit;
+        },
+        root .0,
+      )
+
+  root-words : termWords (view1 table) (view1 table .root) ≡ words (meant .meant)
+  root-words = means-spelled (view1 table) (linked (view1 table) (passed .links-fit)) (valued (view1 table) (passed .values-fit)) (meant .means)
+
+  pub room : length (termWords (view1 table) (view1 table .root)) ≤ length workspace
+  room = omega (arith, ap length root-words, meant .length-is, ltb-false (length workspace) (view1 table .n) (passed .short-enough))
+
+  -- The words placed at the start, and zeros after them.
+  pub loaded : (after last : List ℕ) (end : ℕ) → Placed workspace 0 (termWords (view1 table) (view1 table .root)) after end
+      → last ≡ take end after ++ replicate (length after - end) 0 → _≡_ {A = Loaded} (record { answer = returned end; workspace = last }) (load table workspace)
+  loaded after last end p e = answered ∙ sym (load-returned table workspace unmet (meant .meant) (meant .means))
+    where
+      ends : end ≡ size (meant .meant)
+      ends = omega (arith, p .position, ap length root-words)
+
+      placed : after ≡ words (meant .meant) ++ drop (0 + size (meant .meant)) workspace
+      placed = p .slice ∙ rw root-words (sets-eq (words (meant .meant)) workspace 0 (omega (arith, ap length root-words, room)))
+
+      kept : take end after ≡ words (meant .meant)
+      kept = rw (ends, placed) (take-append-seam (words (meant .meant)) _)
+
+      zeros : length after - end ≡ length workspace - size (meant .meant)
+      zeros = omega (arith, placed-length _ _ _ _ _ p, ends)
+
+      held : last ≡ padded (length workspace) (words (meant .meant))
+      held = e ∙ ap₂ (λ ws n. ws ++ replicate n 0) kept zeros
+
+      answered : _≡_ {A = Loaded} (record { answer = returned end; workspace = last })
+          (record { answer = returned (size (meant .meant)); workspace = padded (length workspace) (words (meant .meant)) })
+      answered = ap₂ (λ n ws. record { answer = returned n; workspace = ws }) ends held

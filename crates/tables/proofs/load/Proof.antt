@@ -1,0 +1,90 @@
+-- `load` meets its contract: a refusal that is met is answered, and otherwise the reader leaves the words of the term and clearing the zeros.
+use mathlib.Core.Path.{_≡_, sym, ap, subst, _∙_}
+use mathlib.Core.Option.{none}
+use native.Mathlib.Omega.{arith}
+use lib.ListN.{length}
+use borrow.Author.Needs.{needs}
+use Rattle.tables.specs.Records.{view1}
+use Rattle.tables.specs.Load.{checks, firstMet, load}
+use Rattle.tables.specs.Types.{metOf}
+use Rattle.tables.specs.Reading.{termWords, Placed}
+use Rattle.tables.proofs.RecordLaws.{parts, inside}
+use Rattle.tables.proofs.LoadCode.{passed, root-readable, room, loaded}
+use Rattle.tables.proofs.Stores.{placed-length}
+use Rattle.tables.proofs.load.Statement.{statement}
+use Rattle.tables.proofs.load.Tie as tie
+
+first-met-requires : tie.Need-first-met-requires
+first-met-requires c κs = search needs
+
+enum-known-number : tie.Need-enum-known-number
+enum-known-number c = search needs
+
+enum-told : tie.Need-enum-told
+enum-told c = search needs
+
+-- No refusal is met.
+unmet : (c : tie.After-enum-told)
+    → firstMet (checks (c .before .before .before .before .before .args .table .now) (length (c .before .before .before .before .before .args .workspace .now)))
+    ≡ none
+unmet c = sym (c .before .before .first-met .ensures) ∙ ap metOf (c .enum-told .given .1)
+
+at-requires : tie.Need-at-requires
+at-requires c κs =
+    let start = c .before .before .before .before .before .args in
+    inside (start .table .now) (passed (start .table .now) (start .workspace .now) (unmet c) .length-fits) 0 (omega arith)
+
+read-term-requires : tie.Need-read-term-requires
+read-term-requires c κs =
+    let start = c .before .before .before .before .before .before .before .args in
+    let none-met = unmet (c .before .before) in
+    rw (parts (c .before .at .ensures) .first)
+    (root-readable (start .table .now) (start .workspace .now) none-met, omega (arith, room (start .table .now) (start .workspace .now) none-met))
+
+-- The words of the term that the root means have been placed.
+placed : (c : tie.After-read-term)
+    → Placed (c .before .before .before .before .before .before .before .before .args .workspace .now) 0
+    (termWords (view1 (c .before .before .before .before .before .before .before .before .args .table .now))
+    (view1 (c .before .before .before .before .before .before .before .before .args .table .now) .root))
+    (c .read-term .last .1 .1 .0)
+    (c .read-term .result)
+placed c =
+    let start = c .before .before .before .before .before .before .before .before .args in
+    subst (λ l. Placed (start .workspace .now) 0 (termWords (view1 (start .table .now)) l) (c .read-term .last .1 .1 .0) (c .read-term .result))
+    (parts (c .before .before .at .ensures) .first)
+    (c .read-term .ensures)
+
+clear-requires : tie.Need-clear-requires
+clear-requires c κs =
+    let read = c .before .before .before in
+    let start = read .before .before .before .before .before .before .before .before .args in
+    let p = placed read in
+    omega
+    (arith, p .position, placed-length _ _ _ _ _ p, room (start .table .now) (start .workspace .now) (unmet (read .before .before .before)))
+
+returns : tie.Need-returns
+unfolding load
+returns c = rw (← c .before .before .before .first-met .ensures, c .before .number .given .1)
+
+same-length : tie.Need-same-length
+same-length c = search needs
+
+returns-2 : tie.Need-returns-2
+returns-2 c =
+    let read = c .before .before .before .before .before .before in
+    let start = read .before .before .before .before .before .before .before .before .args in
+    loaded (start .table .now) (start .workspace .now) (unmet (read .before .before .before)) _ _ _ (placed read) (c .before .before .clear .ensures)
+
+pub load-spec : {M : Type 1} → statement M
+load-spec =
+    tie.close
+    (tie.spec
+    first-met-requires
+    enum-known-number
+    enum-told
+    at-requires
+    read-term-requires
+    clear-requires
+    returns
+    same-length
+    returns-2)

@@ -1,0 +1,190 @@
+-- The readers meet their contracts, as one cycle of calls. The records still ahead fall at each call: a term has 2 for each of them, and a chain,
+-- which calls the reader of a term at its own link, one more.
+use Prim.Native.Nat.{ℕ, _+_, _*_, _≤_, _<_}
+use mathlib.Core.Path.{_≡_, ap, _∙_}
+use mathlib.Core.List.{List, _++_}
+use native.Mathlib.Nat.{pos-of-ne-zero}
+use native.Mathlib.Omega.{arith}
+use lib.ListN.{length, length-append, length-set}
+use borrow.Fn.Kinds.{In}
+use borrow.Fn.PlainCycle.{Measures, is, falls, and}
+use Rattle.tables.specs.Records.{view1}
+use Rattle.tables.specs.Types.{recordOf}
+use Rattle.tables.specs.Reading.{ahead, chainWords, termWords, Readable}
+use Rattle.tables.proofs.Links.{linked}
+use Rattle.tables.proofs.RecordLaws.{parts}
+use Rattle.tables.proofs.Walks.{walk-inside}
+use Rattle.tables.proofs.ReadingLaws.{chainWords-end, chainWords-record, ReadOn, read-on, term-read}
+use Rattle.tables.proofs.Stores.{placed-none, placed-cons, placed-append, placed-length}
+use Rattle.tables.proofs.reader.read_chain.Reads as read-chain
+use Rattle.tables.proofs.reader.read_chain.Kinds as read-chain-kinds
+use Rattle.tables.proofs.reader.+read_chain+read_term.Lts-read_chain as read-chain-lts
+use Rattle.tables.proofs.reader.read_term.Reads as read-term
+use Rattle.tables.proofs.reader.read_term.Kinds as read-term-kinds
+use Rattle.tables.proofs.reader.+read_chain+read_term.Lts-read_term as read-term-lts
+use Rattle.tables.proofs.record.Record.at.Reads as at-reads
+use Rattle.tables.proofs.record.Record.word.Reads as word-reads
+use Rattle.tables.proofs.shape.chain_length.Reads as chain-length-reads
+use Rattle.tables.proofs.reader.+read_chain+read_term.{statement}
+use Rattle.tables.proofs.reader.+read_chain+read_term.Tie.{close}
+
+abbrev μ-read-chain : Measures 2 read-chain-kinds.ps ℕ
+μ-read-chain κs a = 2 * ahead (view1 (a .0 .now)) (a .1 .0) + 1
+
+abbrev μ-read-term : Measures 2 read-term-kinds.ps ℕ
+μ-read-term κs a = 2 * ahead (view1 (a .0 .now)) (a .1 .0)
+
+abbrev read-chain-at : ℕ → In 2 read-chain-kinds.ps
+read-chain-at t = and 2 read-chain-kinds.ps (is 2 read-chain-kinds.ps μ-read-chain t) read-chain.Pre
+
+abbrev read-chain-below : ℕ → In 2 read-chain-kinds.ps
+read-chain-below t = and 2 read-chain-kinds.ps (falls 2 read-chain-kinds.ps _<_ μ-read-chain t) read-chain.Pre
+
+abbrev read-term-at : ℕ → In 2 read-term-kinds.ps
+read-term-at t = and 2 read-term-kinds.ps (is 2 read-term-kinds.ps μ-read-term t) read-term.Pre
+
+abbrev read-term-below : ℕ → In 2 read-term-kinds.ps
+read-term-below t = and 2 read-term-kinds.ps (falls 2 read-term-kinds.ps _<_ μ-read-term t) read-term.Pre
+
+-- What each of the two knows of the functions that it calls.
+abbrev chain-claims : ℕ → read-chain-lts.Claims
+chain-claims t = (read-term-below t, read-term.Post, at-reads.Asked, at-reads.Learnt, read-chain-below t, read-chain.Post)
+
+abbrev term-claims : ℕ → read-term-lts.Claims
+term-claims t = (
+  at-reads.Asked,
+  at-reads.Learnt,
+  chain-length-reads.Asked,
+  chain-length-reads.Learnt,
+  word-reads.Asked,
+  word-reads.Learnt,
+  read-chain-below t,
+  read-chain.Post,
+)
+
+-- A chain's words are those of its first record and those of the chain from the next.
+chain-is : (table : List ℕ) (link : ℕ) → Readable table link → 1 ≤ link
+    → chainWords (view1 table) link ≡ termWords (view1 table) link ++ chainWords (view1 table) (view1 table .at link .next)
+chain-is table link h v =
+    let w = h .walkable in
+    chainWords-record (view1 table) (linked (view1 table) (w .links-fit)) link v (w .link-within)
+
+chain-length-is : (table : List ℕ) (link : ℕ) → Readable table link → 1 ≤ link
+    → length (chainWords (view1 table) link)
+    ≡ length (termWords (view1 table) link) + length (chainWords (view1 table) (view1 table .at link .next))
+chain-length-is table link h v = ap length (chain-is table link h v) ∙ length-append (termWords (view1 table) link) _
+
+read-chain-returns : (t : ℕ) → read-chain-lts.Need-returns (chain-claims t) (read-chain-at t) read-chain.Post
+read-chain-returns t c = rw (chainWords-end (view1 (c .before .before .before .args .table .now)) _ (c .if1 .taken)) (placed-none _ _)
+
+read-chain-read-term-requires : (t : ℕ) → read-chain-lts.Need-read-term-requires (chain-claims t) (read-chain-at t) read-chain.Post
+read-chain-read-term-requires t c κs =
+    let start = c .before .before .before .before in
+    let p = start .pre .1 in
+    let positive = pos-of-ne-zero (c .before .if1 .left) in
+    (omega (arith, start .pre .0), ((p .0, positive), omega (arith, p .1, chain-length-is _ _ (p .0) positive)))
+
+read-chain-at-requires : (t : ℕ) → read-chain-lts.Need-at-requires (chain-claims t) (read-chain-at t) read-chain.Post
+read-chain-at-requires t c κs = walk-inside _ _ (c .before .before .before .before .before .before .before .pre .1 .0 .walkable)
+
+read-chain-read-chain-requires : (t : ℕ) → read-chain-lts.Need-read-chain-requires (chain-claims t) (read-chain-at t) read-chain.Post
+read-chain-read-chain-requires t c κs =
+    let start = c .before .before .before .before .before .before .before .before .before in
+    let p = start .pre .1 in
+    let positive = pos-of-ne-zero (c .before .before .before .before .before .before .if1 .left) in
+    let read = c .before .before .before .before .read-term in
+    let r = c .before .at in
+    let on = read-on _ _ _ (p .0) positive (r .ensures) in
+    let rest = ap (λ l. length (chainWords (view1 (start .args .table .now)) l)) (parts (r .ensures) .next) in (
+      omega (arith, start .pre .0, on .fewer-after),
+      (
+        on .after,
+        omega (arith, p .1, rest, chain-length-is _ _ (p .0) positive, read .ensures .position, placed-length _ _ _ _ _ (read .ensures)),
+      ),
+    )
+
+read-chain-same-length : (t : ℕ) → read-chain-lts.Need-same-length (chain-claims t) (read-chain-at t) read-chain.Post
+read-chain-same-length t c =
+    let read = c .before .before .before .before .before .before .before .read-term in
+    placed-length _ _ _ _ _ (c .before .before .read-chain .ensures) ∙ placed-length _ _ _ _ _ (read .ensures)
+
+read-chain-returns-2 : (t : ℕ) → read-chain-lts.Need-returns-2 (chain-claims t) (read-chain-at t) read-chain.Post
+read-chain-returns-2 t c =
+    let start = c .before .before .before .before .before .before .before .before .before .before .before .before in
+    let p = start .pre .1 in
+    let positive = pos-of-ne-zero (c .before .before .before .before .before .before .before .before .before .if1 .left) in
+    let read = c .before .before .before .before .before .before .before .read-term in
+    let rest = c .before .before .read-chain in
+    rw (chain-is _ _ (p .0) positive, ← parts (c .before .before .before .before .at .ensures) .next)
+    (placed-append _ _ _ _ _ _ _ _ (read .ensures) (rest .ensures))
+
+read-term-at-requires : (t : ℕ) → read-term-lts.Need-at-requires (term-claims t) (read-term-at t) read-term.Post
+read-term-at-requires t c κs = walk-inside _ _ (c .before .before .pre .1 .0 .0 .walkable)
+
+-- Reading on from the record that was read.
+here : (t : ℕ) (c : read-term-lts.After-at (term-claims t) (read-term-at t) read-term.Post)
+    → ReadOn (c .before .before .before .args .table .now) (c .before .before .before .args .at) (recordOf (c .at .result))
+here t c = let p = c .before .before .before .pre .1 .0 in read-on _ _ _ (p .0) (p .1) (c .at .ensures)
+
+read-term-chain-length-requires : (t : ℕ) → read-term-lts.Need-chain-length-requires (term-claims t) (read-term-at t) read-term.Post
+read-term-chain-length-requires t c κs = here t c .below .walkable
+
+read-term-word-requires : (t : ℕ) → read-term-lts.Need-word-requires (term-claims t) (read-term-at t) read-term.Post
+read-term-word-requires t c κs =
+    rw (c .chain-length .ensures, parts (c .before .at .ensures) .first) (here t (c .before) .wordable)
+
+read-term-mul-workspace : (t : ℕ) → read-term-lts.Need-mul-workspace (term-claims t) (read-term-at t) read-term.Post
+read-term-mul-workspace t c = omega (arith, c .before .before .before .before .before .pre .1 .1)
+
+read-term-slice-write-workspace : (t : ℕ) → read-term-lts.Need-slice-write-workspace (term-claims t) (read-term-at t) read-term.Post
+read-term-slice-write-workspace t c = omega (arith, c .before .before .before .before .before .pre .1 .1)
+
+read-term-add-read-chain : (t : ℕ) → read-term-lts.Need-add-read-chain (term-claims t) (read-term-at t) read-term.Post
+read-term-add-read-chain t c = omega (arith, c .before .before .before .before .before .before .pre .1 .1)
+
+read-term-read-chain-requires : (t : ℕ) → read-term-lts.Need-read-chain-requires (term-claims t) (read-term-at t) read-term.Post
+read-term-read-chain-requires t c κs =
+    let start = c .before .before .before .before .before .before in
+    let on = here t (c .before .before .before) in
+    let first = ap (λ l. length (chainWords (view1 (start .args .table .now)) l)) (parts (c .before .before .before .at .ensures) .first) in (
+      omega (arith, start .pre .0, on .fewer-below),
+      (on .below, omega (arith, start .pre .1 .1, first, length-set (start .args .workspace .now) (start .args .out) (c .before .word .result))),
+    )
+
+read-term-same-length : (t : ℕ) → read-term-lts.Need-same-length (term-claims t) (read-term-at t) read-term.Post
+read-term-same-length t c =
+    let start = c .before .before .before .before .before .before .before .before .before .args in
+    placed-length _ _ _ _ _ (c .before .before .read-chain .ensures)
+    ∙ length-set (start .workspace .now) (start .out) (c .before .before .before .before .word .result)
+
+read-term-returns : (t : ℕ) → read-term-lts.Need-returns (term-claims t) (read-term-at t) read-term.Post
+read-term-returns t c =
+    let w = c .before .before .before .before in
+    let m = w .before .chain-length in
+    let r = w .before .before in
+    let start = r .before .before .before .args in
+    let words = term-read (start .table .now) (start .at) (m .result) (w .word .result) (recordOf (r .at .result)) (r .at .ensures) (m .ensures) (w .word .ensures) in
+    rw words (placed-cons _ _ _ _ _ _ (c .before .before .read-chain .ensures))
+
+pub +read-chain+read-term-spec : {M : Type 1} → statement M
++read-chain+read-term-spec =
+    close μ-read-chain μ-read-term
+    (λ t.
+    read-chain-lts.spec (chain-claims t) (read-chain-at t) read-chain.Post
+    (read-chain-returns t)
+    (read-chain-read-term-requires t)
+    (read-chain-at-requires t)
+    (read-chain-read-chain-requires t)
+    (read-chain-same-length t)
+    (read-chain-returns-2 t))
+    (λ t.
+    read-term-lts.spec (term-claims t) (read-term-at t) read-term.Post
+    (read-term-at-requires t)
+    (read-term-chain-length-requires t)
+    (read-term-word-requires t)
+    (read-term-mul-workspace t)
+    (read-term-slice-write-workspace t)
+    (read-term-add-read-chain t)
+    (read-term-read-chain-requires t)
+    (read-term-same-length t)
+    (read-term-returns t))

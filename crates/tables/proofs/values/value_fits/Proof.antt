@@ -1,0 +1,44 @@
+-- `value_fits` meets its contract: in each arm the kind is known, and `valueFits` computes there.
+use Prim.Native.Nat.{ℕ, _/_, _%_}
+use mathlib.Core.Path.{_≡_, _∙_, sym}
+use mathlib.Core.Bool.{_&&_, and-true}
+use native.Mathlib.Omega.{arith}
+use borrow.Author.Needs.{needs}
+use borrow.Author.Tests.{le-leb, lt-leb, ne-eqb}
+use Rattle.calculus.specs.Words.{countOf}
+use Rattle.tables.specs.Refusals.{valueFits}
+use Rattle.tables.proofs.values.value_fits.Statement.{statement}
+use Rattle.tables.proofs.values.value_fits.Tie as tie
+
+returns : tie.Need-returns
+returns c = rw (lt-leb _ _ (c .if1 .taken))
+
+is-tag-requires : tie.Need-is-tag-requires
+is-tag-requires c κs = search needs
+
+is-tag-requires-2 : tie.Need-is-tag-requires-2
+is-tag-requires-2 c κs = search needs
+
+returns-2 : tie.Need-returns-2
+unfolding valueFits
+returns-2 c = rw (c .match .keys1)
+
+returns-3 : tie.Need-returns-3
+unfolding valueFits
+returns-3 c = rw (c .before .match .keys2) (c .is-tag .ensures)
+
+returns-4 : tie.Need-returns-4
+unfolding valueFits
+returns-4 c =
+    let v = c .before .before .before .args .value in
+    rw (c .before .match .keys3, le-leb (countOf v) 15 (omega arith), and-true) (c .is-tag2 .ensures)
+
+returns-5 : tie.Need-returns-5
+unfolding valueFits
+returns-5 c =
+    let r = c .match .rest in
+    rw (le-leb _ _ (c .before .if1 .left), ne-eqb _ 0 (r .0 .0 .1), ne-eqb _ 3 (r .0 .1), ne-eqb _ 5 (r .1))
+
+pub value-fits-spec : {M : Type 1} → statement M
+value-fits-spec =
+    tie.close (tie.spec returns is-tag-requires is-tag-requires-2 returns-2 returns-3 returns-4 returns-5)

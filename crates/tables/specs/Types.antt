@@ -1,0 +1,28 @@
+-- What the code's types stand for: a record, the checks of loading and the answer, each enum case by case.
+use Prim.Native.Nat.{ℕ}
+use mathlib.Core.List.{List}
+use mathlib.Core.Option.{Option, some, none}
+use Rattle.tables.specs.declared.record.Record as codeRecord
+use Rattle.tables.specs.declared.Check as codeCheck
+use Rattle.tables.specs.declared.Check.the-variants as check
+use Rattle.tables.specs.declared.Answer as codeAnswer
+use Rattle.tables.specs.declared.Answer.the-variants as answer
+use Rattle.tables.specs.Records.{Record}
+use Rattle.tables.specs.Load.{Answer, refused, returned, Loaded}
+
+abbrev pub recordOf : codeRecord.Record → Record
+recordOf r = record { kind = r .kind; value = r .value; first = r .first; next = r .next }
+
+-- The number of the refusal that is met first, if one is met.
+abbrev pub metOf : codeCheck.Check → Option ℕ
+metOf (check.Met k) = some k
+metOf check.Passed = none
+
+-- A refusal's number, or the length of the term or the number of records.
+abbrev pub answerOf : codeAnswer.Answer → Answer
+answerOf (answer.Refused k) = refused k
+answerOf (answer.Returned l) = returned l
+
+-- Everything at exit of loading: its result and the lent workspace.
+abbrev pub loadedOf : codeAnswer.Answer → (workspace : List ℕ) → Loaded
+loadedOf a workspace = record { answer = answerOf a; workspace = workspace }

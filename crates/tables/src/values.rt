@@ -1,0 +1,50 @@
+// Refusal 3: kinds and values.
+use crate::record::Record;
+use crate::record::count;
+use words::Word;
+ghost use mathlib.Core.Path.{_≡_};
+ghost use mathlib.Core.Bool.{false, _&&_};
+ghost use lib.Dec.{leb};
+ghost use Rattle.calculus.specs.Words.{branchKind};
+ghost use Rattle.tables.specs.Records.{view1};
+ghost use Rattle.tables.specs.Refusals.{wrongLength, isTag, valueFits, wrongValue};
+
+fn is_tag(tag: u32) -> bool
+    ensures { λ r. ⌜ r ≡ isTag tag ⌝ }
+{
+    if tag < 1 {
+        return false;
+    }
+    tag <= Word::TAG_MOST
+}
+
+// Whether a record may have this kind and this value. Every bound count that a branch's value holds is in range.
+fn value_fits(kind: u32, value: u32) -> bool
+    ensures { λ r. ⌜ r ≡ (leb kind branchKind && valueFits kind value) ⌝ }
+{
+    if Word::BRANCH < kind {
+        return false;
+    }
+    match kind {
+        Word::VARIABLE => value <= Record::INDEX_MOST,
+        Word::CONSTRUCTOR => is_tag(value),
+        Word::BRANCH => is_tag(value / Word::COUNT_BASE),
+        _ => value == 0,
+    }
+}
+
+pub fn wrong_values(table: &[u32]) -> bool
+    requires { ⌜ wrongLength (now table) ≡ false ⌝ }
+    ensures { λ r. ⌜ r ≡ wrongValue (view1 (now (table .entry))) ⌝ }
+{
+    let n = count(table);
+    let mut i = 0;
+    while i < n {
+        i += 1;
+        let record = Record::at(table, i);
+        if !value_fits(record.kind, record.value) {
+            return true;
+        }
+    }
+    false
+}
