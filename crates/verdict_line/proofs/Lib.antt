@@ -2,3 +2,4 @@ pub mod Storing
 pub mod DecodeLaws
 pub mod RequestLaws
 pub mod DecimalLaws
+pub mod LineLaws

@@ -5,8 +5,8 @@ use mathlib.Core.List.{List, [], _∷_, _++_, append-nil}
 use native.Mathlib.Nat.{add-zero}
 use native.Mathlib.Numerals.{add-one}
 use native.Mathlib.Omega.{arith}
-use lib.ListN.{length, getD, drop, set, length-append}
-use lib.Seq.{sets, drop-cons, sets-eq, drop-length}
+use lib.ListN.{length, getD, take, drop, set, length-append}
+use lib.Seq.{sets, drop-cons, sets-eq, drop-length, take-at}
 use Rattle.verdict_line.specs.Put.{Put}
 
 pub sets-append : (xs ys l : List ℕ) (i : ℕ) → sets l i (xs ++ ys) ≡ sets (sets l i xs) (i + length xs) ys
@@ -38,3 +38,10 @@ put-append {l} {xs} {ys} {i} p q =
 pub put-cons : {l l′ xs : List ℕ} (i x : ℕ) {k : ℕ} → Put (set l i x) (i + 1) xs l′ k → Put l i (x ∷ xs) l′ k
 put-cons {l} {xs = xs} i x p =
     record { stored = p .stored ∙ ap (λ j. sets (set l i x) j xs) (add-one i); position = p .position ∙ omega arith }
+
+-- A list's first part, by its length.
+pub front-fits : (p q : List ℕ) {n : ℕ} → length p ≡ n → n ≤ length (p ++ q)
+front-fits p q e = omega (arith, length-append p q)
+
+pub front-length : (p q : List ℕ) (n : ℕ) → length p ≡ n → n ≡ length (take n (p ++ q))
+front-length p q n e = sym (ap length (take-at p q n e) ∙ e)

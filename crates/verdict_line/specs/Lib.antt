@@ -7,3 +7,4 @@ pub mod Decimal
 pub mod Put
 pub mod Line
 pub mod Types
+pub mod Judge

@@ -7,10 +7,6 @@ use Rattle.verdict_line.proofs.RequestLaws.{leftCount, There, there, co
 use borrow.Author.Needs.{needs}
 use Rattle.verdict_line.proofs.request.parse.Statement.{statement}
 use Rattle.verdict_line.proofs.request.parse.Tie as tie
-use Rattle.verdict_line.proofs.request.parse.Reads as reads
-use Rattle.verdict_line.proofs.request.parse.Lts as lts
-use Rattle.verdict_line.proofs.bytes.word_at.Reads as word-at-reads
-use Rattle.verdict_line.proofs.request.table_at.Reads as table-at-reads
 
 returns : tie.Need-returns
 returns c = record { meaning = no-left _ (count-missing _ leftCount (omega arith)); standing = tt }

@@ -5,9 +5,6 @@ use Rattle.verdict_line.proofs.RequestLaws.{count-missing, too-many, wo
 use borrow.Author.Needs.{needs}
 use Rattle.verdict_line.proofs.request.table_at.Statement.{statement}
 use Rattle.verdict_line.proofs.request.table_at.Tie as tie
-use Rattle.verdict_line.proofs.request.table_at.Reads as reads
-use Rattle.verdict_line.proofs.request.table_at.Lts as lts
-use Rattle.verdict_line.proofs.bytes.word_at.Reads as word-at-reads
 
 sub-ahead : tie.Need-sub-ahead
 sub-ahead c = search needs

@@ -3,10 +3,6 @@ use borrow.Author.Needs.{needs}
 use Rattle.verdict_line.proofs.DecimalLaws.{kept-part}
 use Rattle.verdict_line.proofs.text.put_decimal.Statement.{statement}
 use Rattle.verdict_line.proofs.text.put_decimal.Tie as tie
-use Rattle.verdict_line.proofs.text.put_decimal.Reads as reads
-use Rattle.verdict_line.proofs.text.put_decimal.Lts as lts
-use Rattle.verdict_line.proofs.text.keep_digits.Reads as keep-digits-reads
-use Rattle.verdict_line.proofs.text.put_bytes.Reads as put-bytes-reads
 
 slice-aggregate-keep-digits : tie.Need-slice-aggregate-keep-digits
 slice-aggregate-keep-digits c = search needs

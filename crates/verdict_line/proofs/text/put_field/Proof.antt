@@ -6,9 +6,6 @@ use borrow.Author.Needs.{needs}
 use Rattle.verdict_line.proofs.Storing.{put-cons}
 use Rattle.verdict_line.proofs.text.put_field.Statement.{statement}
 use Rattle.verdict_line.proofs.text.put_field.Tie as tie
-use Rattle.verdict_line.proofs.text.put_field.Reads as reads
-use Rattle.verdict_line.proofs.text.put_field.Lts as lts
-use Rattle.verdict_line.proofs.text.put_decimal.Reads as put-decimal-reads
 
 slice-write-out : tie.Need-slice-write-out
 slice-write-out c = search needs

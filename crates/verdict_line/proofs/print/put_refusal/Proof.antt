@@ -3,13 +3,8 @@ use native.Mathlib.Omega.{arith}
 use lib.ListN.{length-append}
 use Rattle.verdict_line.proofs.Storing.{put-append}
 use borrow.Author.Needs.{needs}
-use Rattle.verdict_line.proofs.line.put_refusal.Statement.{statement}
-use Rattle.verdict_line.proofs.line.put_refusal.Tie as tie
-use Rattle.verdict_line.proofs.line.put_refusal.Reads as reads
-use Rattle.verdict_line.proofs.line.put_refusal.Lts as lts
-use Rattle.verdict_line.proofs.line.put_end.Reads as put-end-reads
-use Rattle.verdict_line.proofs.text.put_bytes.Reads as put-bytes-reads
-use Rattle.verdict_line.proofs.text.put_field.Reads as put-field-reads
+use Rattle.verdict_line.proofs.print.put_refusal.Statement.{statement}
+use Rattle.verdict_line.proofs.print.put_refusal.Tie as tie
 
 slice-aggregate-put-bytes : tie.Need-slice-aggregate-put-bytes
 slice-aggregate-put-bytes c = search needs

@@ -3,13 +3,8 @@ use native.Mathlib.Omega.{arith}
 use lib.ListN.{length-append}
 use Rattle.verdict_line.proofs.Storing.{put-append}
 use borrow.Author.Needs.{needs}
-use Rattle.verdict_line.proofs.line.put_answer.Statement.{statement}
-use Rattle.verdict_line.proofs.line.put_answer.Tie as tie
-use Rattle.verdict_line.proofs.line.put_answer.Reads as reads
-use Rattle.verdict_line.proofs.line.put_answer.Lts as lts
-use Rattle.verdict_line.proofs.line.put_end.Reads as put-end-reads
-use Rattle.verdict_line.proofs.line.put_verdict.Reads as put-verdict-reads
-use Rattle.verdict_line.proofs.text.put_field.Reads as put-field-reads
+use Rattle.verdict_line.proofs.print.put_answer.Statement.{statement}
+use Rattle.verdict_line.proofs.print.put_answer.Tie as tie
 
 put-verdict-requires : tie.Need-put-verdict-requires
 put-verdict-requires c κs = let room = simp length-append at (c .before .before .pre) in omega arith

@@ -1,13 +1,8 @@
 -- `put_line` meets its contract, by the line.
 use native.Mathlib.Omega.{arith}
 use borrow.Author.Needs.{needs}
-use Rattle.verdict_line.proofs.line.put_line.Statement.{statement}
-use Rattle.verdict_line.proofs.line.put_line.Tie as tie
-use Rattle.verdict_line.proofs.line.put_line.Reads as reads
-use Rattle.verdict_line.proofs.line.put_line.Lts as lts
-use Rattle.verdict_line.proofs.line.put_answer.Reads as put-answer-reads
-use Rattle.verdict_line.proofs.line.put_refusal.Reads as put-refusal-reads
-use Rattle.verdict_line.proofs.text.put_bytes.Reads as put-bytes-reads
+use Rattle.verdict_line.proofs.print.put_line.Statement.{statement}
+use Rattle.verdict_line.proofs.print.put_line.Tie as tie
 
 enum-told : tie.Need-enum-told
 enum-told c = search needs

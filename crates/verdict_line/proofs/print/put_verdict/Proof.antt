@@ -1,10 +1,7 @@
 -- `put_verdict` meets its contract, by the verdict.
 use borrow.Author.Needs.{needs}
-use Rattle.verdict_line.proofs.line.put_verdict.Statement.{statement}
-use Rattle.verdict_line.proofs.line.put_verdict.Tie as tie
-use Rattle.verdict_line.proofs.line.put_verdict.Reads as reads
-use Rattle.verdict_line.proofs.line.put_verdict.Lts as lts
-use Rattle.verdict_line.proofs.text.put_bytes.Reads as put-bytes-reads
+use Rattle.verdict_line.proofs.print.put_verdict.Statement.{statement}
+use Rattle.verdict_line.proofs.print.put_verdict.Tie as tie
 
 enum-told : tie.Need-enum-told
 enum-told c = search needs
