@@ -1,0 +1,5 @@
+pub mod Storing
+pub mod DecodeLaws
+pub mod RequestLaws
+pub mod DecimalLaws
+pub mod LineLaws

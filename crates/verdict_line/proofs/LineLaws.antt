@@ -1,0 +1,75 @@
+-- The length of a line, and the line of a workspace that is lent in part.
+use Prim.Native.Nat.{ℕ, zero, suc, _+_, _/_, _%_, _≤_, _<_, min}
+use mathlib.Core.Path.{_≡_, refl, sym, _∙_, ap}
+use mathlib.Core.Bool.{Bool, true, false, _||_, or-true}
+use mathlib.Core.List.{List, [], _∷_, _++_}
+use mathlib.Core.Option.{some}
+use native.Mathlib.Omega.{arith}
+use native.Mathlib.Decide.{decLt}
+use lib.Dec.{ltb}
+use borrow.Author.Tests.{lt-ltb}
+use lib.ListN.{length, take, replicate, length-append, length-replicate}
+use Rattle.calculus.specs.Rounds.{Verdict, Same, Different, Budget, Full}
+use Rattle.verdict_line.specs.Decimal.{digit, digits, decimal, digitsMost}
+use Rattle.verdict_line.specs.Line.{Line, input, refuses, shows, judged, nameOf, field, lineBytes}
+use Rattle.calculus.specs.Words.{workspaceMost}
+use Rattle.calculus.specs.Refusal.{wrongWorkspaceNumber}
+use Rattle.tables.specs.Load.{refused, load}
+use Rattle.verdict_line.specs.Request.{Request}
+use Rattle.verdict_line.specs.Judge.{lineMost, lentMost}
+
+length-digits : (k n : ℕ) → length (digits k n) ≤ k
+unfolding digits
+length-digits zero n = omega arith
+length-digits (suc k) n = go (ltb n 10) refl (length-digits k (n / 10))
+  where
+    go : (b : Bool) → ltb n 10 ≡ b → length (digits k (n / 10)) ≤ k → length (digits (suc k) n) ≤ suc k
+    go true e h = rw (e, digits) (omega arith)
+    go false e h = rw (e, digits) (omega (arith, length-append (digits k (n / 10)) (digit (n % 10) ∷ [])))
+
+length-name : (v : Verdict) → length (nameOf v) ≤ 9
+length-name Same = omega arith
+length-name Different = omega arith
+length-name Budget = omega arith
+length-name Full = omega arith
+
+length-decimal : (n : ℕ) → length (decimal n) ≤ digitsMost
+unfolding decimal
+length-decimal n = length-digits digitsMost n
+
+-- No line is longer than `lineMost`.
+pub line-length : (l : Line) → length (lineBytes l) ≤ lineMost
+line-length input = omega arith
+line-length (refuses n) = simp length-append (omega (arith, length-decimal n))
+line-length (shows v s l r) = simp length-append (omega (arith, length-name v, length-decimal s, length-decimal l, length-decimal r))
+
+-- The first of so many zeros are zeros.
+pub take-zeros : (n m : ℕ) → n ≤ m → take {A = ℕ} n (replicate m 0) ≡ replicate n 0
+take-zeros zero m h = refl
+take-zeros (suc n) zero h = absurd (omega arith)
+take-zeros (suc n) (suc m) h = ap (_∷_ 0) (take-zeros n m (omega arith))
+
+pub part-zeros : (n : ℕ) → n ≤ lentMost → take {A = ℕ} n (replicate lentMost 0) ≡ replicate (length (take {A = ℕ} n (replicate lentMost 0))) 0
+part-zeros n h = rw (take-zeros n lentMost h, length-replicate)
+
+-- A workspace above the limit is refused, whatever its length.
+too-large : (table ws : List ℕ) → workspaceMost < length ws → load table ws .answer ≡ refused wrongWorkspaceNumber
+unfolding load
+too-large table ws h = rw (lt-ltb workspaceMost (length ws) h, or-true)
+
+too-large-line : (q : Request) → workspaceMost < q .C → judged (some q) ≡ refuses wrongWorkspaceNumber
+too-large-line q h = rw (too-large (q .left) (replicate (q .C) 0) (rw length-replicate h))
+
+-- So a request is judged by the words that are lent.
+pub judged-lent : (budget C : ℕ) (left right : List ℕ)
+    → judged (some (record { budget = budget; C = C; left = left; right = right }))
+    ≡ judged (some (record { budget = budget; C = min C lentMost; left = left; right = right }))
+judged-lent budget C left right = go (decLt C lentMost)
+  where
+    go : Dec (C < lentMost)
+        → judged (some (record { budget = budget; C = C; left = left; right = right }))
+        ≡ judged (some (record { budget = budget; C = min C lentMost; left = left; right = right }))
+    go (yes h) = let e : min C lentMost ≡ C = omega arith in rw e
+    go (no h) =
+        too-large-line (record { budget = budget; C = C; left = left; right = right }) (omega arith)
+        ∙ sym (too-large-line (record { budget = budget; C = min C lentMost; left = left; right = right }) (omega arith))

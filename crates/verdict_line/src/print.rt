@@ -1,0 +1,84 @@
+// The line that the verdict program prints.
+use crate::text::put_bytes;
+use crate::text::put_field;
+use rounds::Verdict;
+ghost use Prim.Native.Nat.{_≤_, _+_};
+ghost use mathlib.Core.List.{[], _∷_};
+ghost use lib.ListN.{length};
+ghost use Rattle.rounds.specs.Types.{verdictOf};
+ghost use Rattle.verdict_line.specs.Line.{nameOf, lineBytes, refuses, shows, newline};
+ghost use Rattle.verdict_line.specs.Types.{printedLine};
+ghost use Rattle.verdict_line.specs.Put.{Put};
+
+// The most bytes of a line: the longest verdict, three numbers of at most twenty digits behind a space, and the end of the line.
+pub const LINE_MOST: usize = 73;
+
+pub enum Line {
+    Input,
+    Refuses(u32),
+    Shows {
+        verdict: Verdict,
+        spent: u32,
+        left: usize,
+        right: usize,
+    },
+}
+
+// The name of a verdict.
+pub fn put_verdict(verdict: Verdict, out: &mut [u8], at: usize) -> usize
+    requires { ⌜ at + length (nameOf (verdictOf verdict)) ≤ length (now out) ⌝ }
+    ensures { λ r. ⌜ Put (now (out .entry)) at (nameOf (verdictOf verdict)) (now (out .exit)) r ⌝ }
+{
+    match verdict {
+        Verdict::Same => put_bytes(b"Same", out, at),
+        Verdict::Different => put_bytes(b"Different", out, at),
+        Verdict::Budget => put_bytes(b"Budget", out, at),
+        Verdict::Full => put_bytes(b"Full", out, at),
+    }
+}
+
+// The end of a line.
+pub fn put_end(out: &mut [u8], at: usize) -> usize
+    requires { ⌜ at + 1 ≤ length (now out) ⌝ }
+    ensures { λ r. ⌜ Put (now (out .entry)) at (newline ∷ []) (now (out .exit)) r ⌝ }
+{
+    out[at] = b'\n';
+    at + 1
+}
+
+fn put_refusal(number: u32, out: &mut [u8]) -> usize
+    requires { ⌜ length (lineBytes (refuses number)) ≤ length (now out) ⌝ }
+    ensures { λ r. ⌜ Put (now (out .entry)) 0 (lineBytes (refuses number)) (now (out .exit)) r ⌝ }
+{
+    let name = put_bytes(b"Refused", out, 0);
+    let field = put_field(number as usize, out, name);
+    put_end(out, field)
+}
+
+fn put_answer(verdict: Verdict, spent: u32, left: usize, right: usize, out: &mut [u8]) -> usize
+    requires { ⌜ length (lineBytes (shows (verdictOf verdict) spent left right)) ≤ length (now out) ⌝ }
+    ensures { λ r. ⌜ Put (now (out .entry)) 0 (lineBytes (shows (verdictOf verdict) spent left right)) (now (out .exit)) r ⌝ }
+{
+    let name = put_verdict(verdict, out, 0);
+    let first = put_field(spent as usize, out, name);
+    let second = put_field(left, out, first);
+    let third = put_field(right, out, second);
+    put_end(out, third)
+}
+
+// The bytes of a line at the start of `out`, and their number.
+pub fn put_line(line: Line, out: &mut [u8]) -> usize
+    requires { ⌜ length (lineBytes (printedLine line)) ≤ length (now out) ⌝ }
+    ensures { λ r. ⌜ Put (now (out .entry)) 0 (lineBytes (printedLine line)) (now (out .exit)) r ⌝ }
+{
+    match line {
+        Line::Input => put_bytes(b"Input\n", out, 0),
+        Line::Refuses(number) => put_refusal(number, out),
+        Line::Shows {
+            verdict,
+            spent,
+            left,
+            right,
+        } => put_answer(verdict, spent, left, right, out),
+    }
+}

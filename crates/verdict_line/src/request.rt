@@ -1,0 +1,86 @@
+// What the bytes ask ("The verdict program"): budget, C, and two tables, each behind its word count.
+use crate::bytes::WORD_BYTES;
+use crate::bytes::word_at;
+ghost use mathlib.Core.Path.{_≡_};
+ghost use Prim.Native.Nat.{_≤_};
+ghost use lib.ListN.{length};
+ghost use Rattle.verdict_line.specs.Parse.{tableAt, Parses};
+
+// The most words of a table: a header and 2,048 records of four words.
+pub const TABLE_MOST: usize = 8196;
+
+// The words before the left count.
+const BUDGET: usize = 0;
+
+const C: usize = WORD_BYTES;
+
+const LEFT: usize = 2 * WORD_BYTES;
+
+// Where a table stands in the bytes: the position of its first word, and its words.
+pub struct Table {
+    pub at: usize,
+    pub words: usize,
+}
+
+// The table behind a word count, if it may stand there.
+enum Found {
+    Table(Table),
+    Nothing,
+}
+
+// The request that bytes are, if they are one.
+pub enum Parsed {
+    Request {
+        budget: u32,
+        c: u32,
+        left: Table,
+        right: Table,
+    },
+    Malformed,
+}
+
+// The table whose word count stands at a position: none where a byte of it is missing, or the count is above its limit.
+fn table_at(bytes: &[u8], at: usize) -> Found
+    requires { ⌜ at ≤ length (now bytes) ⌝ }
+    ensures { λ r. ⌜ r ≡ tableAt (now (bytes .entry)) at ⌝ }
+{
+    let ahead = bytes.len() - at;
+    if ahead < WORD_BYTES {
+        return Found::Nothing;
+    }
+    let words = word_at(bytes, at) as usize;
+    if TABLE_MOST < words {
+        return Found::Nothing;
+    }
+    if ahead < WORD_BYTES + WORD_BYTES * words {
+        return Found::Nothing;
+    }
+    Found::Table(Table {
+        at: at + WORD_BYTES,
+        words,
+    })
+}
+
+// Budget, C and the two tables stand one after the other, and nothing behind them.
+pub fn parse(bytes: &[u8]) -> Parsed
+    ensures { λ r. ⌜ Parses (now (bytes .entry)) r ⌝ }
+{
+    if bytes.len() < LEFT {
+        return Parsed::Malformed;
+    }
+    let Found::Table(left) = table_at(bytes, LEFT) else {
+        return Parsed::Malformed;
+    };
+    let Found::Table(right) = table_at(bytes, left.at + WORD_BYTES * left.words) else {
+        return Parsed::Malformed;
+    };
+    if right.at + WORD_BYTES * right.words != bytes.len() {
+        return Parsed::Malformed;
+    }
+    Parsed::Request {
+        budget: word_at(bytes, BUDGET),
+        c: word_at(bytes, C),
+        left,
+        right,
+    }
+}
