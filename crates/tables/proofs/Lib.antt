@@ -28,3 +28,5 @@ pub mod ReadingLaws
 pub mod Stores
 pub mod ReadingMeaning
 pub mod LoadCode
+pub mod EntriesLaws
+pub mod WritingLaws

@@ -2,6 +2,7 @@
 mod header;
 mod naming;
 mod reader;
+mod writer;
 mod record;
 mod scope;
 mod shape;
