@@ -57,21 +57,21 @@ entries-of (lam b) i j m ks rest h e =
 entries-of (app f a) i j m ks rest h e =
     first-entry applicationKind 0 2 (size (app f a)) i m ks (words f ++ words a ++ rest) (omega arith) refl (term-span (app f a) rest h)
     ∙ same-entry applicationKind refl refl (ap (linkIf m) (sym e))
-      (two-parts (suc i) (2 ∷ push m ks) (words f) (words a) rest (records (suc i) (suc i + size f) f) (records (suc i + size f) 0 a) _
-        (entries-of f (suc i) (suc i + size f) 1 (push m ks) (words a ++ rest) (h .0) refl)
-        (entries-of a (suc i + size f) j 0 (push m ks) rest (h .1) (omega (arith, e, length-append (words f) (words a)))))
+    (two-parts (suc i) (2 ∷ push m ks) (words f) (words a) rest (records (suc i) (suc i + size f) f) (records (suc i + size f) 0 a) _
+    (entries-of f (suc i) (suc i + size f) 1 (push m ks) (words a ++ rest) (h .0) refl)
+    (entries-of a (suc i + size f) j 0 (push m ks) rest (h .1) (omega (arith, e, length-append (words f) (words a)))))
 entries-of (con t xs) i j m ks rest h e =
     first-entry constructorKind (pack t (count xs)) (count xs) (size (con t xs)) i m ks (words xs ++ rest) (omega arith)
-      (arity-constructor t (count xs) (h .0)) (term-span (con t xs) rest h)
+    (arity-constructor t (count xs) (h .0)) (term-span (con t xs) rest h)
     ∙ same-entry constructorKind (tagOf-pack t (count xs) (h .0)) refl (ap (linkIf m) (sym e))
-      (entries-of xs (suc i) j 0 (push m ks) rest (h .1) (omega (arith, e)))
+    (entries-of xs (suc i) j 0 (push m ks) rest (h .1) (omega (arith, e)))
 entries-of (case t bs) i j m ks rest h e =
     first-entry caseKind (count bs) (suc (count bs)) (size (case t bs)) i m ks (words t ++ words bs ++ rest) (omega arith)
-      (arity-case (count bs)) (term-span (case t bs) rest h)
+    (arity-case (count bs)) (term-span (case t bs) rest h)
     ∙ same-entry caseKind refl (rw (eqb·suc-zero (count bs))) (ap (linkIf m) (sym e))
-      (two-parts (suc i) (suc (count bs) ∷ push m ks) (words t) (words bs) rest (records (suc i) (linkTo (suc i + size t) bs) t) (records (suc i + size t) 0 bs) _
-        (entries-of t (suc i) (suc i + size t) (count bs) (push m ks) (words bs ++ rest) (h .0) refl)
-        (entries-of bs (suc i + size t) j 0 (push m ks) rest (h .1) (omega (arith, e, length-append (words t) (words bs)))))
+    (two-parts (suc i) (suc (count bs) ∷ push m ks) (words t) (words bs) rest (records (suc i) (linkTo (suc i + size t) bs) t) (records (suc i + size t) 0 bs) _
+    (entries-of t (suc i) (suc i + size t) (count bs) (push m ks) (words bs ++ rest) (h .0) refl)
+    (entries-of bs (suc i + size t) j 0 (push m ks) rest (h .1) (omega (arith, e, length-append (words t) (words bs)))))
 entries-of nil i j m ks rest h e = let same : i ≡ j = omega (arith, e) in ap (λ n. entries n ks rest) same
 entries-of (cons a xs) i j m ks rest h e =
     two-parts i (suc (count xs) ∷ ks) (words a) (words xs) rest (records i (linkTo (i + size a) xs) a) (records (i + size a) 0 xs) _
@@ -80,11 +80,11 @@ entries-of (cons a xs) i j m ks rest h e =
 entries-of end i j m ks rest h e = let same : i ≡ j = omega (arith, e) in ap (λ n. entries n ks rest) same
 entries-of (branch t n b bs) i j m ks rest h e =
     first-entry branchKind (pack t n) 1 (suc (size b)) i (count bs) ks (words b ++ words bs ++ rest) (omega arith) (arity-branch (pack t n))
-      (branch-span (pack t n) b (words bs) rest (h .1))
+    (branch-span (pack t n) b (words bs) rest (h .1))
     ∙ same-entry branchKind refl refl (ap (linkIf (count bs)) (omega arith))
-      (two-parts (suc i) (1 ∷ push (count bs) ks) (words b) (words bs) rest (records (suc i) 0 b) (records (suc i + size b) 0 bs) _
-        (entries-of b (suc i) (suc i + size b) 0 (push (count bs) ks) (words bs ++ rest) (h .1) refl)
-        (entries-of bs (suc i + size b) j 0 ks rest (h .2) (omega (arith, e, length-append (words b) (words bs)))))
+    (two-parts (suc i) (1 ∷ push (count bs) ks) (words b) (words bs) rest (records (suc i) 0 b) (records (suc i + size b) 0 bs) _
+    (entries-of b (suc i) (suc i + size b) 0 (push (count bs) ks) (words bs ++ rest) (h .1) refl)
+    (entries-of bs (suc i + size b) j 0 ks rest (h .2) (omega (arith, e, length-append (words b) (words bs)))))
 
 pub entries-records : (t : Term) → Packable t → entries 1 (1 ∷ []) (words t) ≡ records 1 0 t
 entries-records t h =

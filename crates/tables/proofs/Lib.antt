@@ -30,3 +30,4 @@ pub mod ReadingMeaning
 pub mod LoadCode
 pub mod EntriesLaws
 pub mod WritingLaws
+pub mod WriteCode

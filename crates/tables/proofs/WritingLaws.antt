@@ -11,7 +11,6 @@ use lib.Seq.{sets, length-sets, drop-cons, drop-set-lt, getD-set-same}
 use Rattle.calculus.specs.Words.{workspaceMost}
 use Rattle.calculus.specs.Skip.{arity, span}
 use Rattle.tables.specs.Records.{Record, recordWords, recordsWords}
-use Rattle.tables.specs.Write.{entry}
 use Rattle.tables.specs.Writing.{linkIf, push, entryOf, entries, Puttable, Pushed, Descended}
 
 pub four-stores : (l : List ℕ) (i a b c d : ℕ) → set (set (set (set l i a) (i + 1) b) (i + 2) c) (i + 3) d ≡ sets l i (a ∷ b ∷ c ∷ d ∷ [])
@@ -47,9 +46,6 @@ descended before levels after top items rest top′ p q =
       least = omega (arith, p .least, q .least);
       most = omega (arith, p .most, q .most);
     }
-
-pub same-parts : {k k′ v v′ f f′ x x′ : ℕ} → k ≡ k′ → v ≡ v′ → f ≡ f′ → x ≡ x′ → entry k v f x ≡ entry k′ v′ f′ x′
-same-parts e f g h = rw (e, f, g, h)
 
 -- Links into a written table are small.
 link-most : (m l : ℕ) → linkIf m l ≤ l

@@ -1,6 +1,7 @@
 // The records of a term, from its words, into a table ("The stored table").
-use words::{Word, extent};
 use crate::record::Record;
+use words::Word;
+use words::extent;
 ghost use mathlib.Core.Path.{_≡_};
 ghost use mathlib.Core.List.{[], _∷_};
 ghost use Prim.Native.Nat.{_+_, _*_, _<_, _≤_};

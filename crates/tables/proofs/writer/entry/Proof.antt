@@ -7,7 +7,7 @@ use borrow.Author.Needs.{needs}
 use Rattle.calculus.specs.Skip.{span}
 use Rattle.calculus.proofs.SkipLaws.{span-bounded}
 use Rattle.tables.specs.Writing.{linkIf}
-use Rattle.tables.proofs.WritingLaws.{same-parts}
+use Rattle.tables.proofs.TableWords.{entry-path}
 use Rattle.tables.proofs.writer.entry.Statement.{statement}
 use Rattle.tables.proofs.writer.entry.Tie as tie
 
@@ -49,7 +49,7 @@ returns c =
     let start = a .before .before .before .before .before .args in
     let below : start .i + 2 ≡ suc (start .i + 1) = omega arith in
     let after : c .before .extent .result + 1 ≡ start .i + 1 + span 1 (drop (start .i) (start .ws .now)) = omega (arith, c .before .extent .ensures) in
-    same-parts (a .before .before .kind .ensures) (a .before .value .ensures)
+    entry-path (a .before .before .kind .ensures) (a .before .value .ensures)
     (c .before .before .link-if .ensures ∙ ap₂ linkIf (a .arity .ensures) below)
     (c .link-if2 .ensures ∙ ap (linkIf (start .siblings)) after)
 

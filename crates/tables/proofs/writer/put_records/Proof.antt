@@ -64,11 +64,10 @@ put-requires c κs =
     let start = l .before .before .before .before .before .before in
     let rest = drop (l .loop .i) (start .args .ws .now) in
     let short = start .pre .0 in
-    let room = start .pre .1 in
-    (
+    let room = start .pre .1 in (
       omega (arith, l .loop .inv .table-length),
       entry-puttable _ (l .loop .i + 1) (getD (l .loop .levels) (l .loop .top) 0 - 1) (getD (start .args .ws .now) (l .loop .i) 0) (span 1 rest) (c .before .entry .ensures) (omega arith)
-      (omega (arith, span-bounded 1 rest, length-drop (l .loop .i) (start .args .ws .now))),
+          (omega (arith, span-bounded 1 rest, length-drop (l .loop .i) (start .args .ws .now))),
     )
 
 slice-aggregate-descend : tie.Need-slice-aggregate-descend Inv-loop μ-loop
@@ -86,8 +85,7 @@ arity-requires c κs = search needs
 descend-requires : tie.Need-descend-requires Inv-loop μ-loop
 descend-requires c κs =
     let turn = c .before .before .before .before .before .before .before .before in
-    let p = turn .before .before .loop .inv in
-    (
+    let p = turn .before .before .loop .inv in (
       omega (arith, p .levels-left, turn .before .before .before .before .before .before .before .before .pre .0),
       omega (arith, p .levels-length, inside turn),
       item turn,
