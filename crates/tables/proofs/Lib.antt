@@ -28,3 +28,6 @@ pub mod ReadingLaws
 pub mod Stores
 pub mod ReadingMeaning
 pub mod LoadCode
+pub mod EntriesLaws
+pub mod WritingLaws
+pub mod WriteCode

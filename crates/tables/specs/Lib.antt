@@ -8,5 +8,6 @@ pub mod Chains
 pub mod Reading
 pub mod Load
 pub mod Write
+pub mod Writing
 pub mod PrefixOrder
 pub mod Theorems

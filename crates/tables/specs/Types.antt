@@ -9,6 +9,7 @@ use Rattle.tables.specs.declared.Answer as codeAnswer
 use Rattle.tables.specs.declared.Answer.the-variants as answer
 use Rattle.tables.specs.Records.{Record}
 use Rattle.tables.specs.Load.{Answer, refused, returned, Loaded}
+use Rattle.tables.specs.Write.{Written}
 
 abbrev pub recordOf : codeRecord.Record → Record
 recordOf r = record { kind = r .kind; value = r .value; first = r .first; next = r .next }
@@ -26,3 +27,7 @@ answerOf (answer.Returned l) = returned l
 -- Everything at exit of loading: its result and the lent workspace.
 abbrev pub loadedOf : codeAnswer.Answer → (workspace : List ℕ) → Loaded
 loadedOf a workspace = record { answer = answerOf a; workspace = workspace }
+
+-- Everything at exit of writing: its result and the lent table.
+abbrev pub writtenOf : codeAnswer.Answer → (table : List ℕ) → Written
+writtenOf a table = record { answer = answerOf a; table = table }

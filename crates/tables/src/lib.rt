@@ -6,6 +6,7 @@ mod record;
 mod scope;
 mod shape;
 mod values;
+mod writer;
 
 use header::wrong_header;
 use header::wrong_length;
@@ -18,10 +19,13 @@ use scope::wrong_free;
 use shape::wrong_children;
 use values::wrong_values;
 use words::clear;
+use words::is_term;
 use words::refusal::Refusal;
+use writer::put_records;
 ghost use mathlib.Core.Path.{_≡_};
 ghost use Rattle.tables.specs.Load.{checks, firstMet, load};
-ghost use Rattle.tables.specs.Types.{metOf, loadedOf};
+ghost use Rattle.tables.specs.Write.{write};
+ghost use Rattle.tables.specs.Types.{metOf, loadedOf, writtenOf};
 
 // What loading and writing answer: the number of the refusal, or the length of the term or the number of records.
 pub enum Answer {
@@ -78,4 +82,29 @@ pub fn load(table: &[u32], workspace: &mut [u32]) -> Answer
             Answer::Returned(end)
         }
     }
+}
+
+// Writes the term that the first `length` words of a workspace are as a table, with its records in prefix order, and returns their number. A
+// refusal changes nothing.
+pub fn write(workspace: &[u32], length: usize, table: &mut [u32]) -> Answer
+    ensures { λ r. ⌜ writtenOf r (now (table .exit)) ≡ write (now (workspace .entry)) length (now (table .entry)) ⌝ }
+{
+    if wrong_workspace(workspace.len()) {
+        return Answer::Refused(Refusal::WORKSPACE);
+    }
+    if !is_term(workspace, length) {
+        return Answer::Refused(Refusal::TERM);
+    }
+    if table.len() != Record::WORDS * (length + 1) {
+        return Answer::Refused(Refusal::LENGTH);
+    }
+    let header = Record {
+        kind: Record::FORM,
+        value: length as u32,
+        first: 1,
+        next: 0,
+    };
+    header.put(table, 0);
+    put_records(&workspace[..length], table);
+    Answer::Returned(length)
 }

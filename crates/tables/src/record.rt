@@ -2,13 +2,16 @@
 use words::Word;
 ghost use mathlib.Core.Path.{_≡_};
 ghost use Prim.Native.Nat.{_+_, _*_, _<_};
+ghost use mathlib.Core.List.{[], _∷_};
 ghost use lib.ListN.{length};
+ghost use lib.Seq.{sets};
 ghost use Rattle.calculus.specs.Words.{word};
 ghost use Rattle.calculus.specs.Theorems.{indexLimit};
 ghost use Rattle.words.specs.Bound.{binding};
-ghost use Rattle.tables.specs.Records.{form, recordWords, recordAt, view1};
+ghost use Rattle.tables.specs.Records.{form, recordWords, recordAt, view1, recordsWords};
 ghost use Rattle.tables.specs.Types.{recordOf};
 ghost use Rattle.tables.specs.Reading.{payload, Wordable};
+ghost use Rattle.tables.specs.Writing.{Puttable};
 
 pub struct Record {
     pub kind: u32,
@@ -37,6 +40,18 @@ impl Record {
             first: table[from + 2] as usize,
             next: table[from + 3] as usize,
         }
+    }
+
+    // Puts the record at an index, the header at 0.
+    pub fn put(self, table: &mut [u32], i: usize)
+        requires { ⌜ (recordWords * i + 3 < length (now table)) × Puttable (recordOf self) ⌝ }
+        ensures { λ _. ⌜ now (table .exit) ≡ sets (now (table .entry)) (recordWords * i) (recordsWords (recordOf self ∷ [])) ⌝ }
+    {
+        let from = Record::WORDS * i;
+        table[from] = self.kind;
+        table[from + 1] = self.value;
+        table[from + 2] = self.first as u32;
+        table[from + 3] = self.next as u32;
     }
 
     // The payload of a record with so many children, and its word.

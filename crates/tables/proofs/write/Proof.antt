@@ -1,0 +1,107 @@
+-- `write` meets its contract: each refusal knows the tests before it, and otherwise the header and the records cover the whole table.
+use Prim.Native.Nat.{_≤_}
+use mathlib.Core.Path.{_≡_, sym, _∙_}
+use mathlib.Core.Bool.{false}
+use mathlib.Core.Option.{some}
+use native.Mathlib.Omega.{arith}
+use lib.ListN.{length, take}
+use lib.Seq.{length-take-le}
+use borrow.Author.Needs.{needs}
+use borrow.Author.Tests.{ne-eqb, not-true, not-false}
+use Rattle.calculus.specs.Term.{Term}
+use Rattle.calculus.specs.Words.{workspaceMost}
+use Rattle.calculus.specs.Workspace.{termAt}
+use Rattle.words.proofs.IsTerm.{isTerm-some, isTerm-none}
+use Rattle.tables.specs.Refusals.{wrongWorkspace}
+use Rattle.tables.specs.Write.{write}
+use Rattle.tables.proofs.WriteCode.{workspace-short, held, written}
+use Rattle.tables.proofs.write.Statement.{statement}
+use Rattle.tables.proofs.write.Tie as tie
+
+wrong-workspace-requires : tie.Need-wrong-workspace-requires
+wrong-workspace-requires c κs = search needs
+
+returns : tie.Need-returns
+unfolding write
+returns c = rw (← c .before .wrong-workspace .ensures, c .if1 .taken)
+
+is-term-requires : tie.Need-is-term-requires
+is-term-requires c κs = search needs
+
+workspace-fits : (c : tie.Else1) → wrongWorkspace (length (c .before .before .before .before .args .workspace .now)) ≡ false
+workspace-fits c = sym (c .before .wrong-workspace .ensures) ∙ c .if1 .left
+
+returns-2 : tie.Need-returns-2
+unfolding write
+returns-2 c =
+    let fits = workspace-fits (c .before .before) in
+    let test = c .before .is-term in
+    rw (fits, isTerm-none _ _ (workspace-short _ fits) (sym (test .ensures) ∙ not-true (test .result) (c .if2 .taken)))
+
+-- The term that the workspace holds.
+term : (c : tie.Else2) → (t : Term)
+    × (termAt (c .before .before .before .before .before .before .args .workspace .now) (c .before .before .before .before .before .before .args .length) ≡ some t)
+term c = let test = c .before .is-term in isTerm-some _ _ (sym (test .ensures) ∙ not-false (test .result) (c .if2 .left))
+
+within : (c : tie.Else2)
+    → (c .before .before .before .before .before .before .args .length ≤ length (c .before .before .before .before .before .before .args .workspace .now))
+    × (length (c .before .before .before .before .before .before .args .workspace .now) ≤ workspaceMost)
+within c = (held _ _ _ (term c .1) .within, workspace-short _ (workspace-fits (c .before .before)))
+
+add-if3 : tie.Need-add-if3
+add-if3 c = omega (arith, within c)
+
+mul-if3 : tie.Need-mul-if3
+mul-if3 c = omega (arith, within c)
+
+returns-3 : tie.Need-returns-3
+unfolding write
+returns-3 c = rw (workspace-fits (c .before .before .before), term (c .before) .1, ne-eqb _ _ (c .if3 .taken))
+
+cast-t11 : tie.Need-cast-t11
+cast-t11 c = omega (arith, within (c .before))
+
+put-requires : tie.Need-put-requires
+put-requires c κs = search needs
+
+-- The words of the term have the given length.
+taken : (c : tie.Else2)
+    → length (take (c .before .before .before .before .before .before .args .length) (c .before .before .before .before .before .before .args .workspace .now))
+    ≡ c .before .before .before .before .before .before .args .length
+taken c = length-take-le _ _ (within c .0)
+
+slice-aggregate-put-records : tie.Need-slice-aggregate-put-records
+slice-aggregate-put-records c = sym (taken (c .before .before .before .before .before .before))
+
+put-records-requires : tie.Need-put-records-requires
+put-records-requires c κs =
+    let passed = c .before .before .before .before .before .before in
+    omega (arith, c .before .before .before .before .put .kept .1 .0, taken (passed .before), within (passed .before), passed .if3 .left)
+
+same-length : tie.Need-same-length
+same-length c = search needs
+
+returns-4 : tie.Need-returns-4
+returns-4 c =
+    let passed = c .before .before .before .before .before .before .before .before .before in
+    let headed = c .before .before .before .before .before .before .before .put in
+    written _ _ _ _ _ _ (workspace-fits (passed .before .before .before)) (term (passed .before) .1) (passed .if3 .left) (headed .ensures)
+    (c .before .before .put-records .ensures)
+
+pub write-spec : {M : Type 1} → statement M
+write-spec =
+    tie.close
+    (tie.spec
+    wrong-workspace-requires
+    returns
+    is-term-requires
+    returns-2
+    add-if3
+    mul-if3
+    returns-3
+    cast-t11
+    put-requires
+    slice-aggregate-put-records
+    put-records-requires
+    same-length
+    returns-4)
