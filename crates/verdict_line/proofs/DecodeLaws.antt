@@ -7,8 +7,8 @@ use native.Mathlib.Nat.{add-zero}
 use native.Mathlib.Omega.{arith}
 use lib.ListN.{length, getD, take, drop}
 use lib.Seq.{getD-drop}
-use Rattle.verdict_line.specs.Bytes.{wordOf, wordsOf}
-use Rattle.verdict_line.specs.Decode.{wordBytes, wordAt, wordsFrom}
+use Rattle.verdict_line.specs.Bytes.{wordBytes, wordOf, wordsOf}
+use Rattle.verdict_line.specs.Decode.{wordAt, wordsFrom}
 
 pub length-wordsFrom : (n : ℕ) (bytes : List ℕ) (at : ℕ) → length (wordsFrom n bytes at) ≡ n
 unfolding wordsFrom

@@ -7,15 +7,17 @@ use mathlib.Core.Option.{some}
 use native.Mathlib.Omega.{arith}
 use native.Mathlib.Decide.{decLt}
 use lib.Dec.{ltb}
+use lib.Seq.{length-sets}
 use borrow.Author.Tests.{lt-ltb}
 use lib.ListN.{length, take, replicate, length-append, length-replicate}
 use Rattle.calculus.specs.Rounds.{Verdict, Same, Different, Budget, Full}
 use Rattle.verdict_line.specs.Decimal.{digit, digits, decimal, digitsMost}
-use Rattle.verdict_line.specs.Line.{Line, input, refuses, shows, judged, nameOf, field, lineBytes}
+use Rattle.verdict_line.specs.Line.{Line, input, refuses, shows, judged, nameOf, field, lineBytes, printed}
 use Rattle.calculus.specs.Words.{workspaceMost}
 use Rattle.calculus.specs.Refusal.{wrongWorkspaceNumber}
 use Rattle.tables.specs.Load.{refused, load}
-use Rattle.verdict_line.specs.Request.{Request}
+use Rattle.verdict_line.specs.Request.{Request, request}
+use Rattle.verdict_line.specs.Put.{Put}
 use Rattle.verdict_line.specs.Judge.{lineMost, lentMost}
 
 length-digits : (k n : ℕ) → length (digits k n) ≤ k
@@ -42,6 +44,12 @@ pub line-length : (l : Line) → length (lineBytes l) ≤ lineMost
 line-length input = omega arith
 line-length (refuses n) = simp length-append (omega (arith, length-decimal n))
 line-length (shows v s l r) = simp length-append (omega (arith, length-name v, length-decimal s, length-decimal l, length-decimal r))
+
+-- What is printed fits where it is put.
+pub printed-fits : {before after : List ℕ} (bytes : List ℕ) {r : ℕ} → Put before 0 (printed bytes) after r → length before ≡ lineMost → r ≤ length after
+unfolding printed
+printed-fits {before} bytes p size =
+    rw (p .stored, length-sets) (omega (arith, p .position, line-length (judged (request bytes))))
 
 -- The first of so many zeros are zeros.
 pub take-zeros : (n m : ℕ) → n ≤ m → take {A = ℕ} n (replicate m 0) ≡ replicate n 0

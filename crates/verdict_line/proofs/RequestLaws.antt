@@ -5,16 +5,18 @@ use mathlib.Core.Bool.{Bool, true, false, cond, _&&_, and-false}
 use mathlib.Core.List.{List, [], _∷_}
 use mathlib.Core.Option.{Option, some, none, bind}
 use native.Mathlib.Omega.{arith}
+use native.Mathlib.Decide.{decLt}
 use lib.Dec.{leb, eqb}
 use lib.ListN.{length, take, drop}
+use lib.Seq.{take-all, length-take-le}
 use borrow.Author.Tests.{leb-true, leb-false, le-leb, lt-leb, eq-eqb, ne-eqb}
 use Rattle.words.proofs.Scan.{both}
 use Rattle.verdict_line.specs.declared.request.Table.{Table}
 use Rattle.verdict_line.specs.declared.request.Found.{Found}
 use Rattle.verdict_line.specs.declared.request.Found.the-variants as found
-use Rattle.verdict_line.specs.Bytes.{wordsOf}
-use Rattle.verdict_line.specs.Decode.{wordBytes, wordAt, wordsFrom}
-use Rattle.verdict_line.specs.Request.{Request, tableLimit, counted, complete, requestOf, request}
+use Rattle.verdict_line.specs.Bytes.{wordBytes, wordsOf}
+use Rattle.verdict_line.specs.Decode.{wordAt, wordsFrom}
+use Rattle.verdict_line.specs.Request.{Request, tableLimit, inputMost, counted, complete, requestOf, request}
 use Rattle.verdict_line.specs.Parse.{end, tableAt, wordsOfTable, Stands}
 use Rattle.verdict_line.proofs.DecodeLaws.{length-wordsFrom, take-wordsFrom, drop-wordsFrom, wordsOf-whole, wordsOf-part}
 
@@ -180,3 +182,25 @@ module _ (bytes : List ℕ) {l : Table} (e : tableAt bytes leftCount ≡ found.T
 
   pub asked : {r : Table} → tableAt bytes (end l) ≡ found.Table r → end r ≡ length bytes → some (partsAt bytes l r) ≡ request bytes
   asked f g = sym (request-at bytes ∙ rw (e, f, eq-eqb _ _ g))
+
+-- Bytes beyond what a request can have are none, so the first byte beyond shows as much as all of them.
+too-long : (bytes : List ℕ) → inputMost < length bytes → request bytes ≡ none
+too-long bytes h = request-at bytes ∙ left (tableAt bytes leftCount) refl
+  where
+    right : (l : Table) → There bytes leftCount l → (f : Found) → tableAt bytes (end l) ≡ f → with f (rightAt bytes l) ≡ none
+    right l t (found.Table r) g =
+        let u = there bytes (end l) g in
+        rw (ne-eqb (end r) (length bytes) (λ same. omega (arith, t .behind, t .stands .few, u .behind, u .stands .few)))
+    right l t found.Nothing g = refl
+
+    left : (f : Found) → tableAt bytes leftCount ≡ f → with f (leftAt bytes) ≡ none
+    left (found.Table l) g = right l (there bytes leftCount g) (tableAt bytes (end l)) refl
+    left found.Nothing g = refl
+
+pub read-enough : (bytes : List ℕ) → request (take (suc inputMost) bytes) ≡ request bytes
+read-enough bytes = go (decLt inputMost (length bytes))
+  where
+    go : Dec (inputMost < length bytes) → request (take (suc inputMost) bytes) ≡ request bytes
+    go (yes h) =
+        too-long (take (suc inputMost) bytes) (rw (length-take-le (suc inputMost) bytes h) (omega arith)) ∙ sym (too-long bytes h)
+    go (no h) = rw (take-all (suc inputMost) bytes (omega arith))

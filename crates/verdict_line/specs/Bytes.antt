@@ -7,6 +7,10 @@ use mathlib.Core.Option.{Option, some, none, Option·map}
 abbrev pub byteBase : ℕ
 byteBase = 256
 
+-- A word is four bytes.
+abbrev pub wordBytes : ℕ
+wordBytes = 4
+
 -- The word of four bytes, the lowest first.
 abbrev pub wordOf : (a b c d : ℕ) → ℕ
 wordOf a b c d = a + byteBase * (b + byteBase * (c + byteBase * d))

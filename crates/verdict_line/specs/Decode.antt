@@ -2,11 +2,7 @@
 use Prim.Native.Nat.{ℕ, zero, suc, _+_}
 use mathlib.Core.List.{List, [], _∷_}
 use lib.ListN.{getD}
-use Rattle.verdict_line.specs.Bytes.{wordOf}
-
--- A word is four bytes.
-abbrev pub wordBytes : ℕ
-wordBytes = 4
+use Rattle.verdict_line.specs.Bytes.{wordBytes, wordOf}
 
 -- The word whose first byte stands at a position.
 abbrev pub wordAt : List ℕ → ℕ → ℕ

@@ -1,12 +1,12 @@
 -- What the verdict program is asked ("The verdict program"): budget, C, the left table's word count, the left table, the right count, the right
 -- table. Missing or surplus bytes, or a count above 8,196, are no request.
-use Prim.Native.Nat.{ℕ}
+use Prim.Native.Nat.{ℕ, _+_, _*_}
 use mathlib.Core.Bool.{cond, _&&_}
 use mathlib.Core.List.{List, [], _∷_}
 use mathlib.Core.Option.{Option, some, none, bind}
 use lib.Dec.{leb}
 use lib.ListN.{length, take, drop}
-use Rattle.verdict_line.specs.Bytes.{wordsOf}
+use Rattle.verdict_line.specs.Bytes.{wordBytes, wordsOf}
 
 pub record Request : Type 0 where
   pub budget : ℕ
@@ -17,6 +17,10 @@ pub record Request : Type 0 where
 -- The most words of a table: a header and 2,048 records of four words.
 abbrev pub tableLimit : ℕ
 tableLimit = 8196
+
+-- The most bytes of a request: budget, C, and two tables behind their counts.
+abbrev pub inputMost : ℕ
+inputMost = wordBytes * (4 + 2 * tableLimit)
 
 -- A table stands behind its word count: what is made of the table and the words after it.
 abbrev pub counted : {A : Type 0} → List ℕ → (List ℕ → List ℕ → Option A) → Option A

@@ -2,8 +2,8 @@
 ghost use mathlib.Core.Path.{_≡_};
 ghost use Prim.Native.Nat.{_≤_, _+_, _*_};
 ghost use lib.ListN.{length};
-ghost use Rattle.verdict_line.specs.Bytes.{wordOf};
-ghost use Rattle.verdict_line.specs.Decode.{wordBytes, wordAt, wordsFrom};
+ghost use Rattle.verdict_line.specs.Bytes.{wordBytes, wordOf};
+ghost use Rattle.verdict_line.specs.Decode.{wordAt, wordsFrom};
 
 pub const WORD_BYTES: usize = 4;
 

@@ -9,6 +9,9 @@ ghost use Rattle.verdict_line.specs.Parse.{tableAt, Parses};
 // The most words of a table: a header and 2,048 records of four words.
 pub const TABLE_MOST: usize = 8196;
 
+// The most bytes of a request: budget, C, and two tables behind their counts.
+pub const INPUT_MOST: usize = WORD_BYTES * (4 + 2 * TABLE_MOST);
+
 // The words before the left count.
 const BUDGET: usize = 0;
 
