@@ -73,7 +73,7 @@ returns-4 : tie.Need-returns-4
 returns-4 c =
     let r = c .before .before .before .before in
     let l = r .before .before .before .before .before .before in
-    record { meaning = surplus _ (left-found l) (right-found r) (c .if2 .taken); standing = tt }
+    record { meaning = surplus _ (left-found l) (right-found r) (λ same. omega (arith, c .if2 .taken)); standing = tt }
 
 word-at-requires : tie.Need-word-at-requires
 word-at-requires c κs = search needs
