@@ -1,13 +1,15 @@
--- The digits of a number, as a loop finds them from the lowest on.
-use Prim.Native.Nat.{ℕ, zero, suc, _+_, _-_, _/_, _%_, _≤_, _<_}
-use mathlib.Core.Path.{_≡_, refl, sym, _∙_, ap₂}
+-- The digits of a number, as a loop finds them from the lowest on; and that they are the number's.
+use Prim.Native.Nat.{ℕ, zero, suc, _+_, _-_, _*_, _/_, _%_, _^_, _≤_, _<_}
+use mathlib.Core.Path.{_≡_, refl, _∙_, ap₂}
+use mathlib.Core.Bool.{Bool, true, false}
 use mathlib.Core.List.{List, [], _∷_, _++_, append-assoc}
-use native.Mathlib.Nat.{le-refl}
+use native.Mathlib.Nat.{le-refl, pow-suc, div-lt-iff-lt-mul}
 use native.Mathlib.Omega.{arith}
 use lib.ListN.{length, take, drop, set, length-set, length-drop}
 use lib.Seq.{take-all, drop-cons, getD-set-same, drop-set-lt}
-use borrow.Author.Tests.{lt-ltb, le-ltb}
-use Rattle.verdict_line.specs.Decimal.{digit, digitsMost, digits, decimal}
+use lib.Dec.{ltb}
+use borrow.Author.Tests.{ltb-true, lt-ltb, le-ltb}
+use Rattle.verdict_line.specs.Decimal.{digitsMost, digits, decimal}
 use Rattle.verdict_line.specs.Put.{Kept}
 
 -- What stands from k on after a store at k.
@@ -38,3 +40,29 @@ digits-last text (suc k) n p h t =
 -- The part of the slice from where the digits start.
 pub kept-part : {n from : ℕ} {kept : List ℕ} → Kept n kept from → length kept ≡ digitsMost → take (digitsMost - from) (drop from kept) ≡ decimal n
 kept-part {from = from} {kept = kept} k size = take-all (digitsMost - from) (drop from kept) (rw length-drop (omega arith)) ∙ k .digits
+
+-- The number that digits are, behind those of `ahead`.
+pub number : (ahead : ℕ) → List ℕ → ℕ
+number ahead [] = ahead
+number ahead (d ∷ ds) = number (ahead * 10 + (d - 48)) ds
+
+number-append : (ahead : ℕ) (ds : List ℕ) (d : ℕ) → number ahead (ds ++ (d ∷ [])) ≡ number ahead ds * 10 + (d - 48)
+unfolding number
+number-append ahead [] d = refl
+number-append ahead (e ∷ ds) d = number-append (ahead * 10 + (e - 48)) ds d
+
+digits-number : (k n : ℕ) → n < 10 ^ k → number 0 (digits k n) ≡ n
+unfolding number digits
+digits-number zero n h = omega arith
+digits-number (suc k) n h = go (ltb n 10) refl (digits-number k (n / 10))
+  where
+    go : (b : Bool) → ltb n 10 ≡ b → (n / 10 < 10 ^ k → number 0 (digits k (n / 10)) ≡ n / 10) → number 0 (digits (suc k) n) ≡ n
+    go true e ih = rw (e, digits) (omega (arith, ltb-true n 10 e))
+    go false e ih =
+        let less : n / 10 < 10 ^ k = div-lt-iff-lt-mul {k = 10} (omega arith) .1 (rw pow-suc at h) in
+        rw (e, digits, number-append) (omega (arith, ih less))
+
+-- The digits of every number of 64 bits are the number's.
+pub decimal-number : (n : ℕ) → n < 2 ^ 64 → number 0 (decimal n) ≡ n
+unfolding decimal
+decimal-number n h = digits-number digitsMost n (omega arith)

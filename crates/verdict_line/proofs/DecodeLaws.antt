@@ -2,12 +2,12 @@
 use Prim.Native.Nat.{ℕ, zero, suc, _+_, _*_, _-_, _%_, _≤_, _<_}
 use mathlib.Core.Path.{_≡_, refl, sym, _∙_, ap, ap₂}
 use mathlib.Core.List.{List, [], _∷_}
-use mathlib.Core.Option.{some, none, Option·map}
+use mathlib.Core.Option.{some, none}
 use native.Mathlib.Nat.{add-zero}
 use native.Mathlib.Omega.{arith}
 use lib.ListN.{length, getD, take, drop}
 use lib.Seq.{getD-drop}
-use Rattle.verdict_line.specs.Bytes.{wordBytes, wordOf, wordsOf}
+use Rattle.verdict_line.specs.Bytes.{wordBytes, wordsOf}
 use Rattle.verdict_line.specs.Decode.{wordAt, wordsFrom}
 
 pub length-wordsFrom : (n : ℕ) (bytes : List ℕ) (at : ℕ) → length (wordsFrom n bytes at) ≡ n
@@ -48,7 +48,7 @@ wordAt-later bytes at =
     let later : (k : ℕ) → getD bytes (at + wordBytes + k) 0 ≡ getD (drop wordBytes bytes) (at + k) 0 = λ k.
     let e : at + wordBytes + k ≡ wordBytes + (at + k) = omega arith in
     ap (λ i. getD bytes i 0) e ∙ sym (getD-drop wordBytes bytes (at + k) 0) in
-    let first : getD bytes (at + wordBytes) 0 ≡ getD (drop wordBytes bytes) at 0 = rw (add-zero, add-zero) at (later 0) in
+    let first : getD bytes (at + wordBytes) 0 ≡ getD (drop wordBytes bytes) at 0 = rw (add-zero (at + wordBytes), add-zero at) at (later 0) in
     cc (first, later 1, later 2, later 3)
 
 wordsFrom-later : (n : ℕ) (bytes : List ℕ) (at : ℕ) → wordsFrom n bytes (at + wordBytes) ≡ wordsFrom n (drop wordBytes bytes) at

@@ -1,8 +1,8 @@
 -- The length of a line, and the line of a workspace that is lent in part.
-use Prim.Native.Nat.{ℕ, zero, suc, _+_, _/_, _%_, _≤_, _<_, min}
+use Prim.Native.Nat.{ℕ, zero, suc, _/_, _%_, _≤_, _<_, min}
 use mathlib.Core.Path.{_≡_, refl, sym, _∙_, ap}
-use mathlib.Core.Bool.{Bool, true, false, _||_, or-true}
-use mathlib.Core.List.{List, [], _∷_, _++_}
+use mathlib.Core.Bool.{Bool, true, false, or-true}
+use mathlib.Core.List.{List, [], _∷_}
 use mathlib.Core.Option.{some}
 use native.Mathlib.Omega.{arith}
 use native.Mathlib.Decide.{decLt}
@@ -12,13 +12,13 @@ use borrow.Author.Tests.{lt-ltb}
 use lib.ListN.{length, take, replicate, length-append, length-replicate}
 use Rattle.calculus.specs.Rounds.{Verdict, Same, Different, Budget, Full}
 use Rattle.verdict_line.specs.Decimal.{digit, digits, decimal, digitsMost}
-use Rattle.verdict_line.specs.Line.{Line, input, refuses, shows, judged, nameOf, field, lineBytes, printed}
+use Rattle.verdict_line.specs.Line.{Line, input, refuses, shows, judged, nameOf, lineBytes, lineMost, printed}
 use Rattle.calculus.specs.Words.{workspaceMost}
 use Rattle.calculus.specs.Refusal.{wrongWorkspaceNumber}
 use Rattle.tables.specs.Load.{refused, load}
 use Rattle.verdict_line.specs.Request.{Request, request}
 use Rattle.verdict_line.specs.Put.{Put}
-use Rattle.verdict_line.specs.Judge.{lineMost, lentMost}
+use Rattle.verdict_line.specs.Judge.{lentMost}
 
 length-digits : (k n : ℕ) → length (digits k n) ≤ k
 unfolding digits

@@ -27,7 +27,3 @@ Zeros n ws = ws ≡ replicate n 0
 abbrev pub pressedRight : (C budget : ℕ) → (table left : List ℕ) → (l : ℕ) → Line
 pressedRight C budget table left l =
     let loaded = load table (replicate C 0) in loadedRight C budget left l (loaded .workspace) (loaded .answer)
-
--- The most bytes of a line: the longest verdict, three numbers behind a space, and the end of the line.
-abbrev pub lineMost : ℕ
-lineMost = 73

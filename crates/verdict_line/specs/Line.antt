@@ -6,9 +6,9 @@ use mathlib.Core.Option.{Option, some, none}
 use lib.ListN.{replicate}
 use Rattle.calculus.specs.Rounds.{Verdict, Same, Different, Budget, Full}
 use Rattle.rounds.specs.Session.{fresh}
-use Rattle.rounds.specs.Press.{Memory, Call, press}
+use Rattle.rounds.specs.Press.{press}
 use Rattle.rounds.specs.Press as press
-use Rattle.tables.specs.Load.{Answer, refused, returned, Loaded, load}
+use Rattle.tables.specs.Load.{Answer, refused, returned, load}
 use Rattle.verdict_line.specs.Request.{Request, request}
 use Rattle.verdict_line.specs.Decimal.{decimal}
 
@@ -69,6 +69,10 @@ abbrev pub lineBytes : Line → List ℕ
 lineBytes input = inputName ++ (newline ∷ [])
 lineBytes (refuses n) = refusedName ++ (field n ++ (newline ∷ []))
 lineBytes (shows v s l r) = nameOf v ++ (field s ++ (field l ++ (field r ++ (newline ∷ []))))
+
+-- The most bytes of a line: the longest verdict, three numbers of at most twenty digits behind a space, and the newline.
+abbrev pub lineMost : ℕ
+lineMost = 73
 
 -- What the program prints for the bytes that it reads.
 unfoldable pub printed : List ℕ → List ℕ

@@ -14,16 +14,14 @@ ghost use mathlib.Core.Path.{_≡_};
 ghost use mathlib.Core.Option.{some};
 ghost use Prim.Native.Nat.{min};
 ghost use lib.ListN.{length};
-ghost use Rattle.rounds.specs.Session.{fresh};
-ghost use Rattle.rounds.specs.Press.{press as Press·press};
-ghost use Rattle.rounds.specs.Types.{answerOf, callOf};
+ghost use Rattle.rounds.specs.Types.{answerOf};
 ghost use Rattle.tables.specs.Load.{load};
+ghost use Rattle.tables.specs.Types.{loadedOf};
 ghost use Rattle.verdict_line.specs.Request.{request};
 ghost use Rattle.verdict_line.specs.Parse.{wordsOfTable, Stands};
 ghost use Rattle.verdict_line.specs.Line.{lineOf, pressed, judged};
 ghost use Rattle.verdict_line.specs.Types.{printedLine};
 ghost use Rattle.verdict_line.specs.Judge.{lentMost, requestFor, Zeros, pressedRight};
-ghost use Rattle.tables.specs.Types.{loadedOf};
 
 // A workspace is lent by so many words at most, one above its limit, so that loading itself refuses it.
 const LENT_MOST: usize = Word::WORKSPACE_MOST + 1;

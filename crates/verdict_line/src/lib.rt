@@ -1,6 +1,12 @@
 // The verdict program's work on slices: bytes in, the printed line out.
+use crate::bytes::WORD_BYTES;
 use crate::print::LINE_MOST;
-ghost use Rattle.verdict_line.specs.Line.{printed};
+use crate::request::INPUT_MOST;
+use crate::request::TABLE_MOST;
+ghost use mathlib.Core.Path.{_≡_};
+ghost use Rattle.verdict_line.specs.Bytes.{wordBytes};
+ghost use Rattle.verdict_line.specs.Request.{tableLimit, inputMost};
+ghost use Rattle.verdict_line.specs.Line.{lineMost, printed};
 ghost use Rattle.verdict_line.specs.Put.{Put};
 
 pub mod bytes;
@@ -16,3 +22,11 @@ pub fn line(bytes: &[u8], out: &mut [u8; LINE_MOST]) -> usize
     let line = judge::judge(bytes);
     print::put_line(line, out)
 }
+
+// Does nothing. Its contract says that each constant is the number that the definitions give its name.
+fn constants()
+    ensures { λ r. do ⌜ (← ⟦WORD_BYTES⟧ .entry) ≡ wordBytes ⌝ }
+    ensures { λ r. do ⌜ (← ⟦TABLE_MOST⟧ .entry) ≡ tableLimit ⌝ }
+    ensures { λ r. do ⌜ (← ⟦INPUT_MOST⟧ .entry) ≡ inputMost ⌝ }
+    ensures { λ r. do ⌜ (← ⟦LINE_MOST⟧ .entry) ≡ lineMost ⌝ }
+{}

@@ -10,7 +10,7 @@ ghost use Rattle.verdict_line.specs.Line.{nameOf, lineBytes, refuses, sh
 ghost use Rattle.verdict_line.specs.Types.{printedLine};
 ghost use Rattle.verdict_line.specs.Put.{Put};
 
-// The most bytes of a line: the longest verdict, three numbers of at most twenty digits behind a space, and the end of the line.
+// The most bytes of a line: the longest verdict, three numbers of at most twenty digits behind a space, and the newline.
 pub const LINE_MOST: usize = 73;
 
 pub enum Line {

@@ -12,7 +12,7 @@ pub const TABLE_MOST: usize = 8196;
 // The most bytes of a request: budget, C, and two tables behind their counts.
 pub const INPUT_MOST: usize = WORD_BYTES * (4 + 2 * TABLE_MOST);
 
-// The words before the left count.
+// Where budget, C and the left count stand.
 const BUDGET: usize = 0;
 
 const C: usize = WORD_BYTES;

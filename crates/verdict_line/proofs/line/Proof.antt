@@ -1,7 +1,6 @@
 -- `line` meets its contract: no line is longer than `out`.
-use mathlib.Core.Path.{_∙_}
 use native.Mathlib.Omega.{arith}
-use Rattle.verdict_line.specs.Line.{lineBytes, printed}
+use Rattle.verdict_line.specs.Line.{printed}
 use Rattle.verdict_line.specs.Types.{printedLine}
 use Rattle.verdict_line.proofs.LineLaws.{line-length}
 use borrow.Author.Needs.{needs}

@@ -12,7 +12,7 @@ enum-known-budget : tie.Need-enum-known-budget
 enum-known-budget c = search needs
 
 judge-with-requires : tie.Need-judge-with-requires
-judge-with-requires c κs = rw (c .before .budget .given .1) at (c .before .before .before .parse .ensures .standing)
+judge-with-requires c κs = let standing = rw (c .before .budget .given .1) at (c .before .before .before .parse .ensures .standing) in search needs
 
 enum-told : tie.Need-enum-told
 enum-told c = search needs

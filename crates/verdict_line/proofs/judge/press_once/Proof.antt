@@ -1,6 +1,5 @@
 -- `press_once` meets its contract: a press on a scratch of zeros, with a fresh session.
 use mathlib.Core.Path.{_∙_, ap}
-use Rattle.rounds.specs.Press.{Pressed}
 use Rattle.verdict_line.specs.Line.{lineOf}
 use borrow.Author.Needs.{needs}
 use Rattle.verdict_line.proofs.judge.press_once.Statement.{statement}

@@ -73,7 +73,7 @@ returns-4 : tie.Need-returns-4
 returns-4 c =
     let r = c .before .before .before .before in
     let l = r .before .before .before .before .before .before in
-    record { meaning = surplus _ (left-found l) (right-found r) (c .if2 .taken); standing = tt }
+    record { meaning = surplus _ (left-found l) (right-found r) (λ same. omega (arith, c .if2 .taken)); standing = tt }
 
 word-at-requires : tie.Need-word-at-requires
 word-at-requires c κs = search needs
@@ -86,7 +86,7 @@ returns-5 c =
     let r = c .before .before .before .before .before .before in
     let l = r .before .before .before .before .before .before in
     record {
-      meaning = rw (c .before .word-at .ensures, c .word-at2 .ensures) (asked _ (left-found l) (right-found r) (c .before .before .if2 .left));
+      meaning = rw (c .before .word-at .ensures, c .word-at2 .ensures) (asked _ (left-found l) (right-found r) (omega (arith, c .before .before .if2 .left)));
       standing = (left-there l .stands, right-there r .stands);
     }
 
