@@ -8,14 +8,14 @@ use native.Mathlib.Nat.{add-zero}
 use native.Mathlib.Omega.{arith}
 use lib.ListN.{take}
 use lib.Seq.{take-append-seam}
-use Rattle.calculus.specs.Term.{Sort, Exp, Term, Terms, Branches, count}
+use Rattle.calculus.specs.Term.{Sort, Exp, Term, Terms, count}
 use Rattle.calculus.specs.Words.{words, size}
 use Rattle.calculus.specs.Read.{takeTerm}
 use Rattle.calculus.specs.Skip.{span}
-use Rattle.calculus.specs.First.{firstTerm, firstTerms, firstBranches}
+use Rattle.calculus.specs.First.{firstTerm, firstTerms}
 use Rattle.calculus.specs.Theorems.{Packable}
 use Rattle.calculus.proofs.SkipLaws.{itemsAnd, span-words, span-zero}
-use Rattle.calculus.proofs.ReadLaws.{takeTerms-onto, takeBranches-onto, items-all}
+use Rattle.calculus.proofs.ReadLaws.{takeTerms-onto, items-all}
 
 -- As many items as an expression has end where its words end.
 pub span-items : {s : Sort} (e : Exp s) (ws : List ℕ) {k : ℕ} → itemsAnd e 0 ≡ k → Packable e → span k (words e ++ ws) ≡ size e
@@ -31,7 +31,3 @@ firstTerm-words t ws h = rw (take-items t ws refl h, items-all t h)
 pub firstTerms-words : (xs : Terms) (ws : List ℕ) → Packable xs → firstTerms (count xs) (words xs ++ ws) ≡ xs
 unfolding firstTerms bind
 firstTerms-words xs ws h = rw (take-items xs ws (add-zero (count xs)) h, items-all xs h, takeTerms-onto xs [])
-
-pub firstBranches-words : (bs : Branches) (ws : List ℕ) → Packable bs → firstBranches (count bs) (words bs ++ ws) ≡ bs
-unfolding firstBranches bind
-firstBranches-words bs ws h = rw (take-items bs ws (add-zero (count bs)) h, items-all bs h, takeBranches-onto bs [])

@@ -4,8 +4,8 @@ use native.Mathlib.Omega.{arith}
 use lib.ListN.{length-append}
 use Rattle.calculus.specs.Term.{Sort, Exp, var, lam, app, con, case, nil, cons, end, branch}
 use Rattle.calculus.specs.Words.{words, size}
-use Rattle.calculus.specs.Accepted.{argumentLimit, freeLimit, Accepted}
-use Rattle.calculus.specs.Theorems.{indexLimit, IndicesWithin, Indices-bounded}
+use Rattle.calculus.specs.Accepted.{argumentLimit, freeLimit, Accepted, indexLimit}
+use Rattle.calculus.specs.Theorems.{IndicesWithin, Indices-bounded}
 
 indices-within : {s : Sort} (d limit : ℕ) (e : Exp s) → Accepted d e → size e * argumentLimit + d + freeLimit ≤ limit → IndicesWithin limit e
 indices-within d limit (var i) h m = omega arith

@@ -23,3 +23,4 @@ pub mod Earliest
 pub mod PositionLaws
 pub mod Focus
 pub mod SizeLaws
+pub mod WorkspaceLaws

@@ -28,7 +28,7 @@ unfolding takeTerms
 takeTerms-onto nil is = refl
 takeTerms-onto (cons a xs) is = rw (takeTerms-onto xs is)
 
-pub takeBranches-onto : (bs : Branches) (is : List Item) → takeBranches (count bs) (itemsOnto bs is) ≡ some (bs, is)
+takeBranches-onto : (bs : Branches) (is : List Item) → takeBranches (count bs) (itemsOnto bs is) ≡ some (bs, is)
 unfolding takeBranches
 takeBranches-onto end is = refl
 takeBranches-onto (branch t n b bs) is = rw (takeBranches-onto bs is)

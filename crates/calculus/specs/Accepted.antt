@@ -21,6 +21,10 @@ branchLimit = 15
 abbrev pub freeLimit : ℕ
 freeLimit = 255
 
+-- The largest index of a variable in a stored table. No accepted term in a workspace has a larger one (`Indices-bounded`).
+abbrev pub indexLimit : ℕ
+indexLimit = 32767
+
 abbrev pub IsTag : ℕ → Type 0
 IsTag t = (1 ≤ t) × (t ≤ tagLimit)
 

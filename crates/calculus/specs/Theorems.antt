@@ -1,5 +1,5 @@
 -- What is owed about the calculus: each statement is a type with a name, and its proof in proofs/ has that type.
-use Prim.Native.Nat.{ℕ, _+_, _≤_, _<_}
+use Prim.Native.Nat.{ℕ, _≤_, _<_}
 use mathlib.Core.Path.{_≡_}
 use mathlib.Core.List.{List, _++_}
 use mathlib.Core.Logic.{_↔_}
@@ -8,7 +8,7 @@ use lib.IntN.{ℤ, pos, _+ℤ_}
 use lib.ListN.{getD}
 use Rattle.calculus.specs.Term.{Sort, term, Exp, var, lam, app, con, case, nil, cons, end, branch, Term, count}
 use Rattle.calculus.specs.Words.{applicationKind, caseKind, kindOf, countBase, words, size, workspaceMost}
-use Rattle.calculus.specs.Accepted.{Accepted}
+use Rattle.calculus.specs.Accepted.{Accepted, indexLimit}
 use Rattle.calculus.specs.Read.{read}
 use Rattle.calculus.specs.Shift.{move}
 use Rattle.calculus.specs.Contraction.{Rule, by-beta, by-case, Contracts}
@@ -95,10 +95,6 @@ Equality-decidable = (t u : Term) → Dec (t ≡ u)
 
 abbrev pub Normality-decidable : Type 0
 Normality-decidable = (t : Term) → Dec (Normal t)
-
--- The largest index that a stored table can hold.
-abbrev pub indexLimit : ℕ
-indexLimit = 32767
 
 -- No index of the expression is above the limit.
 abbrev pub IndicesWithin : {s : Sort} → ℕ → Exp s → Type 0

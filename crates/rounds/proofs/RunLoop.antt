@@ -1,18 +1,17 @@
 -- The loop of the rounds: before each turn both workspaces hold the current terms, and the rounds still to make with what is left of the budget
 -- end in what all the rounds end in.
-use Prim.Native.Nat.{ℕ, _+_, _-_, _≤_, _<_}
-use mathlib.Core.Path.{_≡_, refl, sym, _∙_, ap, ap₂, subst, subst⁻¹}
+use Prim.Native.Nat.{ℕ, _+_, _-_, _≤_}
+use mathlib.Core.Path.{_≡_, refl, sym, _∙_, ap, subst, subst⁻¹}
 use mathlib.Core.Bool.{Bool, true, false, false≢true}
 use mathlib.Core.List.{List, _++_}
 use mathlib.Core.Option.{some}
 use native.Mathlib.Omega.{arith}
-use lib.Dec.{T}
-use lib.ListN.{length, take, drop, take-append-drop}
+use lib.ListN.{length, take, drop}
 use Rattle.calculus.specs.Term.{Term}
 use Rattle.calculus.specs.Words.{words, size}
 use Rattle.calculus.specs.Accepted.{Accepted}
 use Rattle.calculus.specs.Workspace.{termAt}
-use Rattle.calculus.specs.Rounds.{Verdict, Outcome, ended, after, rounds}
+use Rattle.calculus.specs.Rounds.{Verdict, ended, after, rounds}
 use Rattle.calculus.proofs.WordLaws.{accepted-packable}
 use Rattle.calculus.proofs.ReadLaws.{words-injective}
 use Rattle.calculus.proofs.AcceptedLaws.{leftmost-keeps-accepted}
@@ -25,8 +24,8 @@ use Rattle.rounds.specs.Claim as claim
 use Rattle.rounds.proofs.CompareLaws.{sameWords-refl, sameWords-equal}
 use Rattle.step.proofs.HeldLaws.{held-term, holds-term, Start, termAt-start}
 use Rattle.rounds.proofs.Workspaces.{termAt-size}
-use Rattle.rounds.proofs.Walk.{Moves, here, further, walk-fits, after-zero, after-after}
-use Rattle.rounds.proofs.TurnLaws.{Planned, is-normal, contracts, planned-tells, next-is, next-normal, Turned, stopped, going, turned, rounds-stopped, rounds-going}
+use Rattle.rounds.proofs.Walk.{here, further, walk-fits, after-zero, after-after}
+use Rattle.rounds.proofs.TurnLaws.{Planned, is-normal, contracts, planned-tells, next-is, next-normal, Turned, going, turned, rounds-stopped, rounds-going}
 
 begins : {ws : List ℕ} {n : ℕ} → Holds ws n → Start ws n (held ws n)
 begins {ws} {n} h = termAt-start ws n (held ws n) (h .term)

@@ -1,8 +1,8 @@
 -- A round judged from what each side would do is a round of `rounds`: it ends where that ends, and otherwise both sides go on to their next terms.
 use Prim.Native.Nat.{ℕ, _+_, _-_, _≤_}
-use mathlib.Core.Path.{_≡_, refl, sym, _∙_, ap, ap₂}
+use mathlib.Core.Path.{_≡_, refl, sym, _∙_, ap}
 use mathlib.Core.Bool.{Bool, true, false, cond, _||_}
-use mathlib.Core.Logic.{ite, if-pos}
+use mathlib.Core.Logic.{if-pos}
 use mathlib.Mathlib.Data.Bool.Basic.{or-eq-false-eq-eq-false-and-eq-false as or-false-iff}
 use mathlib.Core.Option.{Option, some, none, bind, Option·getD}
 use native.Mathlib.Omega.{arith}
@@ -13,7 +13,7 @@ use Rattle.calculus.specs.Words.{size}
 use Rattle.calculus.specs.Leftmost.{leftmost}
 use Rattle.calculus.specs.Position.{contractAt, redexAt}
 use Rattle.calculus.specs.Equality.{equal?}
-use Rattle.calculus.specs.Rounds.{Verdict, Same, Different, Budget, Full, Round, one, two, round, unequal, ended, after, rounds}
+use Rattle.calculus.specs.Rounds.{Verdict, Same, Different, Budget, Full, Round, one, two, round, ended, after, rounds}
 use Rattle.calculus.specs.Rounds as calculus
 use Rattle.calculus.proofs.PositionLaws.{redex-first, leftmost-at-redex}
 use Rattle.rounds.specs.Turn.{next, Plan, normal, contract, planAt, planned, Turn, ends, goes, spend, turn}

@@ -2,6 +2,7 @@
 use Prim.Native.Nat.{ℕ, _+_, _≤_}
 use mathlib.Core.Path.{_≡_, refl, sym, _∙_, ap, subst}
 use mathlib.Core.Bool.{Bool, true, false, cond, and-eq-true-iff}
+use mathlib.Core.List.{List}
 use mathlib.Core.Option.{Option, some, none}
 use native.Mathlib.Nat.{add-assoc}
 use native.Mathlib.Omega.{arith}
@@ -11,6 +12,7 @@ use borrow.Author.Tests.{leb-true, le-leb, eqb-true}
 use Rattle.calculus.specs.Term.{Term}
 use Rattle.calculus.specs.Words.{workspaceLeast, workspaceMost}
 use Rattle.calculus.specs.Workspace.{termAt}
+use Rattle.calculus.specs.Refusal.{wrongWorkspaceNumber, overBudgetNumber}
 use Rattle.calculus.specs.Rounds.{Verdict, Outcome, after, rounds}
 use Rattle.rounds.specs.Press.{shown, Memory, Call, budgetLimit, totalLimit, sized, affordable, refuse, conclude, pressTerms, press}
 use Rattle.rounds.specs.Claim.{Holds, together, Two-presses}
@@ -36,7 +38,7 @@ passed m c {v} {s} {l} {r} e = by _ _ _ _ refl refl refl refl e
   where
     by : (x y : Bool) (t u : Option Term) → sized (length (m .left)) (length (m .right)) (length (c .scratch)) ≡ x
         → affordable (c .budget) (m .session .total) ≡ y → termAt (m .left) (c .leftLength) ≡ t → termAt (m .right) (c .rightLength) ≡ u
-        → cond x (cond y (pressTerms m c t u) (refuse m c 9)) (refuse m c 7) .answer ≡ shown v s l r → (t : Term) × (u : Term) × Passed m c t u
+        → cond x (cond y (pressTerms m c t u) (refuse m c overBudgetNumber)) (refuse m c wrongWorkspaceNumber) .answer ≡ shown v s l r → (t : Term) × (u : Term) × Passed m c t u
     by false y t u p q f g e = absurd (refused≢shown e)
     by true false t u p q f g e = absurd (refused≢shown e)
     by true true none u p q f g e = absurd (refused≢shown e)
@@ -80,6 +82,7 @@ module _ {m : Memory} {c : Call} {t u : Term} (h : Passed m c t u) (d : Call) wh
   module _ {v v′ : Verdict} {s l r s′ l′ r′ : ℕ}
       (first : conclude C (m .session) o .answer ≡ shown v s l r) (left-is : d .leftLength ≡ l) (right-is : d .rightLength ≡ r)
       (second : press next d .answer ≡ shown v′ s′ l′ r′) (fits : s + d .budget ≤ budgetLimit)
+      (scratch : List ℕ) (same-scratch : length scratch ≡ length (c .scratch))
     where
       -- The second press is made on the terms that the first ended in.
       passed-next : Passed next d (o .left) (o .right)
@@ -98,20 +101,20 @@ module _ {m : Memory} {c : Call} {t u : Term} (h : Passed m c t u) (d : Call) wh
           subst (λ n. press next d ≡ conclude n (next .session) (rounds n (d .budget) (o .left) (o .right))) (holds-next .0 .length-is)
           (press-passed passed-next)
 
-      passed-together : Passed m (together c (o .spent) (d .budget)) t u
+      passed-together : Passed m (together c scratch (o .spent) (d .budget)) t u
       passed-together =
           let spent-is : o .spent ≡ s = cc in
           record {
-            size-passes = h .size-passes;
+            size-passes = rw same-scratch (h .size-passes);
             budget-passes = afforded-together (o .spent) (d .budget) (m .session .total) (passed-next .budget-passes) (omega arith);
             left-term = h .left-term;
             right-term = h .right-term;
           }
 
-      press-together : press m (together c (o .spent) (d .budget)) ≡ conclude C (m .session) (after (o .spent) o′)
+      press-together : press m (together c scratch (o .spent) (d .budget)) ≡ conclude C (m .session) (after (o .spent) o′)
       press-together = press-passed passed-together ∙ ap (conclude C (m .session)) (rounds-add C (c .budget) (d .budget) t u)
 
-      both-presses : (press m (together c s (d .budget)) .answer ≡ shown v′ (s + s′) l′ r′) × (press m (together c s (d .budget)) .memory ≡ press next d .memory)
+      both-presses : (press m (together c scratch s (d .budget)) .answer ≡ shown v′ (s + s′) l′ r′) × (press m (together c scratch s (d .budget)) .memory ≡ press next d .memory)
       both-presses =
           let spent-is : o .spent ≡ s = cc in
           let answers : conclude C (next .session) o′ .answer ≡ shown v′ s′ l′ r′ = sym (ap (λ p. p .answer) press-next) ∙ second in
@@ -122,8 +125,8 @@ module _ {m : Memory} {c : Call} {t u : Term} (h : Passed m c t u) (d : Call) wh
           )
 
 pub two-presses : Two-presses
-two-presses m c d v v′ s l r s′ l′ r′ e dl dr e′ fits =
+two-presses m c d scratch v v′ s l r s′ l′ r′ same e dl dr e′ fits =
     let (t, u, h) = passed m c e in
     let first = press-passed h in
     rw first
-    (both-presses h d (sym (ap (λ p. p .answer) first) ∙ e) dl dr (subst (λ p. press (p .memory) d .answer ≡ shown v′ s′ l′ r′) first e′) fits)
+    (both-presses h d (sym (ap (λ p. p .answer) first) ∙ e) dl dr (subst (λ p. press (p .memory) d .answer ≡ shown v′ s′ l′ r′) first e′) fits scratch same)

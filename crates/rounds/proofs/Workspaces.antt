@@ -1,27 +1,24 @@
 -- Workspaces that hold a term: the term that their first words are, by how many are taken, and the workspace of a term's words and zeros.
-use Prim.Native.Nat.{ℕ, _+_, _-_, _≤_}
+use Prim.Native.Nat.{ℕ, _-_, _≤_}
 use mathlib.Core.Path.{_≡_, refl, sym, _∙_, ap}
 use mathlib.Core.Bool.{Bool, true, false, cond}
 use mathlib.Core.List.{List, _++_}
 use mathlib.Core.Option.{Option, some, none, Option·none-ne-some}
-use native.Mathlib.Nat.{add-sub-of-le}
 use native.Mathlib.Omega.{arith}
 use lib.Dec.{leb, eqb}
-use lib.ListN.{length, take, drop, replicate, length-append, length-replicate, take-append-drop}
-use lib.Seq.{length-take-le, take-append-seam}
-use borrow.Author.Tests.{leb-true, le-leb, eqb-true, eqb-false}
+use lib.ListN.{length, take, drop, replicate, length-append, take-append-drop}
+use lib.Seq.{length-take-le}
+use borrow.Author.Tests.{leb-true, eqb-true, eqb-false}
 use Rattle.calculus.specs.Term.{Term}
 use Rattle.calculus.specs.Words.{words, size}
 use Rattle.calculus.specs.Accepted.{Accepted}
 use Rattle.calculus.specs.Read.{read}
 use Rattle.calculus.specs.Workspace.{termAt, padded}
 use Rattle.calculus.proofs.WordLaws.{accepted-packable}
-use Rattle.calculus.proofs.ReadLaws.{read-words, read-sound, read-accepted}
+use Rattle.calculus.proofs.ReadLaws.{read-sound, read-accepted}
 use Rattle.calculus.proofs.PrefixFree.{words-prefix-free}
+use Rattle.calculus.proofs.WorkspaceLaws.{termAt-words, length-padded}
 use Rattle.rounds.specs.Claim.{Holds}
-
-pub length-padded : (C : ℕ) (ws : List ℕ) → length ws ≤ C → length (padded C ws) ≡ C
-length-padded C ws h = length-append ws _ ∙ ap (λ k. length ws + k) (length-replicate (C - length ws) 0) ∙ add-sub-of-le h
 
 pub holds-padded : {C : ℕ} {t : Term} → Accepted 0 t → size t ≤ C → Holds C t (padded C (words t))
 holds-padded {C} {t} a h =
@@ -40,11 +37,7 @@ whole-term {t = t} {u = u} {ws = ws} h n k e =
     sym (length-take-le n ws k) ∙ ap length (sym w) ∙ ap size (sym q)
 
 pub termAt-size : {C : ℕ} {t : Term} {ws : List ℕ} → Holds C t ws → termAt ws (size t) ≡ some t
-unfolding termAt
-termAt-size {t = t} {ws = ws} h =
-    let first : take (size t) ws ≡ words t = ap (take (size t)) (h .contents) ∙ take-append-seam (words t) (h .others) in
-    let fits : size t ≤ length ws = omega (arith, holds-fits h, h .length-is) in
-    rw (le-leb (size t) (length ws) fits, first) (read-words t (h .accepted))
+termAt-size {t = t} h = rw (h .contents) (termAt-words t (h .others) (h .accepted))
 
 termAt-other : {C : ℕ} {t : Term} {ws : List ℕ} → Holds C t ws → (n : ℕ) → (n ≡ size t → ⊥) → termAt ws n ≡ none
 unfolding termAt

@@ -141,14 +141,15 @@ Every-list-of-presses =
     (C : ℕ) (t u : Term) (start : Memory) → Holds C t (start .left) → Holds C u (start .right) → (calls : List Call) → Claim C t u start calls
 
 -- Two presses, neither refused, the second on what the first left and with the lengths it returned, end in the terms, verdict and session of one
--- press whose budget is the first's spent plus the second's budget, if that is at most 1,000,000.
-abbrev pub together : Call → (spent budget : ℕ) → Call
-together c spent budget =
-    record { scratch = c .scratch; leftLength = c .leftLength; rightLength = c .rightLength; budget = spent + budget }
+-- press whose budget is the first's spent plus the second's budget, if that is at most 1,000,000. Its scratch may be any of that length.
+abbrev pub together : Call → (scratch : List ℕ) (spent budget : ℕ) → Call
+together c scratch spent budget =
+    record { scratch = scratch; leftLength = c .leftLength; rightLength = c .rightLength; budget = spent + budget }
 
 abbrev pub Two-presses : Type 0
 Two-presses =
-    (m : Memory) (c d : Call) (v v′ : Verdict) (s l r s′ l′ r′ : ℕ) → press m c .answer ≡ shown v s l r → d .leftLength ≡ l → d .rightLength ≡ r
+    (m : Memory) (c d : Call) (scratch : List ℕ) (v v′ : Verdict) (s l r s′ l′ r′ : ℕ) → length scratch ≡ length (c .scratch)
+    → press m c .answer ≡ shown v s l r → d .leftLength ≡ l → d .rightLength ≡ r
     → press (press m c .memory) d .answer ≡ shown v′ s′ l′ r′ → s + d .budget ≤ budgetLimit
-    → (press m (together c s (d .budget)) .answer ≡ shown v′ (s + s′) l′ r′)
-    × (press m (together c s (d .budget)) .memory ≡ press (press m c .memory) d .memory)
+    → (press m (together c scratch s (d .budget)) .answer ≡ shown v′ (s + s′) l′ r′)
+    × (press m (together c scratch s (d .budget)) .memory ≡ press (press m c .memory) d .memory)

@@ -4,6 +4,7 @@ ghost use Prim.Native.Nat.{_+_, _≤_};
 ghost use lib.ListN.{length};
 ghost use Rattle.calculus.specs.Rounds.{rounds};
 ghost use Rattle.rounds.specs.Press.{sized, affordable, press, conclude, totalLimit, budgetLimit};
+ghost use Rattle.rounds.specs.Session.{fresh};
 ghost use Rattle.rounds.specs.Show.{show, partOf};
 ghost use Rattle.rounds.specs.Types.{sessionOf, memoryOf, callOf, pressedOf};
 ghost use Rattle.rounds.specs.Run.{Runs};
@@ -37,6 +38,18 @@ impl Session {
     pub const BUDGET_MOST: u32 = 1000000;
 
     pub const TOTAL_MOST: u64 = 1000000000;
+
+    // The session before the first press.
+    pub fn fresh() -> Self
+        ensures { λ r. ⌜ sessionOf r ≡ fresh ⌝ }
+    {
+        Session {
+            total: 0,
+            left: 0,
+            right: 0,
+            verdict: Verdict::Budget,
+        }
+    }
 }
 
 // A press's answer: the number of the refusal, or what is shown.

@@ -11,13 +11,14 @@ use Rattle.calculus.specs.Term.{Sort, Exp, Term, Terms, count}
 use Rattle.calculus.specs.Words.{countBase, workspaceMost, words, size}
 use Rattle.calculus.specs.Skip.{span}
 use Rattle.calculus.specs.Substitution.{subst}
-use Rattle.calculus.specs.Theorems.{Packable, indexLimit, IndicesWithin}
+use Rattle.calculus.specs.Theorems.{Packable, IndicesWithin}
 use Rattle.calculus.proofs.WordLaws.{accepted-packable}
 use Rattle.calculus.proofs.SizeLaws.{size-subst}
 use Rattle.calculus.proofs.FirstLaws.{span-items}
 use Rattle.calculus.proofs.Indices.{indices-bounded}
 use Rattle.calculus.proofs.PositionLaws.{contract-at-position, contractAt-within}
 use Rattle.calculus.proofs.Focus.{Focus, focus}
+use Rattle.calculus.specs.Accepted.{indexLimit}
 use Rattle.substitution.specs.Results.{Substitutable, substituted}
 use Rattle.substitution.proofs.ResultLaws.{substituted-at, substitutable-at}
 use Rattle.step.specs.declared.redex.Redex.the-variants as redex

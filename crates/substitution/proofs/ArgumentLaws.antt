@@ -16,8 +16,9 @@ use Rattle.calculus.specs.Words.{variableKind, kindOf, payloadOf, words}
 use Rattle.calculus.specs.Skip.{span}
 use Rattle.calculus.specs.Shift.{shift}
 use Rattle.calculus.specs.Substitution.{argument}
-use Rattle.calculus.specs.Theorems.{Packable, indexLimit, IndicesWithin}
+use Rattle.calculus.specs.Theorems.{Packable, IndicesWithin}
 use Rattle.calculus.proofs.SkipLaws.{span-words, span-zero}
+use Rattle.calculus.specs.Accepted.{indexLimit}
 use Rattle.substitution.specs.Moves.{Moves}
 use Rattle.substitution.specs.Rewritten.{shifting, substituting, rewritten, place}
 use Rattle.substitution.proofs.MoveLaws.{moves-down}

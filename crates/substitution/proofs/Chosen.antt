@@ -1,47 +1,27 @@
 -- The argument that the code chooses for a word of the body, by its start: it may be raised, its words are those that stand for the word, and
 -- the next start tells its length.
-use Prim.Native.Nat.{ℕ, suc, _+_, _*_, _-_, _≤_, _<_}
+use Prim.Native.Nat.{ℕ, _+_, _*_, _-_, _≤_, _<_}
 use mathlib.Core.Path.{_≡_, refl, sym, _∙_, ap, ap₂}
 use mathlib.Core.List.{List, _++_}
 use native.Mathlib.Omega.{arith}
-use lib.IntN.{ℤ, pos}
-use lib.ListN.{length, getD, drop, length-append, length-drop}
+use lib.IntN.{pos}
+use lib.ListN.{length, getD, drop, length-drop}
 use lib.Seq.{drop-drop}
-use Rattle.calculus.specs.Term.{Sort, Exp, Terms, var, lam, app, con, case, nil, cons, end, branch, count}
+use Rattle.calculus.specs.Term.{Terms, count}
 use Rattle.calculus.specs.Words.{workspaceMost, countBase, payloadOf, words, size}
 use Rattle.calculus.specs.Skip.{span}
 use Rattle.calculus.specs.First.{firstTerms}
 use Rattle.calculus.specs.Shift.{shift}
-use Rattle.calculus.specs.Theorems.{indexLimit}
 use Rattle.calculus.proofs.SkipLaws.{span-bounded}
 use Rattle.calculus.proofs.FirstLaws.{span-items}
+use Rattle.calculus.specs.Accepted.{indexLimit}
 use Rattle.substitution.specs.Rewritten.{substituting, rewritten, place}
 use Rattle.substitution.specs.Results.{shifted, Shiftable, Substitutable}
 use Rattle.substitution.proofs.MoveLaws.{movable-up}
 use Rattle.substitution.proofs.ResultLaws.{starts-split, shifted-at, shiftable-at}
+use Rattle.substitution.proofs.ItemLaws.{size-shift}
 use Rattle.substitution.proofs.StartLaws.{Placed, span-add}
 use Rattle.substitution.proofs.ArgumentLaws.{Argument, argument-some, place-index, rewritten-argument}
-
-size-shift : {s : Sort} (z : ℤ) (c : ℕ) (e : Exp s) → size (shift z c e) ≡ size e
-size-shift z c (var i) = refl
-size-shift z c (lam b) = ap suc (size-shift z (suc c) b)
-size-shift z c (app f a) =
-    omega (arith, length-append (words (shift z c f)) (words (shift z c a)), length-append (words f) (words a), size-shift z c f, size-shift z c a)
-size-shift z c (con t xs) = ap suc (size-shift z c xs)
-size-shift z c (case e bs) =
-    omega (arith, length-append (words (shift z c e)) (words (shift z c bs)), length-append (words e) (words bs), size-shift z c e, size-shift z c bs)
-size-shift z c nil = refl
-size-shift z c (cons a xs) =
-    omega (arith, length-append (words (shift z c a)) (words (shift z c xs)), length-append (words a) (words xs), size-shift z c a, size-shift z c xs)
-size-shift z c end = refl
-size-shift z c (branch t n b bs) =
-    omega (
-      arith,
-      length-append (words (shift z (c + n) b)) (words (shift z c bs)),
-      length-append (words b) (words bs),
-      size-shift z (c + n) b,
-      size-shift z c bs,
-    )
 
 module _ {ws : List ℕ} {body args n : ℕ} (h : Substitutable ws body args n) {starts : List ℕ} (p : Placed ws args starts n) (d w : ℕ) (bounded : d ≤ countBase * workspaceMost) {j : ℕ} (place-is : j ≡ place n d w) (chosen : j < n) where
   abbrev xs : Terms
@@ -81,6 +61,18 @@ module _ {ws : List ℕ} {body args n : ℕ} (h : Substitutable ws body args n) 
   pub chosen-words : rewritten (substituting xs) d w ≡ words (shifted ws (getD starts j 0) (pos d))
   chosen-words = is-argument ∙ ap words (sym (shifted-at ws _ (found .tree) (found .rest) stands (found .packable) (pos d)))
 
+  -- It ends where the next starts.
+  pub chosen-end : getD starts (j + 1) 0 ≡ getD starts j 0 + span 1 (drop (getD starts j 0) ws)
+  chosen-end =
+      omega (
+        arith,
+        start-is,
+        p .placed (j + 1) (omega arith),
+        span-add (drop args ws) j 1,
+        ap (span 1) (drop-drop (span j (drop args ws)) args ws),
+        ap (λ m. span 1 (drop m ws)) start-is,
+      )
+
   pub chosen-length : length (rewritten (substituting xs) d w) ≡ getD starts (j + 1) 0 - getD starts j 0
   chosen-length =
       omega (
@@ -88,17 +80,13 @@ module _ {ws : List ℕ} {body args n : ℕ} (h : Substitutable ws body args n) 
         ap length is-argument,
         size-shift (pos d) 0 (found .tree),
         span-items (found .tree) (found .rest) refl (found .packable),
-        ap (span 1) (sym (drop-drop (span j (drop args ws)) args ws)),
-        ap (λ m. span 1 (drop m ws)) start-is,
         ap (span 1) stands,
-        span-add (drop args ws) j 1,
-        start-is,
-        p .placed (j + 1) (omega arith),
+        chosen-end,
       )
 
   pub chosen-rises : getD starts j 0 ≤ getD starts (j + 1) 0
-  chosen-rises = omega (arith, start-is, p .placed (j + 1) (omega arith), span-add (drop args ws) j 1)
+  chosen-rises = omega (arith, chosen-end)
 
   pub chosen-short : getD starts (j + 1) 0 - getD starts j 0 ≤ workspaceMost
   chosen-short =
-      omega (arith, start-is, p .placed (j + 1) (omega arith), span-bounded (j + 1) (drop args ws), length-drop args ws, h .short)
+      omega (arith, chosen-end, span-bounded 1 (drop (getD starts j 0) ws), length-drop (getD starts j 0) ws, h .short)

@@ -1,13 +1,14 @@
 -- Laws of `depths`: no more numbers than words, and each at most `countBase` for each word before it.
 use Prim.Native.Nat.{ℕ, zero, suc, _+_, _*_, _≤_}
-use mathlib.Core.Path.{_≡_, refl}
+use mathlib.Core.Path.{_≡_, refl, sym, _∙_, ap}
 use mathlib.Core.Bool.{Bool, true, false, cond}
 use mathlib.Core.List.{List, [], _∷_, _++_}
 use native.Mathlib.Omega.{arith}
 use lib.Dec.{eqb}
-use lib.ListN.{length, replicate}
+use lib.ListN.{length, take, replicate, length-append, length-replicate}
+use lib.Seq.{take-nil}
 use Rattle.calculus.specs.Words.{abstractionKind, branchKind, countBase, kindOf, payloadOf, countOf}
-use Rattle.calculus.specs.Skip.{arity}
+use Rattle.calculus.specs.Skip.{arity, span}
 use Rattle.substitution.specs.Depths.{depths}
 use Rattle.words.specs.Bound.{binding as bound, bound as binders}
 
@@ -15,10 +16,28 @@ pub depths-done : (ws : List ℕ) → depths [] ws ≡ []
 depths-done [] = refl
 depths-done (w ∷ ws) = refl
 
+length-items : (w d : ℕ) (ds : List ℕ) → length (replicate (arity w) (d + binders w) ++ ds) ≡ arity w + length ds
+length-items w d ds = length-append (replicate (arity w) (d + binders w)) ds ∙ (rw (length-replicate (arity w) (d + binders w)))
+
 pub length-depths : (ws ds : List ℕ) → length (depths ds ws) ≤ length ws
 length-depths [] ds = omega arith
 length-depths (w ∷ ws) [] = omega arith
 length-depths (w ∷ ws) (d ∷ ds) = omega (arith, length-depths ws (replicate (arity w) (d + binders w) ++ ds))
+
+-- They are as many as the items have words, and the words after the items do not matter.
+pub span-depths : (ws ds : List ℕ) → length (depths ds ws) ≡ span (length ds) ws
+span-depths [] ds = refl
+span-depths (w ∷ ws) [] = refl
+span-depths (w ∷ ws) (d ∷ ds) =
+    ap suc (span-depths ws (replicate (arity w) (d + binders w) ++ ds) ∙ ap (λ j. span j ws) (length-items w d ds))
+
+pub depths-within : (ws ds : List ℕ) → depths ds (take (span (length ds) ws) ws) ≡ depths ds ws
+depths-within [] ds = rw (take-nil (span (length ds) []))
+depths-within (w ∷ ws) [] = refl
+depths-within (w ∷ ws) (d ∷ ds) =
+    ap (λ es. d ∷ es)
+    (ap (λ j. depths (replicate (arity w) (d + binders w) ++ ds) (take (span j ws) ws)) (sym (length-items w d ds))
+    ∙ depths-within ws (replicate (arity w) (d + binders w) ++ ds))
 
 -- Numbers of binders that are at most b.
 abbrev pub Bounded : ℕ → List ℕ → Type 0

@@ -1,9 +1,12 @@
 pub mod MoveLaws
 pub mod RewrittenLaws
+pub mod FillLaws
 pub mod DepthLaws
 pub mod Walking
 pub mod Traversal
 pub mod ResultLaws
+pub mod ItemLaws
+pub mod Moving
 pub mod Writing
 pub mod StartLaws
 pub mod ArgumentLaws

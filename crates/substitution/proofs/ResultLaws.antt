@@ -7,11 +7,11 @@ use lib.ListN.{length, drop, take-append-drop}
 use lib.Seq.{take-append-seam}
 use Rattle.calculus.specs.Term.{Sort, Exp, Term, Terms, count}
 use Rattle.calculus.specs.Words.{workspaceMost, words, size}
-use Rattle.calculus.specs.Accepted.{argumentLimit}
+use Rattle.calculus.specs.Accepted.{argumentLimit, indexLimit}
 use Rattle.calculus.specs.First.{firstTerm, firstTerms}
 use Rattle.calculus.specs.Shift.{shift}
 use Rattle.calculus.specs.Substitution.{subst}
-use Rattle.calculus.specs.Theorems.{Packable, indexLimit, IndicesWithin}
+use Rattle.calculus.specs.Theorems.{Packable, IndicesWithin}
 use Rattle.calculus.proofs.FirstLaws.{firstTerm-words, firstTerms-words}
 use Rattle.substitution.specs.Moves.{Movable}
 use Rattle.substitution.specs.Depths.{depths}

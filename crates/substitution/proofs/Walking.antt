@@ -1,160 +1,187 @@
--- The walk of the code's `depths`. It keeps the items still to come in groups under the same binders: of each group how many items are left and
--- the binders around them. A word takes an item of the last group and opens a group for the items after it.
+-- The walk of the code's `depths`. The binders around the items still to come stand at the end of the room, the next item first; a word takes the
+-- first of them and puts those of the items after it there.
 use Prim.Native.Nat.{ℕ, zero, suc, _+_, _*_, _-_, _≤_, _<_}
-use mathlib.Core.Path.{_≡_, refl, _∙_}
-use mathlib.Core.List.{List, [], _∷_, _++_}
+use mathlib.Core.Path.{_≡_, refl, sym, _∙_, ap}
+use mathlib.Core.List.{List, [], _∷_, _++_, append-nil}
 use native.Mathlib.Numerals.{add-one}
 use native.Mathlib.Omega.{arith}
-use lib.ListN.{length, getD, drop, set, replicate, length-set, drop-of-length-le}
-use lib.Seq.{sets, drop-cons, getD-set-same, getD-set-other}
-use Rattle.calculus.specs.Words.{workspaceMost, countBase}
-use Rattle.calculus.specs.Skip.{arity}
+use lib.ListN.{length, getD, take, drop, set, replicate, length-set, length-drop, length-append, length-replicate, drop-of-length-le}
+use lib.Seq.{drop-cons, getD-set-same, take-suc-set, drop-set-lt, append-snoc, take-append-le, drop-at, take-take, length-take-le, take-all}
+use borrow.Rule.Slice.PartMut.{midOf, putMid, post-is, mid-len, same-len-mid}
+use Rattle.calculus.specs.Term.{Term}
+use Rattle.calculus.specs.Words.{countBase, words, size}
+use Rattle.calculus.specs.Skip.{arity, span}
+use Rattle.calculus.specs.First.{firstTerm}
+use Rattle.calculus.specs.Theorems.{Packable}
+use Rattle.calculus.proofs.WordLaws.{size-positive}
+use Rattle.calculus.proofs.SkipLaws.{span-zero}
+use Rattle.calculus.proofs.FirstLaws.{span-items}
 use Rattle.substitution.specs.Depths.{depths}
+use Rattle.substitution.specs.Results.{Whole}
 use Rattle.words.specs.Bound.{bound as binders}
-use Rattle.substitution.specs.Rewritten.{Written}
-use Rattle.substitution.proofs.DepthLaws.{depths-done, Bounded, bounded-word}
+use Rattle.substitution.proofs.DepthLaws.{Bounded, bounded-word}
 
--- The items still to come, next first, from the first g groups.
-abbrev pub pending : List ℕ → List ℕ → ℕ → List ℕ
-pending left around zero = []
-pending left around (suc g) = replicate (getD left g 0) (getD around g 0) ++ pending left around g
+-- The first j items end within the words.
+abbrev Complete : List ℕ → (j : ℕ) → Type 0
+Complete [] j = j ≡ 0
+Complete (w ∷ ws) zero = Unit {0}
+Complete (w ∷ ws) (suc j) = Complete ws (arity w + j)
 
-pending-same : (left left′ around around′ : List ℕ) (g : ℕ)
-    → ((j : ℕ) → j < g → getD left′ j 0 ≡ getD left j 0)
-    → ((j : ℕ) → j < g → getD around′ j 0 ≡ getD around j 0)
-    → pending left′ around′ g ≡ pending left around g
-pending-same left left′ around around′ zero p q = refl
-pending-same left left′ around around′ (suc g) p q =
-    rw (p g (omega arith), q g (omega arith), pending-same left left′ around around′ g (λ j h. p j (omega arith)) (λ j h. q j (omega arith)))
+-- An item has a word at least.
+complete-span : (ws : List ℕ) (j : ℕ) → Complete ws j → j ≤ span j ws
+complete-span [] j q = omega arith
+complete-span (w ∷ ws) zero q = omega arith
+complete-span (w ∷ ws) (suc j) q = omega (arith, complete-span ws (arity w + j) q)
 
-next : (n d : ℕ) (ds : List ℕ) → (n ≡ 0 → ⊥) → replicate n d ++ ds ≡ d ∷ (replicate (n - 1) d ++ ds)
-next zero d ds h = absurd (h refl)
-next (suc n) d ds h = let e : suc n - 1 ≡ n = omega arith in rw e
+-- Items end within the words if one more word makes them no longer.
+complete-short : (ws : List ℕ) (j : ℕ) → span j (ws ++ 0 ∷ []) ≡ span j ws → Complete ws j
+complete-short [] zero q = refl
+complete-short [] (suc j) q = absurd (omega arith)
+complete-short (w ∷ ws) zero q = tt
+complete-short (w ∷ ws) (suc j) q = complete-short ws (arity w + j) (omega arith)
 
--- An empty last group.
-pending-empty : (left around : List ℕ) (groups : ℕ) → (groups ≡ 0 → ⊥) → getD left (groups - 1) 0 ≡ 0
-    → pending left around groups ≡ pending left around (groups - 1)
-pending-empty left around zero h q = absurd (h refl)
-pending-empty left around (suc g) h q = let e : suc g - 1 ≡ g = omega arith in rw (e, rw e at q)
+span-term : (t : Term) → Packable t → span 1 (words t) ≡ size t
+span-term t h = ap (span 1) (sym (append-nil (words t))) ∙ span-items t [] refl h
 
--- The items still to come after the next one, which is in group g.
-abbrev rest : List ℕ → List ℕ → ℕ → List ℕ
-rest left around g = replicate (getD left g 0 - 1) (getD around g 0) ++ pending left around g
+complete-term : (t : Term) → Packable t → Complete (words t) 1
+complete-term t h = complete-short (words t) 1 (span-items t (0 ∷ []) refl h ∙ sym (span-term t h))
 
-pending-next : (left around : List ℕ) (groups : ℕ) → (groups ≡ 0 → ⊥) → (getD left (groups - 1) 0 ≡ 0 → ⊥)
-    → pending left around groups ≡ getD around (groups - 1) 0 ∷ rest left around (groups - 1)
-pending-next left around zero h s = absurd (h refl)
-pending-next left around (suc g) h s =
-    let e : suc g - 1 ≡ g = omega arith in
-    rw e (next (getD left g 0) (getD around g 0) (pending left around g) (rw e at s))
+span-some : (j : ℕ) (ws : List ℕ) → 0 < span j ws → 0 < j
+span-some zero ws h = absurd (omega (arith, span-zero ws))
+span-some (suc j) ws h = omega arith
 
--- A word of the last group: one item less there, and a new group of a items under b binders.
-pending-word : (left around : List ℕ) (groups a b : ℕ) → (groups ≡ 0 → ⊥) → groups < length left → groups < length around
-    → pending (set (set left (groups - 1) (getD left (groups - 1) 0 - 1)) groups a) (set around groups b) (groups + 1)
-    ≡ replicate a b ++ rest left around (groups - 1)
-pending-word left around zero a b h p q = absurd (h refl)
-pending-word left around (suc g) a b h p q =
-    let e : suc g - 1 ≡ g = omega arith in
-    let l = length-set left g (getD left g 0 - 1) in
-    rw (
-      add-one,
-      e,
-      getD-set-same (set left g (getD left g 0 - 1)) (suc g) a 0 (omega arith),
-      getD-set-same around (suc g) b 0 q,
-      getD-set-other (set left g (getD left g 0 - 1)) (suc g) g a 0 (omega arith),
-      getD-set-same left g (getD left g 0 - 1) 0 (omega arith),
-      getD-set-other around (suc g) g b 0 (omega arith),
-      pending-same left (set (set left g (getD left g 0 - 1)) (suc g) a) around (set around (suc g) b) g
-          (λ j m. getD-set-other (set left g (getD left g 0 - 1)) (suc g) j a 0 (omega arith) ∙ getD-set-other left g j (getD left g 0 - 1) 0 (omega arith))
-          (λ j m. getD-set-other around (suc g) j b 0 (omega arith)),
-    )
+pub whole-some : {item : List ℕ} → Whole item → 1 ≤ length item
+whole-some {item} h = omega (arith, size-positive (firstTerm item), ap length (h .all))
 
--- The walk from position `at`, when it stands at i: the work still to do leads to what the whole work leads to.
-pub record Walking (src : List ℕ) (at : ℕ) (depth₀ depth left around : List ℕ) (groups i : ℕ) : Type 0 where
-  pub after : at ≤ i
-  pub few : groups ≤ suc (i - at)
-  pub left-room : length left ≡ suc workspaceMost
-  pub around-room : length around ≡ suc workspaceMost
-  pub same-length : length depth ≡ length depth₀
-  pub bounded : Bounded (countBase * (i - at)) (pending left around groups)
-  pub work : sets depth (i - at) (depths (pending left around groups) (drop i src)) ≡ sets depth₀ 0 (depths (0 ∷ []) (drop at src))
-  pub count : i - at + length (depths (pending left around groups) (drop i src)) ≡ length (depths (0 ∷ []) (drop at src))
+-- The walk stands at word i; the items still to come are those from place `next` on.
+pub record Walking (item depth : List ℕ) (next i : ℕ) : Type 0 where
+  pub same-length : length depth ≡ length item
+  pub before : i ≤ length item
+  pub within : next ≤ length depth
+  pub complete : Complete (drop i item) (length (drop next depth))
+  pub all : span (length (drop next depth)) (drop i item) ≡ length item - i
+  pub bounded : Bounded (countBase * i) (drop next depth)
+  pub work : take i depth ++ depths (drop next depth) (drop i item) ≡ depths (0 ∷ []) item
 
-pub walking-start : (src : List ℕ) (at : ℕ) (depth left around : List ℕ)
-    → getD left 0 0 ≡ 1 → getD around 0 0 ≡ 0 → length left ≡ suc workspaceMost → length around ≡ suc workspaceMost
-    → Walking src at depth depth left around 1 at
-walking-start src at depth left around one none room room′ =
-    let z : at - at ≡ 0 = omega arith in
+pub walking-start : (item depth : List ℕ) (next : ℕ) → Whole item → length depth ≡ length item → next ≡ length depth - 1
+    → Walking item (set depth next 0) next 0
+walking-start item depth next h same last =
+    let some = whole-some h in
+    let e : drop next (set depth next 0) ≡ 0 ∷ [] =
+    drop-cons (set depth next 0) next 0 (omega (arith, length-set depth next 0))
+    ∙ (rw (getD-set-same depth next 0 0 (omega arith), drop-of-length-le (set depth next 0) {i = suc next} (omega (arith, length-set depth next 0)))) in
     record {
-      after = omega arith;
-      few = omega arith;
-      left-room = room;
-      around-room = room′;
-      same-length = refl;
-      bounded = rw (one, none) (omega arith, tt);
-      work = rw (one, none, z);
-      count = rw (one, none) (omega arith);
+      same-length = length-set depth next 0 ∙ same;
+      before = omega arith;
+      within = omega (arith, length-set depth next 0);
+      complete = rw e (rw (h .all) at (complete-term (firstTerm item) (h .packable)));
+      all = rw e (omega (arith, rw (h .all) at (span-term (firstTerm item) (h .packable))));
+      bounded = rw e (omega arith, tt);
+      work = rw e;
     }
 
-module _ {src : List ℕ} {at : ℕ} {depth₀ depth left around : List ℕ} {groups i : ℕ} (v : Walking src at depth₀ depth left around groups i) where
-  -- The last group is empty.
-  pub walking-empty : (groups ≡ 0 → ⊥) → getD left (groups - 1) 0 ≡ 0 → Walking src at depth₀ depth left around (groups - 1) i
-  walking-empty more none =
-      let e = pending-empty left around groups more none in
-      record {
-        after = v .after;
-        few = omega arith;
-        left-room = v .left-room;
-        around-room = v .around-room;
-        same-length = v .same-length;
-        bounded = rw e at (v .bounded);
-        work = rw e at (v .work);
-        count = rw e at (v .count);
-      }
-
-  -- The word at i is an item of the last group; it has a items after it and puts b binders around them.
-  module _ (within : i < length src) (short : length src ≤ workspaceMost) (more : groups ≡ 0 → ⊥) (some : getD left (groups - 1) 0 ≡ 0 → ⊥) where
+module _ {item depth : List ℕ} {next i : ℕ} (v : Walking item depth next i) where
+  -- The word at i is the first of the items still to come.
+  module _ (more : i < length item) where
     abbrev w : ℕ
-    w = getD src i 0
+    w = getD item i 0
 
     abbrev d : ℕ
-    d = getD around (groups - 1) 0
+    d = getD depth next 0
 
-    pub binders-bounded : d ≤ countBase * (i - at)
-    binders-bounded = (rw (pending-next left around groups more some) at (v .bounded)) .0
+    pub some-left : next < length depth
+    some-left = omega (arith, span-some (length (drop next depth)) (drop i item) (omega (arith, v .all)), length-drop next depth)
 
-    module _ (a b : ℕ) (arity-is : a ≡ arity w) (binders-is : b ≡ binders w) where
-      abbrev left′ : List ℕ
-      left′ = set (set left (groups - 1) (getD left (groups - 1) 0 - 1)) groups a
+    items : drop next depth ≡ d ∷ drop (suc next) depth
+    items = drop-cons depth next 0 some-left
 
-      abbrev around′ : List ℕ
-      around′ = set around groups (d + b)
+    words-left : drop i item ≡ w ∷ drop (suc i) item
+    words-left = drop-cons item i 0 more
 
-      pub walking-word : Walking src at depth₀ (set depth (i - at) d) left′ around′ (groups + 1) (i + 1)
-      walking-word =
-          let p = pending-next left around groups more some in
-          let q = pending-word left around groups a (d + b) more (omega arith) (omega arith) in
-          let s : i + 1 - at ≡ suc (i - at) = omega arith in
-          let e : depths (pending left around groups) (drop i src) ≡ d ∷ depths (pending left′ around′ (groups + 1)) (drop (i + 1) src) = rw (p, q, drop-cons src i 0 within, add-one i, arity-is, binders-is) in
-          record {
-            after = omega arith;
-            few = omega arith;
-            left-room = simp length-set (v .left-room);
-            around-room = simp length-set (v .around-room);
-            same-length = simp length-set (v .same-length);
-            bounded =
-                rw (q, s, arity-is, binders-is)
-                (bounded-word (countBase * (i - at)) (countBase * suc (i - at)) w d _ (rw p at (v .bounded)) (omega arith));
-            work = rw s (rw e at (v .work));
-            count = omega (arith, rw e at (v .count));
-          }
+    pub within-written : next + 1 ≤ length (set depth i d)
+    within-written = omega (arith, some-left, length-set depth i d)
 
-  -- Where no item is to come, or no word, the work is done.
-  walking-done : depths (pending left around groups) (drop i src) ≡ [] → Written depth₀ 0 (depths (0 ∷ []) (drop at src)) depth (i - at)
-  walking-done done = record { slice = rw done at (v .work); position = omega (arith, rw done at (v .count)) }
+    pub binders-bounded : d ≤ countBase * i
+    binders-bounded = (rw items at (v .bounded)) .0
 
-  pub walking-no-item : groups ≡ 0 → Written depth₀ 0 (depths (0 ∷ []) (drop at src)) depth (i - at)
-  walking-no-item none = walking-done (rw none (depths-done (drop i src)))
+    -- It has a items after it.
+    module _ (a : ℕ) (arity-is : a ≡ arity w) where
+      complete-next : Complete (drop (suc i) item) (a + length (drop (suc next) depth))
+      complete-next = rw arity-is (rw (items, words-left) at (v .complete))
 
-  pub walking-no-word : length src ≤ i → Written depth₀ 0 (depths (0 ∷ []) (drop at src)) depth (i - at)
-  walking-no-word past = walking-done (rw (drop-of-length-le src past))
+      all-next : span (a + length (drop (suc next) depth)) (drop (suc i) item) ≡ length item - suc i
+      all-next = rw arity-is (omega (arith, rw (items, words-left) at (v .all)))
+
+      -- They stay clear of the places written.
+      pub clear : i + a ≤ next
+      clear =
+          omega (
+            arith,
+            complete-span (drop (suc i) item) (a + length (drop (suc next) depth)) complete-next,
+            all-next,
+            length-drop (suc next) depth,
+            v .same-length,
+            some-left,
+          )
+
+      abbrev from : ℕ
+      from = next + 1 - a
+
+      abbrev written : List ℕ
+      written = set depth i d
+
+      abbrev part : List ℕ
+      part = midOf from (next + 1 - from) written
+
+      length-part : length part ≡ a
+      length-part = mid-len from (next + 1) written within-written ∙ (omega (arith, clear))
+
+      -- It puts b binders around them.
+      module _ (b : ℕ) (binders-is : b ≡ binders w) {filled : List ℕ} (filled-is : filled ≡ replicate (length part) (d + b)) where
+        abbrev depth′ : List ℕ
+        depth′ = putMid from (next + 1 - from) written filled
+
+        from-within : from ≤ length written
+        from-within = omega (arith, within-written)
+
+        items-next : drop from depth′ ≡ replicate a (d + b) ++ drop (suc next) depth
+        items-next =
+            drop-at (take from written) _ from (length-take-le from written from-within)
+            ∙ (rw (filled-is, length-part, post-is from (next + 1) written (omega arith), add-one next, drop-set-lt (suc next) depth i d (omega (arith, clear))))
+
+        length-next : length (drop from depth′) ≡ a + length (drop (suc next) depth)
+        length-next = ap length items-next ∙ length-append (replicate a (d + b)) _ ∙ (rw (length-replicate a (d + b)))
+
+        written-next : take (suc i) depth′ ≡ take i depth ++ (d ∷ [])
+        written-next =
+            take-append-le (suc i) (take from written) _ (omega (arith, clear, length-take-le from written from-within))
+            ∙ take-take (suc i) from written (omega (arith, clear))
+            ∙ take-suc-set depth i d (omega (arith, v .same-length))
+
+        same-length-next : length depth′ ≡ length item
+        same-length-next =
+            same-len-mid from (next + 1 - from) written filled (ap length filled-is ∙ length-replicate (length part) (d + b))
+            ∙ length-set depth i d
+            ∙ v .same-length
+
+        pub walking-word : Walking item depth′ from (i + 1)
+        walking-word =
+            record {
+              same-length = same-length-next;
+              before = omega arith;
+              within = omega (arith, same-length-next, v .same-length, some-left);
+              complete = rw (add-one i, length-next) complete-next;
+              all = rw (add-one i, length-next) all-next;
+              bounded =
+                  rw (add-one i, items-next, arity-is, binders-is)
+                  (bounded-word (countBase * i) (countBase * suc i) w d _ (rw items at (v .bounded)) (omega arith));
+              work =
+                  rw (add-one i, written-next, items-next, arity-is, binders-is)
+                  (append-snoc (take i depth) d _ ∙ (rw (items, words-left) at (v .work)));
+            }
+
+  pub walking-done : length item ≤ i → depth ≡ depths (0 ∷ []) item
+  walking-done past =
+      sym (take-all i depth (omega (arith, v .same-length)))
+      ∙ sym (append-nil (take i depth))
+      ∙ (rw (drop-of-length-le item past) at (v .work))

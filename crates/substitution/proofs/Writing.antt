@@ -1,18 +1,21 @@
 -- Loops over the words that `depths` found, from the first: what is still to do after k of them leads to what the whole work leads to.
 use Prim.Native.Nat.{ℕ, zero, suc, _+_, _*_, _-_, _≤_, _<_}
 use mathlib.Core.Path.{_≡_, refl, sym, _∙_, ap}
-use mathlib.Core.List.{List, [], _∷_, _++_}
+use mathlib.Core.List.{List, [], _∷_, _++_, append-assoc}
 use native.Mathlib.Nat.{add-zero}
 use native.Mathlib.Numerals.{add-one}
 use native.Mathlib.Omega.{arith}
-use lib.ListN.{length, getD, drop, set, length-append, length-drop, drop-of-length-le, List·getD-append}
+use lib.ListN.{length, getD, take, drop, set, length-append, length-drop, drop-of-length-le, List·getD-append}
 use lib.Seq.{sets, length-sets, sets-eq, drop-cons, getD-drop}
+use borrow.Rule.Slice.PartMut.{putMid, post-is}
 use Rattle.calculus.specs.Term.{Term}
 use Rattle.calculus.specs.Words.{workspaceMost, countBase}
+use Rattle.calculus.specs.Skip.{span}
 use Rattle.substitution.specs.Depths.{depths}
 use Rattle.substitution.specs.Rewritten.{rewritten, Written}
-use Rattle.substitution.proofs.DepthLaws.{length-depths, Bounded, bounded-depths}
-use Rattle.substitution.proofs.Traversal.{marked, flat, Every, every-first, every-rest}
+use Rattle.substitution.proofs.DepthLaws.{length-depths, span-depths, depths-within, Bounded, bounded-depths}
+use Rattle.substitution.proofs.Traversal.{marked, flat}
+use Rattle.substitution.proofs.ItemLaws.{Item}
 
 sets-append : (xs ys l : List ℕ) (i : ℕ) → sets l i (xs ++ ys) ≡ sets (sets l i xs) (i + length xs) ys
 sets-append [] ys l i = ap (λ k. sets l k ys) (sym (add-zero i))
@@ -20,14 +23,18 @@ sets-append (x ∷ xs) ys l i =
     let e : suc i + length xs ≡ i + suc (length xs) = omega arith in
     sets-append xs ys (set l i x) (suc i) ∙ ap (λ k. sets (sets l i (x ∷ xs)) k ys) e
 
--- What was written at the start of a slice is read there.
-getD-written : {before after : List ℕ} {end : ℕ} (vs : List ℕ) (k : ℕ) → Written before 0 vs after end → length vs ≤ length before → k < length vs
-    → getD after k 0 ≡ getD vs k 0
-getD-written {before} vs k v h g =
-    ap (λ l. getD l k 0) (v .slice ∙ sets-eq vs before 0 (omega arith)) ∙ List·getD-append vs _ 0 k g
-
 pub written-as : {before after vs us : List ℕ} {out end : ℕ} → vs ≡ us → Written before out vs after end → Written before out us after end
 written-as e v = rw e at v
+
+-- A part of a slice written and put back.
+pub written-part : (before vs : List ℕ) (out last : ℕ) → out ≤ last → last ≤ length before → length vs ≡ last - out
+    → Written before out vs (putMid out (last - out) before vs) last
+written-part before vs out last h g l =
+    let e : out + length vs ≡ last = omega arith in
+    record {
+      slice = sym (sets-eq vs before out (omega arith) ∙ append-assoc (take out before) vs _ ∙ (rw (e, post-is out last before h)));
+      position = omega arith;
+    }
 
 bounded-at : (b : ℕ) (ds : List ℕ) (k : ℕ) → Bounded b ds → getD ds k 0 ≤ b
 bounded-at b [] k p = omega arith
@@ -51,15 +58,27 @@ writing-start f src at dst out = record { same-length = refl; work = refl; posit
 pub record Found (src : List ℕ) (at : ℕ) (depth : List ℕ) (count : ℕ) : Type 0 where
   pub short : length src ≤ workspaceMost
   pub all : count ≡ length (depths (0 ∷ []) (drop at src))
+  pub room : count ≤ length depth
   pub around : (k : ℕ) → k < count → getD depth k 0 ≡ getD (depths (0 ∷ []) (drop at src)) k 0
 
-pub found : {src before depth : List ℕ} {at count : ℕ} → length src ≤ workspaceMost → length before ≡ workspaceMost
-    → Written before 0 (depths (0 ∷ []) (drop at src)) depth count → Found src at depth count
-found {src} {at = at} short room v =
+count-words : {src : List ℕ} {at last : ℕ} → Item src at last → last - at ≡ length (depths (0 ∷ []) (drop at src))
+count-words {src} {at} h = omega (arith, h .last-is, span-depths (drop at src) (0 ∷ []))
+
+-- The words after the item do not matter.
+item-depths : {src : List ℕ} {at last : ℕ} → Item src at last → depths (0 ∷ []) (take (last - at) (drop at src)) ≡ depths (0 ∷ []) (drop at src)
+item-depths {src} {at} {last} h =
+    let e : last - at ≡ span 1 (drop at src) = omega (arith, h .last-is) in
+    rw e (depths-within (drop at src) (0 ∷ []))
+
+pub found : {src numbers : List ℕ} (others : List ℕ) {at last : ℕ} → Item src at last → numbers ≡ depths (0 ∷ []) (take (last - at) (drop at src))
+    → Found src at (numbers ++ others) (last - at)
+found {src} {numbers} others h q =
     record {
-      short = short;
-      all = omega (arith, v .position);
-      around = λ k more. getD-written (depths (0 ∷ []) (drop at src)) k v (omega (arith, length-depths (drop at src) (0 ∷ []), length-drop at src)) (omega (arith, v .position));
+      short = h .short;
+      all = count-words h;
+      room = omega (arith, length-append numbers others, ap length (q ∙ item-depths h), count-words h);
+      around = λ k more.
+          List·getD-append numbers others 0 k (omega (arith, ap length (q ∙ item-depths h), count-words h)) ∙ ap (λ l. getD l k 0) (q ∙ item-depths h);
     }
 
 module _ {src : List ℕ} {at : ℕ} {depth : List ℕ} {count : ℕ} (h : Found src at depth count) where
@@ -87,12 +106,6 @@ module _ {src : List ℕ} {at : ℕ} {depth : List ℕ} {count : ℕ} (h : Found
           getD-drop at src k 0,
           add-one k,
         )
-
-    pub every-next : {P : ℕ → ℕ → Type 0} → Every P (ahead src at k) → P (getD depth k 0) (getD src (at + k) 0)
-    every-next p = every-first (rw ahead-next at p)
-
-    pub every-later : {P : ℕ → ℕ → Type 0} → Every P (ahead src at k) → Every P (ahead src at (k + 1))
-    every-later p = every-rest (rw ahead-next at p)
 
     module _ (f : ℕ → ℕ → Term) where
       abbrev here : List ℕ

@@ -1,41 +1,39 @@
-// The binders around the words of an item.
+// The binders around the words of a term.
 use words::Word;
 ghost use mathlib.Core.Path.{_≡_};
 ghost use mathlib.Core.List.{[], _∷_};
-ghost use Prim.Native.Nat.{_≤_};
-ghost use lib.ListN.{length, drop};
-ghost use Rattle.calculus.specs.Words.{workspaceMost};
+ghost use lib.ListN.{length, replicate};
 ghost use Rattle.substitution.specs.Depths.{depths};
-ghost use Rattle.substitution.specs.Rewritten.{Written};
+ghost use Rattle.substitution.specs.Results.{Whole};
 
-// Writes the number of binders around each word of the item that starts at a position, and returns how many words these are. The items still to
-// come are kept in groups under the same binders, the next of them last; a word opens one group.
-pub fn depths(src: &[u32], at: usize, depth: &mut [u32]) -> usize
-    requires { ⌜ (length (now src) ≤ workspaceMost) × (length (now depth) ≡ workspaceMost) ⌝ }
-    ensures { λ r. ⌜ Written (now (depth .entry)) 0 (depths (0 ∷ []) (drop at (now (src .entry)))) (now (depth .exit)) r ⌝ }
+// Puts a number into every place.
+fn fill(places: &mut [u32], number: u32)
+    ensures { λ _. ⌜ now (places .exit) ≡ replicate (length (now (places .entry))) number ⌝ }
 {
-    let mut left = [0usize; Word::WORKSPACE_MOST + 1];
-    let mut around = [0u32; Word::WORKSPACE_MOST + 1];
-    left[0] = 1;
-    let mut groups: usize = 1;
-    let mut i = at;
-    while i < src.len() {
-        if groups == 0 {
-            return i - at;
-        }
-        let g = groups - 1;
-        if left[g] == 0 {
-            groups = g;
-        } else {
-            let w = src[i];
-            let d = around[g];
-            depth[i - at] = d;
-            left[g] = left[g] - 1;
-            left[groups] = Word(w).arity();
-            around[groups] = d + Word(w).bound();
-            groups += 1;
-            i += 1;
-        }
+    let mut i: usize = 0;
+    while i < places.len() {
+        places[i] = number;
+        i += 1;
     }
-    i - at
+}
+
+// Writes the number of binders around each word of a term. The items still to come wait at the end of the same room, each as the number of binders
+// around it, the next of them first. Each has a word at least, so they stay clear of the places written.
+pub fn depths(item: &[u32], depth: &mut [u32])
+    requires { ⌜ Whole (now item) ⌝ }
+    requires { ⌜ length (now depth) ≡ length (now item) ⌝ }
+    ensures { λ _. ⌜ now (depth .exit) ≡ depths (0 ∷ []) (now (item .entry)) ⌝ }
+{
+    let mut next = depth.len() - 1;
+    depth[next] = 0;
+    let mut i: usize = 0;
+    while i < item.len() {
+        let w = item[i];
+        let d = depth[next];
+        depth[i] = d;
+        let end = next + 1;
+        next = end - Word(w).arity();
+        fill(&mut depth[next..end], d + Word(w).bound());
+        i += 1;
+    }
 }

@@ -1,11 +1,11 @@
 -- The records that writing finds from the words of a term are those of the term.
-use Prim.Native.Nat.{ℕ, suc, _+_, _-_, _≤_, _<_}
-use mathlib.Core.Path.{_≡_, refl, ap, ap₂, sym, _∙_}
+use Prim.Native.Nat.{ℕ, suc, _+_, _-_, _<_}
+use mathlib.Core.Path.{_≡_, refl, ap, sym, _∙_}
 use mathlib.Core.List.{List, [], _∷_, _++_, append-assoc, append-nil}
 use native.Mathlib.Nat.{add-zero}
 use native.Mathlib.Omega.{arith}
-use lib.Dec.{eqb, eqb·suc-zero}
-use lib.ListN.{length, length-append}
+use lib.Dec.{eqb·suc-zero}
+use lib.ListN.{length-append}
 use Rattle.calculus.specs.Term.{Sort, term, terms, branches, Exp, var, lam, app, con, case, nil, cons, end, branch, Term, count}
 use Rattle.calculus.specs.Words.{variableKind, abstractionKind, applicationKind, constructorKind, caseKind, branchKind, kindBase, word, words, size, pack}
 use Rattle.calculus.specs.Skip.{following, arity, span}

@@ -1,6 +1,6 @@
 -- The readers' turns: what is read at a link that is not 0, and how many records are ahead after it.
-use Prim.Native.Nat.{ℕ, zero, suc, _+_, _-_, _*_, _≤_, _<_}
-use mathlib.Core.Path.{_≡_, refl, ap, sym, _∙_}
+use Prim.Native.Nat.{ℕ, suc, _-_, _≤_, _<_}
+use mathlib.Core.Path.{_≡_, refl, ap}
 use mathlib.Core.Bool.{Bool, true, false, false≢true, cond, _&&_, and-eq-true-iff}
 use mathlib.Core.List.{List, [], _∷_, _++_}
 use mathlib.Core.Logic.{inl, inr}
@@ -9,13 +9,12 @@ use lib.Dec.{leb, eqb}
 use lib.ListN.{length}
 use borrow.Author.Tests.{leb-true, eqb-true, eq-eqb, ne-eqb}
 use Rattle.calculus.specs.Words.{variableKind, constructorKind, caseKind, branchKind, tagOf, countOf, word, pack, workspaceMost}
-use Rattle.calculus.specs.Accepted.{argumentLimit}
-use Rattle.calculus.specs.Theorems.{indexLimit}
+use Rattle.calculus.specs.Accepted.{argumentLimit, indexLimit}
 use Rattle.words.specs.Limits.{payloadBound}
 use Rattle.tables.specs.Records.{Record, Table, recordAt, view1}
-use Rattle.tables.specs.Refusals.{isTag, valueFits, children, caseFits, childrenFit}
+use Rattle.tables.specs.Refusals.{isTag, valueFits, children, childrenFit}
 use Rattle.tables.specs.Chains.{chainFrom}
-use Rattle.tables.specs.Reading.{ahead, payload, Wordable, recordWord, chainWords, termWords, chainScoped, termScoped, Readable}
+use Rattle.tables.specs.Reading.{ahead, payload, Wordable, chainWords, termWords, chainScoped, termScoped, Readable}
 use Rattle.tables.proofs.Links.{Ahead, Linked, linked}
 use Rattle.tables.proofs.Fits.{valued, fitted}
 use Rattle.tables.proofs.Hanging.{hanging-zero, hanging-record}

@@ -2,7 +2,7 @@
 use Prim.Native.Nat.{ℕ, suc, _+_, _-_, _≤_}
 use mathlib.Core.Path.{_≡_, refl, ap, ap₂, sym, _∙_}
 use mathlib.Core.Bool.{not, _&&_, and-true}
-use mathlib.Core.List.{List, [], _∷_, _++_, append-nil}
+use mathlib.Core.List.{List, _∷_, _++_, append-nil}
 use mathlib.Core.Logic.{inr}
 use native.Mathlib.Nat.{add-zero}
 use native.Mathlib.Numerals.{add-one}
@@ -11,7 +11,7 @@ use lib.Dec.{eqb}
 use lib.ListN.{length}
 use borrow.Author.Tests.{eqb-true}
 use Rattle.calculus.specs.Term.{Sort, term, terms, branches, Exp, Term, Branches, count}
-use Rattle.calculus.specs.Words.{abstractionKind, applicationKind, constructorKind, caseKind, branchKind, word, words, pack, tagOf, countOf}
+use Rattle.calculus.specs.Words.{abstractionKind, applicationKind, caseKind, word, words, pack, tagOf, countOf}
 use Rattle.words.specs.Bound.{binding}
 use Rattle.tables.specs.Records.{Table, view1}
 use Rattle.tables.specs.Meaning.{Means, variable, abstraction, application, constructor, case-of, no-term, a-term, no-branch, a-branch}

@@ -8,8 +8,8 @@ use lib.ListN.{length-append}
 use borrow.Author.Tests.{le-leb}
 use Rattle.calculus.specs.Term.{Sort, term, terms, Exp, var, lam, app, con, case, nil, cons, end, branch, Term, Branches, count}
 use Rattle.calculus.specs.Words.{words, size, branchKind, countBase}
-use Rattle.calculus.specs.Accepted.{IsTag, tagLimit, argumentLimit, Accepted}
-use Rattle.calculus.specs.Theorems.{indexLimit, IndicesWithin}
+use Rattle.calculus.specs.Accepted.{IsTag, tagLimit, argumentLimit, Accepted, indexLimit}
+use Rattle.calculus.specs.Theorems.{IndicesWithin}
 use Rattle.calculus.proofs.WordLaws.{tagOf-pack, countOf-pack, accepted-packable}
 use Rattle.tables.specs.Records.{Table, OfKind}
 use Rattle.tables.specs.Meaning.{Means, variable, abstraction, application, constructor, case-of, no-term}

@@ -1,15 +1,15 @@
 -- Walks along a chain: the record at a link that is not 0 is the first of the chain, and the chain goes on at its next.
 use Prim.Native.Nat.{ℕ, zero, suc, _+_, _*_, _≤_, _<_}
-use mathlib.Core.Path.{_≡_, refl, ap, _∙_}
-use mathlib.Core.Bool.{Bool, true, false, not, _&&_, and-assoc}
+use mathlib.Core.Path.{_≡_}
+use mathlib.Core.Bool.{Bool, true, false}
 use mathlib.Core.List.{List, [], _∷_}
 use native.Mathlib.Omega.{arith}
 use lib.Dec.{eqb}
 use lib.ListN.{length}
 use Rattle.tables.specs.Records.{Record, Table, recordWords, recordAt, view1}
-use Rattle.tables.specs.Refusals.{chain, wrongLength}
+use Rattle.tables.specs.Refusals.{chain}
 use Rattle.tables.specs.Chains.{chainFrom, Walkable}
-use Rattle.tables.proofs.Links.{Linked, linked}
+use Rattle.tables.proofs.Links.{linked}
 use Rattle.tables.proofs.Hanging.{ahead-within, chain-next}
 use Rattle.tables.proofs.RecordLaws.{inside}
 

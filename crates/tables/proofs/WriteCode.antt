@@ -1,12 +1,12 @@
 -- Writing where no refusal is met: the words that are written from, and what the code leaves.
 use Prim.Native.Nat.{ℕ, _+_, _*_, _≤_}
-use mathlib.Core.Path.{_≡_, refl, sym, ap, ap₂, _∙_}
+use mathlib.Core.Path.{_≡_, refl, sym, ap, _∙_}
 use mathlib.Core.Bool.{Bool, true, false, cond}
-use mathlib.Core.List.{List, [], _∷_, _++_, append-nil}
+use mathlib.Core.List.{List, [], _∷_, append-nil}
 use mathlib.Core.Option.{some, none, Option·none-ne-some}
 use native.Mathlib.Omega.{arith}
-use lib.Dec.{leb, ltb, eqb}
-use lib.ListN.{length, take, drop, drop-of-length-le}
+use lib.Dec.{leb, ltb}
+use lib.ListN.{length, take, drop-of-length-le}
 use lib.Seq.{sets, sets-eq, length-take-le}
 use borrow.Author.Tests.{leb-true, ltb-false, eq-eqb}
 use Rattle.calculus.specs.Term.{Term}

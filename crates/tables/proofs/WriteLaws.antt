@@ -3,34 +3,23 @@ use Prim.Native.Nat.{ℕ, _+_, _-_, _*_, _≤_}
 use mathlib.Core.Path.{_≡_}
 use mathlib.Core.Bool.{false}
 use mathlib.Core.List.{List, _++_}
-use mathlib.Core.Option.{some}
 use native.Mathlib.Omega.{arith}
-use lib.ListN.{length, replicate, length-append, length-replicate}
-use lib.Seq.{take-append-seam}
-use borrow.Author.Tests.{le-leb, eq-eqb}
+use lib.ListN.{length, replicate}
+use borrow.Author.Tests.{eq-eqb}
 use Rattle.calculus.specs.Term.{Term}
 use Rattle.calculus.specs.Words.{words, size}
 use Rattle.calculus.specs.Accepted.{Accepted}
-use Rattle.calculus.specs.Workspace.{termAt}
-use Rattle.calculus.proofs.ReadLaws.{read-words}
+use Rattle.calculus.proofs.WorkspaceLaws.{termAt-words, length-padded}
 use Rattle.tables.specs.Records.{recordWords}
 use Rattle.tables.specs.Refusals.{wrongWorkspace}
 use Rattle.tables.specs.Load.{returned}
 use Rattle.tables.specs.Write.{tableOf, write}
-
-pub termAt-words : (t : Term) (rest : List ℕ) → Accepted 0 t → termAt (words t ++ rest) (size t) ≡ some t
-unfolding termAt
-termAt-words t rest a =
-    rw (le-leb (size t) (length (words t ++ rest)) (omega (arith, length-append (words t) rest)), take-append-seam (words t) rest) (read-words t a)
 
 pub write-returned : (t : Term) (rest table : List ℕ) → Accepted 0 t → wrongWorkspace (length (words t ++ rest)) ≡ false
     → length table ≡ recordWords * (size t + 1)
     → write (words t ++ rest) (size t) table ≡ record { answer = returned (size t); table = tableOf t }
 unfolding write
 write-returned t rest table a h e = rw (h, termAt-words t rest a, eq-eqb (length table) (recordWords * (size t + 1)) e)
-
-filled-length : (C : ℕ) (ws : List ℕ) → length ws ≤ C → length (ws ++ replicate (C - length ws) 0) ≡ C
-filled-length C ws h = simp (length-append, length-replicate) (omega arith)
 
 -- Writing a workspace that holds a term and zeros after it.
 pub write-filled : (t : Term) (C l : ℕ) (workspace out : List ℕ) → Accepted 0 t → size t ≡ l → workspace ≡ words t ++ replicate (C - l) 0
@@ -39,4 +28,4 @@ pub write-filled : (t : Term) (C l : ℕ) (workspace out : List ℕ) → Accepte
 write-filled t C l workspace out a e held h u room =
     let fits : length (words t) ≤ C = omega arith in
     rw (held, ← e)
-    (write-returned t (replicate (C - size t) 0) out a (rw filled-length h) (omega arith))
+    (write-returned t (replicate (C - size t) 0) out a (rw length-padded h) (omega arith))

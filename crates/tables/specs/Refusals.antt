@@ -9,8 +9,7 @@ use lib.Dec.{leb, ltb, eqb}
 use lib.ListN.{length}
 use Rattle.calculus.specs.Term.{Sort, Exp, var, lam, app, con, case, nil, cons, end, branch, Term}
 use Rattle.calculus.specs.Words.{variableKind, applicationKind, constructorKind, caseKind, branchKind, workspaceLeast, workspaceMost, tagOf, countOf}
-use Rattle.calculus.specs.Accepted.{tagLimit, argumentLimit, branchLimit, freeLimit}
-use Rattle.calculus.specs.Theorems.{indexLimit}
+use Rattle.calculus.specs.Accepted.{tagLimit, argumentLimit, branchLimit, freeLimit, indexLimit}
 use Rattle.tables.specs.Records.{Record, Table, form, recordWords, recordAt, view1}
 use Rattle.tables.specs.Meaning.{isRecord, meaning}
 

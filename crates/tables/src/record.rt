@@ -6,7 +6,7 @@ ghost use mathlib.Core.List.{[], _∷_};
 ghost use lib.ListN.{length};
 ghost use lib.Seq.{sets};
 ghost use Rattle.calculus.specs.Words.{word};
-ghost use Rattle.calculus.specs.Theorems.{indexLimit};
+ghost use Rattle.calculus.specs.Accepted.{indexLimit};
 ghost use Rattle.words.specs.Bound.{binding};
 ghost use Rattle.tables.specs.Records.{form, recordWords, recordAt, view1, recordsWords};
 ghost use Rattle.tables.specs.Types.{recordOf};

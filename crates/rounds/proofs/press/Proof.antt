@@ -1,6 +1,5 @@
 -- `press` meets its contract: each refusal by the tests that led to it, and the press on two terms otherwise. Assumes nothing.
-use mathlib.Core.Path.{_≡_, sym, _∙_}
-use native.Mathlib.Omega.{arith}
+use mathlib.Core.Path.{sym, _∙_}
 use borrow.Author.Needs.{needs}
 use borrow.Author.Tests.{not-true, not-false}
 use Rattle.rounds.proofs.PressCode.{affords-total, runs, refused-workspace, refused-budget, refused-left, refused-right, pressed-terms}

@@ -1,6 +1,5 @@
 -- `press_terms` meets its contract: the rounds leave the two terms, and clearing leaves zeros after them. Assumes nothing.
-use Prim.Native.Nat.{_≤_}
-use mathlib.Core.Path.{_≡_, _∙_}
+use mathlib.Core.Path.{_∙_}
 use native.Mathlib.Omega.{arith}
 use borrow.Author.Needs.{needs}
 use Rattle.rounds.specs.Types.{sessionOf}

@@ -7,7 +7,6 @@ use borrow.Author.Tests.{lt-ltb, le-ltb}
 use Rattle.tables.specs.Records.{view1}
 use Rattle.tables.specs.Refusals.{wrongWorkspace, wrongLength, wrongHeader, tooLong, wrongValue, wrongLink, wrongChildren, wrongFree}
 use Rattle.tables.specs.Chains.{Walkable}
-use Rattle.tables.specs.Reading.{Readable}
 use Rattle.tables.proofs.RecordLaws.{inside, rooted}
 use Rattle.tables.proofs.first_met.Statement.{statement}
 use Rattle.tables.proofs.first_met.Tie as tie

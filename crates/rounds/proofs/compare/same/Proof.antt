@@ -2,7 +2,6 @@
 use Prim.Native.Nat.{_≤_, _-_}
 use mathlib.Core.Path.{_≡_, refl}
 use native.Mathlib.Omega.{arith}
-use lib.ListN.{length}
 use Rattle.rounds.proofs.CompareLaws.{Left, compare-lengths, compare-more, compare-other, compare-end}
 use Rattle.rounds.proofs.compare.same.Statement.{statement}
 use Rattle.rounds.proofs.compare.same.Tie as tie

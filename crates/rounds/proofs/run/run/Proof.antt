@@ -1,7 +1,7 @@
 -- `run` meets its contract. The invariant is `Going`: both workspaces hold the current terms, and the rounds still to make end in what all end in.
 -- The measure is what is left of the budget. Assumes nothing.
 use Prim.Native.Nat.{_-_}
-use mathlib.Core.Path.{_≡_, sym, _∙_, ap}
+use mathlib.Core.Path.{sym, _∙_, ap}
 use native.Mathlib.Omega.{arith}
 use borrow.Author.Needs.{needs}
 use Rattle.rounds.specs.Types.{turnOf}

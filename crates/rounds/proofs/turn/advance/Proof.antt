@@ -1,5 +1,5 @@
 -- `advance` meets its contract, by the plan. Assumes nothing.
-use mathlib.Core.Path.{_≡_, ap}
+use mathlib.Core.Path.{ap}
 use borrow.Author.Needs.{needs}
 use Rattle.rounds.specs.Types.{planOf}
 use Rattle.rounds.proofs.RunCode.{advance-normal, advance-room, advance-contracted}

@@ -2,7 +2,6 @@
 use mathlib.Core.Path.{sym, _∙_, ap}
 use borrow.Author.Needs.{needs}
 use Rattle.rounds.specs.Turn.{contract}
-use Rattle.rounds.specs.Types.{planOf}
 use Rattle.rounds.proofs.RunCode.{searched, plan-redex, plan-contracts, plan-normal}
 use Rattle.rounds.proofs.turn.plan_for.Statement.{statement}
 use Rattle.rounds.proofs.turn.plan_for.Tie as tie

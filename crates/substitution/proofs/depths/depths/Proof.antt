@@ -1,50 +1,32 @@
--- `depths` meets its contract. The invariant is that of the walk. A turn passes a word, at two of the measure, or closes an empty group, at one.
-use Prim.Native.Nat.{_+_, _*_, _-_, _≤_}
-use mathlib.Core.Path.{refl}
+-- `depths` meets its contract. The invariant is that of the walk.
+use Prim.Native.Nat.{_+_, _*_, _-_, _≤_, _<_}
+use mathlib.Core.Path.{refl, sym, _∙_}
 use native.Mathlib.Omega.{arith}
 use borrow.Author.Needs.{needs}
 use lib.ListN.{length, getD}
-use Rattle.calculus.specs.Words.{countBase}
+use Rattle.calculus.specs.Words.{workspaceMost, countBase}
 use Rattle.substitution.proofs.DepthLaws.{bound-few}
-use Rattle.substitution.proofs.Walking.{Walking, walking-start, walking-empty, binders-bounded, walking-word, walking-no-item, walking-no-word}
+use Rattle.substitution.proofs.Walking.{Walking, whole-some, walking-start, some-left, within-written, binders-bounded, clear, walking-word, walking-done}
 use Rattle.substitution.proofs.depths.depths.Statement.{statement}
 use Rattle.substitution.proofs.depths.depths.Tie as tie
 
 abbrev Inv-loop : tie.InvT-loop
-Inv-loop src at depth₀ left₀ around₀ groups₀ i₀ depth left around groups i = Walking src at depth₀ depth left around groups i
+Inv-loop item depth₀ next₀ i₀ depth next i = Walking item depth next i
 
 abbrev μ-loop : tie.MeasureT-loop
-μ-loop src at depth₀ left₀ around₀ groups₀ i₀ depth left around groups i = 2 * (length src - i) + groups
+μ-loop item depth₀ next₀ i₀ depth next i = length item - i
 
-array-write-left : tie.Need-array-write-left Inv-loop μ-loop
-array-write-left c = omega arith
+sub-next : tie.Need-sub-next Inv-loop μ-loop
+sub-next c = omega (arith, whole-some (c .before .before .pre .0), c .before .before .pre .1)
+
+mul-depth : tie.Need-mul-depth Inv-loop μ-loop
+mul-depth c = search needs
+
+slice-write-depth : tie.Need-slice-write-depth Inv-loop μ-loop
+slice-write-depth c = omega (arith, whole-some (c .before .before .pre .0), c .before .before .pre .1)
 
 loop-holds : tie.Need-loop-holds Inv-loop μ-loop
-loop-holds c = walking-start (c .before .before .args .src .now) (c .before .before .args .at) (c .before .before .args .depth .now) _ _ refl refl refl refl
-
-sub-result : tie.Need-sub-result Inv-loop μ-loop
-sub-result c = omega arith
-
-same-length : tie.Need-same-length Inv-loop μ-loop
-same-length c = c .before .before .loop .inv .same-length
-
-returns : tie.Need-returns Inv-loop μ-loop
-returns c = walking-no-item (c .before .before .loop .inv) (c .if1 .taken)
-
-sub-g : tie.Need-sub-g Inv-loop μ-loop
-sub-g c = omega arith
-
-mul-if2 : tie.Need-mul-if2 Inv-loop μ-loop
-mul-if2 c = search needs
-
-array-read-if2 : tie.Need-array-read-if2 Inv-loop μ-loop
-array-read-if2 c = omega arith
-
-loop-less : tie.Need-loop-less Inv-loop μ-loop
-loop-less c = omega arith
-
-loop-again : tie.Need-loop-again Inv-loop μ-loop
-loop-again c = walking-empty (c .before .before .before .loop .inv) (c .before .if1 .left) (c .if2 .taken)
+loop-holds c = walking-start (c .before .before .args .item .now) (c .before .before .args .depth .now) _ (c .before .before .pre .0) (c .before .before .pre .1) refl
 
 mul-w : tie.Need-mul-w Inv-loop μ-loop
 mul-w c = search needs
@@ -55,90 +37,77 @@ shared-slice-read-w c = omega arith
 mul-d : tie.Need-mul-d Inv-loop μ-loop
 mul-d c = search needs
 
-array-read-d : tie.Need-array-read-d Inv-loop μ-loop
-array-read-d c = omega arith
+slice-read-d : tie.Need-slice-read-d Inv-loop μ-loop
+slice-read-d c = some-left (c .before .before .before .loop .inv) (c .before .before .loop-test .taken)
 
-sub-depth : tie.Need-sub-depth Inv-loop μ-loop
-sub-depth c = omega arith
+mul-depth-2 : tie.Need-mul-depth-2 Inv-loop μ-loop
+mul-depth-2 c = search needs
 
-mul-depth : tie.Need-mul-depth Inv-loop μ-loop
-mul-depth c = search needs
+slice-write-depth-2 : tie.Need-slice-write-depth-2 Inv-loop μ-loop
+slice-write-depth-2 c = omega (arith, c .before .before .before .loop .inv .same-length)
 
-slice-write-depth : tie.Need-slice-write-depth Inv-loop μ-loop
-slice-write-depth c = omega arith
+-- The turn of a word.
+module _ (c : tie.In-loop Inv-loop μ-loop) where
+  abbrev l : tie.At-loop Inv-loop μ-loop
+  l = c .before
 
-mul-left : tie.Need-mul-left Inv-loop μ-loop
-mul-left c = search needs
+  some : (l .loop .next < length (l .loop .depth)) × (length (l .loop .depth) ≤ workspaceMost)
+  some = (some-left (l .loop .inv) (c .loop-test .taken), omega (arith, l .loop .inv .same-length, l .before .before .before .pre .0 .short))
 
-array-read-left : tie.Need-array-read-left Inv-loop μ-loop
-array-read-left c = omega arith
+  bounded : getD (l .loop .depth) (l .loop .next) 0 ≤ countBase * workspaceMost
+  bounded = omega (arith, binders-bounded (l .loop .inv) (c .loop-test .taken), l .loop .inv .same-length, some)
 
-sub-left : tie.Need-sub-left Inv-loop μ-loop
-sub-left c = omega arith
-
-mul-left-2 : tie.Need-mul-left-2 Inv-loop μ-loop
-mul-left-2 c = search needs
-
-array-write-left-2 : tie.Need-array-write-left-2 Inv-loop μ-loop
-array-write-left-2 c = omega arith
+add-end : tie.Need-add-end Inv-loop μ-loop
+add-end c = omega (arith, some (c .before .before))
 
 arity-requires : tie.Need-arity-requires Inv-loop μ-loop
 arity-requires c κs = search needs
 
-mul-left-3 : tie.Need-mul-left-3 Inv-loop μ-loop
-mul-left-3 c = search needs
+stays-clear : (c : tie.After-arity Inv-loop μ-loop) → let l = c .before .before .before .before .loop in l .i + c .arity .result ≤ l .next
+stays-clear c = clear (c .before .before .before .before .loop .inv) (c .before .before .before .loop-test .taken) _ (c .arity .ensures)
 
-array-write-left-3 : tie.Need-array-write-left-3 Inv-loop μ-loop
-array-write-left-3 c = omega arith
+sub-next-2 : tie.Need-sub-next-2 Inv-loop μ-loop
+sub-next-2 c = omega (arith, stays-clear c)
+
+mul-fill : tie.Need-mul-fill Inv-loop μ-loop
+mul-fill c = search needs
+
+sub-fill : tie.Need-sub-fill Inv-loop μ-loop
+sub-fill c = omega arith
+
+part-fill-start : tie.Need-part-fill-start Inv-loop μ-loop
+part-fill-start c = omega arith
+
+part-fill-end : tie.Need-part-fill-end Inv-loop μ-loop
+part-fill-end c = within-written (c .before .before .before .before .loop .inv) (c .before .before .before .loop-test .taken)
 
 bound-requires : tie.Need-bound-requires Inv-loop μ-loop
 bound-requires c κs = search needs
 
--- The turn of a word.
-module _ (c : tie.Else2 Inv-loop μ-loop) where
-  abbrev l : tie.At-loop Inv-loop μ-loop
-  l = c .before .before .before
+add-fill : tie.Need-add-fill Inv-loop μ-loop
+add-fill c = omega (arith, bound-few _ _ (c .bound .ensures), bounded (c .before .before .before .before .before))
 
-  abbrev start : tie.Start Inv-loop μ-loop
-  start = l .before .before .before
-
-  bounded : getD (l .loop .around) (l .loop .groups - 1) 0 ≤ countBase * (l .loop .i - start .args .at)
-  bounded = binders-bounded (l .loop .inv) (c .before .before .loop-test .taken) (start .pre .0) (c .before .if1 .left) (c .if2 .left)
-
-add-around : tie.Need-add-around Inv-loop μ-loop
-add-around c =
-    let m = c .before .before .before in
-    omega (arith, bound-few _ _ (c .bound .ensures), bounded m)
-
-mul-around : tie.Need-mul-around Inv-loop μ-loop
-mul-around c = search needs
-
-array-write-around : tie.Need-array-write-around Inv-loop μ-loop
-array-write-around c = omega arith
-
-add-groups : tie.Need-add-groups Inv-loop μ-loop
-add-groups c = omega arith
+fill-requires : tie.Need-fill-requires Inv-loop μ-loop
+fill-requires c κs = tt
 
 add-i : tie.Need-add-i Inv-loop μ-loop
 add-i c = omega arith
 
-loop-less-2 : tie.Need-loop-less-2 Inv-loop μ-loop
-loop-less-2 c = omega arith
+loop-less : tie.Need-loop-less Inv-loop μ-loop
+loop-less c = omega arith
 
-loop-again-2 : tie.Need-loop-again-2 Inv-loop μ-loop
-loop-again-2 c =
-    let m = c .before .before .before in
-    walking-word (l m .loop .inv) (m .before .before .loop-test .taken) (start m .pre .0) (m .before .if1 .left) (m .if2 .left) _ _
-    (c .before .arity .ensures) (c .bound .ensures)
+loop-again : tie.Need-loop-again Inv-loop μ-loop
+loop-again c =
+    let b = c .before .before .before in
+    let t = b .before .before .before .before .before in
+    let m = t .before in
+    walking-word (m .loop .inv) (t .loop-test .taken) _ (b .before .before .arity .ensures) _ (b .bound .ensures) (c .before .before .fill .ensures)
 
-sub-result-2 : tie.Need-sub-result-2 Inv-loop μ-loop
-sub-result-2 c = omega arith
+same-length : tie.Need-same-length Inv-loop μ-loop
+same-length c = c .before .loop .inv .same-length ∙ sym (c .before .before .before .before .pre .1)
 
-same-length-2 : tie.Need-same-length-2 Inv-loop μ-loop
-same-length-2 c = c .before .loop .inv .same-length
-
-returns-2 : tie.Need-returns-2 Inv-loop μ-loop
-returns-2 c = walking-no-word (c .before .loop .inv) (c .loop-test .left)
+returns : tie.Need-returns Inv-loop μ-loop
+returns c = walking-done (c .before .loop .inv) (c .loop-test .left)
 
 pub depths-spec : {M : Type 1} → statement M
 depths-spec =
@@ -146,39 +115,28 @@ depths-spec =
     (tie.spec
     Inv-loop
     μ-loop
-    array-write-left
+    sub-next
+    mul-depth
+    slice-write-depth
     loop-holds
-    sub-result
-    same-length
-    returns
-    sub-g
-    mul-if2
-    array-read-if2
-    loop-less
-    loop-again
     mul-w
     shared-slice-read-w
     mul-d
-    array-read-d
-    sub-depth
-    mul-depth
-    slice-write-depth
-    mul-left
-    array-read-left
-    sub-left
-    mul-left-2
-    array-write-left-2
+    slice-read-d
+    mul-depth-2
+    slice-write-depth-2
+    add-end
     arity-requires
-    mul-left-3
-    array-write-left-3
+    sub-next-2
+    mul-fill
+    sub-fill
+    part-fill-start
+    part-fill-end
     bound-requires
-    add-around
-    mul-around
-    array-write-around
-    add-groups
+    add-fill
+    fill-requires
     add-i
-    loop-less-2
-    loop-again-2
-    sub-result-2
-    same-length-2
-    returns-2)
+    loop-less
+    loop-again
+    same-length
+    returns)

@@ -1,6 +1,6 @@
 -- The readers of free numbers meet their contracts, as one cycle of calls. The measures are those of the readers of words.
 use Prim.Native.Nat.{ℕ, _+_, _*_, _≤_, _<_}
-use mathlib.Core.Path.{_≡_, ap, sym, _∙_}
+use mathlib.Core.Path.{_≡_, sym}
 use mathlib.Core.Bool.{_&&_}
 use mathlib.Core.List.{List}
 use native.Mathlib.Nat.{pos-of-ne-zero}
@@ -14,11 +14,11 @@ use Rattle.words.specs.Limits.{depthLimit}
 use Rattle.words.proofs.Frames.{binding-bounded}
 use Rattle.tables.specs.Records.{view1}
 use Rattle.tables.specs.Types.{recordOf}
-use Rattle.tables.specs.Reading.{ahead, chainScoped, termScoped, Readable, Shallow}
+use Rattle.tables.specs.Reading.{ahead, chainScoped, termScoped, Readable}
 use Rattle.tables.proofs.Links.{linked}
 use Rattle.tables.proofs.RecordLaws.{parts, sized}
 use Rattle.tables.proofs.Walks.{walk-inside}
-use Rattle.tables.proofs.ReadingLaws.{chainScoped-end, chainScoped-record, ahead-record, ReadOn, read-on}
+use Rattle.tables.proofs.ReadingLaws.{chainScoped-end, chainScoped-record, ReadOn, read-on}
 use Rattle.tables.proofs.scope.chain_scoped.Reads as chain-scoped
 use Rattle.tables.proofs.scope.chain_scoped.Kinds as chain-scoped-kinds
 use Rattle.tables.proofs.scope.+chain_scoped+term_scoped.Lts-chain_scoped as chain-scoped-lts

@@ -1,6 +1,5 @@
 -- `case_fits` meets its contract: each return knows the tests before it.
-use mathlib.Core.Path.{sym}
-use mathlib.Core.Bool.{_&&_, and-true, and-false}
+use mathlib.Core.Bool.{and-true, and-false}
 use native.Mathlib.Nat.{pos-of-ne-zero}
 use borrow.Author.Needs.{needs}
 use borrow.Author.Tests.{le-leb, lt-leb, eq-eqb, ne-eqb}

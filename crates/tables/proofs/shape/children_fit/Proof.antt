@@ -1,14 +1,10 @@
 -- `children_fit` meets its contract: the chain that it tests is that of the record's children.
-use mathlib.Core.Path.{_≡_, sym, ap, _∙_}
-use mathlib.Core.Bool.{_&&_}
 use borrow.Author.Needs.{needs}
 use borrow.Author.Tests.{not-true, not-false}
-use Rattle.calculus.specs.Words.{caseKind}
-use Rattle.tables.specs.Types.{recordOf}
 use Rattle.tables.specs.Refusals.{childrenFit}
 use Rattle.tables.specs.Chains.{Walkable}
 use Rattle.tables.proofs.RecordLaws.{parts}
-use Rattle.tables.proofs.Walks.{walk-inside, Walked, walked}
+use Rattle.tables.proofs.Walks.{walk-inside, walked}
 use Rattle.tables.proofs.ShapeLaws.{children-counted}
 use Rattle.tables.proofs.shape.children_fit.Statement.{statement}
 use Rattle.tables.proofs.shape.children_fit.Tie as tie

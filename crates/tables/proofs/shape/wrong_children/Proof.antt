@@ -4,7 +4,7 @@ use mathlib.Core.Path.{_≡_, refl, ap, sym, _∙_}
 use mathlib.Core.Bool.{Bool, true}
 use native.Mathlib.Omega.{arith}
 use borrow.Author.Tests.{eq-eqb, ne-eqb, not-true, not-false}
-use Rattle.tables.specs.Records.{Record, Table, recordAt, view1}
+use Rattle.tables.specs.Records.{Table, recordAt, view1}
 use Rattle.tables.specs.Types.{recordOf}
 use Rattle.tables.specs.Refusals.{everyOf, children, childrenFit, wrongChildren}
 use Rattle.tables.proofs.RecordLaws.{parts, inside}
