@@ -3,3 +3,4 @@ pub mod DecodeLaws
 pub mod RequestLaws
 pub mod DecimalLaws
 pub mod LineLaws
+pub mod JudgeLaws

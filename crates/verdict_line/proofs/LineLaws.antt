@@ -29,13 +29,13 @@ length-digits (suc k) n = go (ltb n 10) refl (length-digits k (n / 10))
     go true e h = rw (e, digits) (omega arith)
     go false e h = rw (e, digits) (omega (arith, length-append (digits k (n / 10)) (digit (n % 10) ∷ [])))
 
-length-name : (v : Verdict) → length (nameOf v) ≤ 9
+pub length-name : (v : Verdict) → length (nameOf v) ≤ 9
 length-name Same = omega arith
 length-name Different = omega arith
 length-name Budget = omega arith
 length-name Full = omega arith
 
-length-decimal : (n : ℕ) → length (decimal n) ≤ digitsMost
+pub length-decimal : (n : ℕ) → length (decimal n) ≤ digitsMost
 unfolding decimal
 length-decimal n = length-digits digitsMost n
 
@@ -51,14 +51,11 @@ unfolding printed
 printed-fits {before} bytes p size =
     rw (p .stored, length-sets) (omega (arith, p .position, line-length (judged (request bytes))))
 
--- The first of so many zeros are zeros.
-pub take-zeros : (n m : ℕ) → n ≤ m → take {A = ℕ} n (replicate m 0) ≡ replicate n 0
-take-zeros zero m h = refl
-take-zeros (suc n) zero h = absurd (omega arith)
-take-zeros (suc n) (suc m) h = ap (_∷_ 0) (take-zeros n m (omega arith))
-
-pub part-zeros : (n : ℕ) → n ≤ lentMost → take {A = ℕ} n (replicate lentMost 0) ≡ replicate (length (take {A = ℕ} n (replicate lentMost 0))) 0
-part-zeros n h = rw (take-zeros n lentMost h, length-replicate)
+-- The first of so many equal words.
+pub take-replicate : (a n m : ℕ) → n ≤ m → take n (replicate m a) ≡ replicate n a
+take-replicate a zero m h = refl
+take-replicate a (suc n) zero h = absurd (omega arith)
+take-replicate a (suc n) (suc m) h = ap (_∷_ a) (take-replicate a n m (omega arith))
 
 -- A workspace above the limit is refused, whatever its length.
 too-large : (table ws : List ℕ) → workspaceMost < length ws → load table ws .answer ≡ refused wrongWorkspaceNumber

@@ -10,7 +10,7 @@ ghost use Rattle.verdict_line.specs.Line.{lineMost, printed};
 ghost use Rattle.verdict_line.specs.Put.{Put};
 
 pub mod bytes;
-mod judge;
+pub mod judge;
 pub mod print;
 pub mod request;
 pub mod text;
