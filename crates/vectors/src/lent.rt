@@ -1,0 +1,48 @@
+// Lent words: filled and compared.
+
+pub fn fill(words: &mut [u32], word: u32) {
+    let mut i = 0;
+    while i < words.len() {
+        words[i] = word;
+        i += 1;
+    }
+}
+
+// The first n words, or all where there are fewer.
+pub fn front<'a>(words: &'a mut [u32], n: usize) -> &'a mut [u32] {
+    if words.len() < n {
+        return words;
+    }
+    &mut words[..n]
+}
+
+// The word at a place among the first `count` of a list, and the tail's word beyond them.
+fn word_at(list: &[u32], count: usize, tail: u32, i: usize) -> u32 {
+    if count <= i {
+        return tail;
+    }
+    if list.len() <= i {
+        return tail;
+    }
+    list[i]
+}
+
+// Whether these are the first `count` words of a list and then a tail of equal words.
+pub fn holds(words: &[u32], list: &[u32], count: usize, tail: u32) -> bool {
+    if words.len() < count {
+        return false;
+    }
+    let mut i = 0;
+    while i < words.len() {
+        if words[i] != word_at(list, count, tail, i) {
+            return false;
+        }
+        i += 1;
+    }
+    true
+}
+
+// Whether every word is this one.
+pub fn filled(words: &[u32], word: u32) -> bool {
+    holds(words, words, 0, word)
+}

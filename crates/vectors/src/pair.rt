@@ -1,0 +1,365 @@
+// Vectors of presses and showings: a pair of workspaces, and what is done with them, one call after the other.
+//
+//     pair C left right CALL ..
+//
+// Both workspaces have C words (or one C and the other D, written `C,D`): the term's, then junk. The session is fresh at first, or after `total n`
+// in front of the calls one that has spent n. A call is one of
+//
+//     press budget VERDICT spent left right    the answer, and the terms' words afterwards
+//     press budget Refused number              a refusal, which changes nothing
+//     show words                               the part that is handed back
+//
+// and gets the terms' lengths, and a scratch of C words, unless `left n`, `right n` or `scratch n` stand in front of it, in this order. After a press
+// the session and every word of both workspaces and the scratch are compared too.
+use crate::lent::filled;
+use crate::lent::front;
+use crate::text::NOWHERE;
+use crate::text::after;
+use crate::text::compare;
+use crate::text::read_list;
+use crate::text::read_number;
+use crate::text::read_setting;
+use rounds::Answer;
+use rounds::Pressed;
+use rounds::Session;
+use rounds::Verdict;
+use rounds::show;
+use session::press_owned;
+use words::Word;
+
+// One word more than a workspace may have.
+pub const ROOM: usize = Word::WORKSPACE_MOST + 1;
+
+// What lies beyond a term, and in a scratch, before a call: no word of a term.
+pub const JUNK: u32 = 7;
+
+// Between two calls.
+struct State {
+    // Where the line is read on, or nowhere once something was not as it says.
+    at: usize,
+    // Where the line has the words of both terms, their lengths, and what lies beyond them in their workspaces.
+    terms: usize,
+    left: usize,
+    right: usize,
+    tail: u32,
+    session: Session,
+}
+
+// The session that the first call gets.
+struct Opened {
+    session: Session,
+    next: usize,
+}
+
+// The lengths that a call gets.
+struct Given {
+    left: usize,
+    right: usize,
+    next: usize,
+}
+
+// The scratch's size and the budget that a press gets.
+struct Press {
+    scratch: usize,
+    budget: u32,
+    next: usize,
+}
+
+// An expected answer that is no refusal, without the lengths.
+struct Outcome {
+    verdict: Verdict,
+    spent: u32,
+    next: usize,
+}
+
+// What lies in both workspaces and the scratch beside what should: whether it is that, and the lengths of the terms.
+struct Lent {
+    equal: bool,
+    left: usize,
+    right: usize,
+    next: usize,
+}
+
+// Where reading goes on after a test.
+fn only_if(passed: bool, next: usize) -> usize {
+    if passed {
+        return next;
+    }
+    NOWHERE
+}
+
+fn verdict_number(verdict: Verdict) -> u32 {
+    match verdict {
+        Verdict::Same => 0,
+        Verdict::Different => 1,
+        Verdict::Budget => 2,
+        Verdict::Full => 3,
+    }
+}
+
+fn same_verdict(verdict: Verdict, other: Verdict) -> bool {
+    verdict_number(verdict) == verdict_number(other)
+}
+
+// Whether a session has this total, these lengths and this verdict.
+fn is_session(session: Session, total: u64, left: usize, right: usize, verdict: Verdict) -> bool {
+    let last = session.verdict;
+    (session.total as u64 == total)
+        & (session.left == left)
+        & (session.right == right)
+        & same_verdict(last, verdict)
+}
+
+// Whether an answer is this verdict with these numbers.
+fn shows(answer: Answer, verdict: Verdict, spent: u32, left: usize, right: usize) -> bool {
+    let Answer::Shown {
+        verdict: v,
+        spent: s,
+        left: l,
+        right: r,
+    } = answer
+    else {
+        return false;
+    };
+    (s == spent) & (l == left) & (r == right) & same_verdict(v, verdict)
+}
+
+fn refuses(answer: Answer, number: u32) -> bool {
+    let Answer::Refused(n) = answer else {
+        return false;
+    };
+    n == number
+}
+
+fn read_spent(line: &[u8], at: usize, verdict: Verdict) -> Outcome {
+    let spent = read_number(line, at);
+    Outcome {
+        verdict,
+        spent: spent.value,
+        next: spent.next,
+    }
+}
+
+fn read_outcome(line: &[u8], at: usize) -> Outcome {
+    let same = after(line, at, b"Same");
+    if same != NOWHERE {
+        return read_spent(line, same, Verdict::Same);
+    }
+    let different = after(line, at, b"Different");
+    if different != NOWHERE {
+        return read_spent(line, different, Verdict::Different);
+    }
+    let budget = after(line, at, b"Budget");
+    if budget != NOWHERE {
+        return read_spent(line, budget, Verdict::Budget);
+    }
+    read_spent(line, after(line, at, b"Full"), Verdict::Full)
+}
+
+// `left n` and `right n`
+fn read_given(line: &[u8], at: usize, left: usize, right: usize) -> Given {
+    let l = read_setting(line, at, b"left", left);
+    let r = read_setting(line, l.next, b"right", right);
+    Given {
+        left: l.value,
+        right: r.value,
+        next: r.next,
+    }
+}
+
+// `scratch n` and `press budget`
+fn read_press(line: &[u8], at: usize, size: usize) -> Press {
+    let scratch = read_setting(line, at, b"scratch", size);
+    let budget = read_number(line, after(line, scratch.next, b"press"));
+    Press {
+        scratch: scratch.value,
+        budget: budget.value,
+        next: budget.next,
+    }
+}
+
+// Both workspaces beside the words that the line has from `at` on, with a tail, and the scratch beside equal words.
+fn compare_lent(
+    line: &[u8],
+    at: usize,
+    left: &[u32],
+    right: &[u32],
+    tail: u32,
+    scratch: &[u32],
+    word: u32,
+) -> Lent {
+    let l = compare(line, at, left, tail);
+    let r = compare(line, l.next, right, tail);
+    Lent {
+        equal: l.equal & r.equal & filled(scratch, word),
+        left: l.count,
+        right: r.count,
+        next: r.next,
+    }
+}
+
+// After a press that should be refused with the number that comes next: all is as before.
+fn check_refused(line: &[u8], at: usize, lent: Lent, pressed: Pressed, mut state: State) -> State {
+    let number = read_number(line, at);
+    let answer = pressed.answer;
+    let session = pressed.session;
+    let old = state.session;
+    let verdict = old.verdict;
+    let kept = is_session(session, old.total as u64, old.left, old.right, verdict);
+    state.at = only_if(
+        lent.equal & kept & refuses(answer, number.value),
+        number.next,
+    );
+    state
+}
+
+// After a press that should answer this outcome.
+fn check_counted(outcome: Outcome, lent: Lent, pressed: Pressed, state: State) -> State {
+    let answer = pressed.answer;
+    let session = pressed.session;
+    let verdict = outcome.verdict;
+    let old = state.session;
+    let total = old.total as u64 + outcome.spent as u64;
+    let renewed = is_session(session, total, lent.left, lent.right, verdict);
+    let shown = shows(answer, verdict, outcome.spent, lent.left, lent.right);
+    State {
+        at: only_if(lent.equal & renewed & shown, lent.next),
+        terms: outcome.next,
+        left: lent.left,
+        right: lent.right,
+        tail: 0,
+        session,
+    }
+}
+
+// After a press: the expected answer, and the words in both workspaces and the scratch.
+fn check_press(
+    line: &[u8],
+    at: usize,
+    left: &[u32],
+    right: &[u32],
+    scratch: &[u32],
+    pressed: Pressed,
+    state: State,
+) -> State {
+    let refused = after(line, at, b"Refused");
+    if refused != NOWHERE {
+        let lent = compare_lent(line, state.terms, left, right, state.tail, scratch, JUNK);
+        return check_refused(line, refused, lent, pressed, state);
+    }
+    let outcome = read_outcome(line, at);
+    let lent = compare_lent(line, outcome.next, left, right, 0, scratch, 0);
+    check_counted(outcome, lent, pressed, state)
+}
+
+// `scratch n`, `press budget` and the expected answer.
+fn press_step(
+    line: &[u8],
+    given: Given,
+    left: &mut [u32],
+    right: &mut [u32],
+    state: State,
+) -> State {
+    let call = read_press(line, given.next, left.len());
+    let mut junk = [JUNK; ROOM];
+    let scratch = front(&mut junk, call.scratch);
+    let session = state.session;
+    let pressed = press_owned(
+        left,
+        right,
+        scratch,
+        given.left,
+        given.right,
+        call.budget,
+        session,
+    );
+    check_press(line, call.next, left, right, scratch, pressed, state)
+}
+
+// Whether the part that comes next is shown: where reading goes on.
+fn show_step<'a>(
+    line: &[u8],
+    at: usize,
+    left: &'a [u32],
+    right: &'a [u32],
+    left_length: usize,
+    right_length: usize,
+) -> usize {
+    let part = show(left, right, left_length, right_length);
+    let shown = compare(line, at, part, 0);
+    only_if(shown.equal & (shown.count == part.len()), shown.next)
+}
+
+// A call with what stands in front of it.
+fn step(line: &[u8], left: &mut [u32], right: &mut [u32], mut state: State) -> State {
+    let given = read_given(line, state.at, state.left, state.right);
+    let shown = after(line, given.next, b"show");
+    if shown == NOWHERE {
+        return press_step(line, given, left, right, state);
+    }
+    state.at = show_step(line, shown, left, right, given.left, given.right);
+    state
+}
+
+// Whether every call goes as the line says, to the line's end.
+fn steps(line: &[u8], left: &mut [u32], right: &mut [u32], start: State) -> bool {
+    let mut state = start;
+    let mut turns = line.len();
+    while 0 < turns {
+        state = step(line, left, right, state);
+        if line.len() <= state.at {
+            return state.at == line.len();
+        }
+        turns -= 1;
+    }
+    false
+}
+
+// The fresh session, or after `total` one that has spent the number and has lengths of no term.
+fn read_session(line: &[u8], at: usize) -> Opened {
+    let from = after(line, at, b"total");
+    if from == NOWHERE {
+        return Opened {
+            session: Session::fresh(),
+            next: at,
+        };
+    }
+    let total = read_number(line, from);
+    Opened {
+        session: Session {
+            total: total.value,
+            left: ROOM,
+            right: ROOM,
+            verdict: Verdict::Full,
+        },
+        next: total.next,
+    }
+}
+
+// The two terms, the session and the calls.
+fn run(line: &[u8], at: usize, left: &mut [u32], right: &mut [u32]) -> bool {
+    let l = read_list(line, at, left);
+    let r = read_list(line, l.next, right);
+    let opened = read_session(line, r.next);
+    let session = opened.session;
+    let state = State {
+        at: opened.next,
+        terms: at,
+        left: l.count,
+        right: r.count,
+        tail: JUNK,
+        session,
+    };
+    steps(line, left, right, state)
+}
+
+// Whether a line is right, from its sizes on.
+pub fn pair_holds(line: &[u8], at: usize) -> bool {
+    let mut left = [JUNK; ROOM];
+    let mut right = [JUNK; ROOM];
+    let c = read_number(line, at);
+    let d = read_setting(line, c.next, b",", c.value as usize);
+    let l = front(&mut left, c.value as usize);
+    let r = front(&mut right, d.value);
+    run(line, d.next, l, r)
+}
