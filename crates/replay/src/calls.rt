@@ -256,11 +256,8 @@ pub fn perform(
     ensures { λ r. ⌜ r .kept .scratch ≤ tableLimit ⌝ }
 {
     match operation {
-        Operation::Load {
-            side,
-            table: stored,
-        } => {
-            let used = load(bytes, stored, side, left, right, out);
+        Operation::Load { side, table } => {
+            let used = load(bytes, table, side, left, right, out);
             Done { used, kept }
         }
         Operation::Press(call) => press(call, left, right, scratch, kept, out),

@@ -41,6 +41,10 @@ callOf scratch l r b = record { scratch = scratch; leftLength = l; rightLength =
 abbrev pub pressedOf : codePressed.Pressed → (left right scratch : List ℕ) → Pressed
 pressedOf p l r s = record { answer = answerOf (p .answer); memory = memoryOf l r (p .session); scratch = s }
 
+-- A refusal of the covered press, with the session as it was.
+abbrev pub refusedWith : ℕ → codeSession.Session → codePressed.Pressed
+refusedWith n s = record { answer = answer.Refused n; session = s }
+
 abbrev pub planOf : codePlan.Plan → Plan
 planOf plan.Normal = normal
 planOf (plan.Contract p n) = contract p n

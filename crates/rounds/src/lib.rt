@@ -6,7 +6,7 @@ ghost use Rattle.calculus.specs.Rounds.{rounds};
 ghost use Rattle.rounds.specs.Press.{sized, affordable, press, conclude, totalLimit, budgetLimit};
 ghost use Rattle.rounds.specs.Session.{fresh};
 ghost use Rattle.rounds.specs.Show.{show, partOf};
-ghost use Rattle.rounds.specs.Types.{sessionOf, memoryOf, callOf, pressedOf};
+ghost use Rattle.rounds.specs.Types.{sessionOf, memoryOf, callOf, pressedOf, refusedWith};
 ghost use Rattle.rounds.specs.Run.{Runs};
 ghost use Rattle.step.specs.Held.{held};
 use crate::run::run;
@@ -67,6 +67,18 @@ pub enum Answer {
 pub struct Pressed {
     pub answer: Answer,
     pub session: Session,
+}
+
+impl Pressed {
+    // A refusal: the session is as it was.
+    fn refused(number: u32, session: Session) -> Self
+        ensures { λ p. ⌜ p ≡ refusedWith number session ⌝ }
+    {
+        Pressed {
+            answer: Answer::Refused(number),
+            session,
+        }
+    }
 }
 
 // Whether workspaces and scratch of these lengths pass refusal 7.
@@ -153,28 +165,16 @@ pub fn press(
     ensures { λ p. ⌜ pressedOf p (now (left .exit)) (now (right .exit)) (now (scratch .exit)) ≡ press (memoryOf (now (left .entry)) (now (right .entry)) session) (callOf (now (scratch .entry)) «left_length» «right_length» budget) ⌝ }
 {
     if !sizes_pass(left.len(), right.len(), scratch.len()) {
-        return Pressed {
-            answer: Answer::Refused(Refusal::WORKSPACE),
-            session,
-        };
+        return Pressed::refused(Refusal::WORKSPACE, session);
     }
     if !budget_passes(budget, session.total) {
-        return Pressed {
-            answer: Answer::Refused(Refusal::BUDGET),
-            session,
-        };
+        return Pressed::refused(Refusal::BUDGET, session);
     }
     if !words::is_term(left, left_length) {
-        return Pressed {
-            answer: Answer::Refused(Refusal::TERM),
-            session,
-        };
+        return Pressed::refused(Refusal::TERM, session);
     }
     if !words::is_term(right, right_length) {
-        return Pressed {
-            answer: Answer::Refused(Refusal::TERM),
-            session,
-        };
+        return Pressed::refused(Refusal::TERM, session);
     }
     press_terms(
         left,

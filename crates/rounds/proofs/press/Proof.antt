@@ -9,31 +9,44 @@ use Rattle.rounds.proofs.press.Tie as tie
 sizes-pass-requires : tie.Need-sizes-pass-requires
 sizes-pass-requires c κs = search needs
 
+refused-requires : tie.Need-refused-requires
+refused-requires c κs = search needs
+
 returns : tie.Need-returns
-returns c = sym (refused-workspace _ _ (sym (c .before .sizes-pass .ensures) ∙ not-true _ (c .if1 .taken)))
+returns c =
+    rw (c .refused .ensures) (sym (refused-workspace _ _ (sym (c .before .before .sizes-pass .ensures) ∙ not-true _ (c .before .if1 .taken))))
 
 budget-passes-requires : tie.Need-budget-passes-requires
 budget-passes-requires c κs = search needs
 
+refused-requires-2 : tie.Need-refused-requires-2
+refused-requires-2 c κs = search needs
+
 returns-2 : tie.Need-returns-2
 returns-2 c =
-    let fits = sym (c .before .before .before .sizes-pass .ensures) ∙ not-false _ (c .before .before .if1 .left) in
-    sym (refused-budget _ _ fits (sym (c .before .budget-passes .ensures) ∙ not-true _ (c .if2 .taken)))
+    let fits = sym (c .before .before .before .before .sizes-pass .ensures) ∙ not-false _ (c .before .before .before .if1 .left) in
+    rw (c .refused2 .ensures) (sym (refused-budget _ _ fits (sym (c .before .before .budget-passes .ensures) ∙ not-true _ (c .before .if2 .taken))))
 
 is-term-requires : tie.Need-is-term-requires
 is-term-requires c κs = search needs
+
+refused-requires-3 : tie.Need-refused-requires-3
+refused-requires-3 c κs = search needs
 
 same-length : tie.Need-same-length
 same-length c = search needs
 
 returns-3 : tie.Need-returns-3
 returns-3 c =
-    let fits = sym (c .before .before .before .before .before .before .sizes-pass .ensures) ∙ not-false _ (c .before .before .before .before .before .if1 .left) in
-    let affords = sym (c .before .before .before .before .budget-passes .ensures) ∙ not-false _ (c .before .before .before .if2 .left) in
-    sym (refused-left _ _ fits affords (sym (c .before .is-term .ensures) ∙ not-true _ (c .if3 .taken)))
+    let fits = sym (c .before .before .before .before .before .before .before .sizes-pass .ensures) ∙ not-false _ (c .before .before .before .before .before .before .if1 .left) in
+    let affords = sym (c .before .before .before .before .before .budget-passes .ensures) ∙ not-false _ (c .before .before .before .before .if2 .left) in
+    rw (c .refused3 .ensures) (sym (refused-left _ _ fits affords (sym (c .before .before .is-term .ensures) ∙ not-true _ (c .before .if3 .taken))))
 
 is-term-requires-2 : tie.Need-is-term-requires-2
 is-term-requires-2 c κs = search needs
+
+refused-requires-4 : tie.Need-refused-requires-4
+refused-requires-4 c κs = search needs
 
 same-length-2 : tie.Need-same-length-2
 same-length-2 c = search needs
@@ -43,10 +56,10 @@ same-length-3 c = search needs
 
 returns-4 : tie.Need-returns-4
 returns-4 c =
-    let fits = sym (c .before .before .before .before .before .before .before .before .before .sizes-pass .ensures) ∙ not-false _ (c .before .before .before .before .before .before .before .before .if1 .left) in
-    let affords = sym (c .before .before .before .before .before .before .before .budget-passes .ensures) ∙ not-false _ (c .before .before .before .before .before .before .if2 .left) in
-    let is-left = sym (c .before .before .before .before .is-term .ensures) ∙ not-false _ (c .before .before .before .if3 .left) in
-    sym (refused-right _ _ fits affords is-left (sym (c .before .is-term2 .ensures) ∙ not-true _ (c .if4 .taken)))
+    let fits = sym (c .before .before .before .before .before .before .before .before .before .before .sizes-pass .ensures) ∙ not-false _ (c .before .before .before .before .before .before .before .before .before .if1 .left) in
+    let affords = sym (c .before .before .before .before .before .before .before .before .budget-passes .ensures) ∙ not-false _ (c .before .before .before .before .before .before .before .if2 .left) in
+    let is-left = sym (c .before .before .before .before .before .is-term .ensures) ∙ not-false _ (c .before .before .before .before .if3 .left) in
+    rw (c .refused4 .ensures) (sym (refused-right _ _ fits affords is-left (sym (c .before .before .is-term2 .ensures) ∙ not-true _ (c .before .if4 .taken))))
 
 press-terms-requires : tie.Need-press-terms-requires
 press-terms-requires c κs =
@@ -78,13 +91,17 @@ press-spec =
     tie.close
     (tie.spec
     sizes-pass-requires
+    refused-requires
     returns
     budget-passes-requires
+    refused-requires-2
     returns-2
     is-term-requires
+    refused-requires-3
     same-length
     returns-3
     is-term-requires-2
+    refused-requires-4
     same-length-2
     same-length-3
     returns-4
