@@ -1,6 +1,11 @@
 // Lent words: filled and compared.
+ghost use mathlib.Core.Path.{_≡_};
+ghost use lib.ListN.{length, replicate};
+ghost use Rattle.vectors.specs.Compared.{wordAt, areWords};
 
-pub fn fill(words: &mut [u32], word: u32) {
+pub fn fill(words: &mut [u32], word: u32)
+    ensures { λ _. ⌜ now (words .exit) ≡ replicate (length (now (words .entry))) word ⌝ }
+{
     let mut i = 0;
     while i < words.len() {
         words[i] = word;
@@ -17,7 +22,9 @@ pub fn front<'a>(words: &'a mut [u32], n: usize) -> &'a mut [u32] {
 }
 
 // The word at a place among the first `count` of a list, and the tail's word beyond them.
-fn word_at(list: &[u32], count: usize, tail: u32, i: usize) -> u32 {
+fn word_at(list: &[u32], count: usize, tail: u32, i: usize) -> u32
+    ensures { λ r. ⌜ r ≡ wordAt (now (list .entry)) count tail i ⌝ }
+{
     if count <= i {
         return tail;
     }
@@ -28,7 +35,9 @@ fn word_at(list: &[u32], count: usize, tail: u32, i: usize) -> u32 {
 }
 
 // Whether these are the first `count` words of a list and then a tail of equal words.
-pub fn holds(words: &[u32], list: &[u32], count: usize, tail: u32) -> bool {
+pub fn holds(words: &[u32], list: &[u32], count: usize, tail: u32) -> bool
+    ensures { λ r. ⌜ r ≡ areWords (now (words .entry)) (now (list .entry)) count tail ⌝ }
+{
     if words.len() < count {
         return false;
     }
@@ -43,6 +52,8 @@ pub fn holds(words: &[u32], list: &[u32], count: usize, tail: u32) -> bool {
 }
 
 // Whether every word is this one.
-pub fn filled(words: &[u32], word: u32) -> bool {
+pub fn filled(words: &[u32], word: u32) -> bool
+    ensures { λ r. ⌜ r ≡ areWords (now (words .entry)) (now (words .entry)) 0 word ⌝ }
+{
     holds(words, words, 0, word)
 }

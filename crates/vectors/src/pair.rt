@@ -26,6 +26,9 @@ use rounds::Verdict;
 use rounds::show;
 use session::press_owned;
 use words::Word;
+ghost use mathlib.Core.Path.{_≡_};
+ghost use Rattle.rounds.specs.Types.{verdictOf, sessionOf, answerOf};
+ghost use Rattle.vectors.specs.Answers.{numberOf, sameVerdict, isSession, isShown, isRefused};
 
 // One word more than a workspace may have.
 pub const ROOM: usize = Word::WORKSPACE_MOST + 1;
@@ -88,7 +91,9 @@ fn only_if(passed: bool, next: usize) -> usize {
     NOWHERE
 }
 
-fn verdict_number(verdict: Verdict) -> u32 {
+fn verdict_number(verdict: Verdict) -> u32
+    ensures { λ r. ⌜ r ≡ numberOf (verdictOf verdict) ⌝ }
+{
     match verdict {
         Verdict::Same => 0,
         Verdict::Different => 1,
@@ -97,12 +102,16 @@ fn verdict_number(verdict: Verdict) -> u32 {
     }
 }
 
-fn same_verdict(verdict: Verdict, other: Verdict) -> bool {
+fn same_verdict(verdict: Verdict, other: Verdict) -> bool
+    ensures { λ r. ⌜ r ≡ sameVerdict (verdictOf verdict) (verdictOf other) ⌝ }
+{
     verdict_number(verdict) == verdict_number(other)
 }
 
 // Whether a session has this total, these lengths and this verdict.
-fn is_session(session: Session, total: u64, left: usize, right: usize, verdict: Verdict) -> bool {
+fn is_session(session: Session, total: u64, left: usize, right: usize, verdict: Verdict) -> bool
+    ensures { λ r. ⌜ r ≡ isSession (sessionOf session) total left right (verdictOf verdict) ⌝ }
+{
     let last = session.verdict;
     (session.total as u64 == total)
         & (session.left == left)
@@ -111,7 +120,9 @@ fn is_session(session: Session, total: u64, left: usize, right: usize, verdict: 
 }
 
 // Whether an answer is this verdict with these numbers.
-fn shows(answer: Answer, verdict: Verdict, spent: u32, left: usize, right: usize) -> bool {
+fn shows(answer: Answer, verdict: Verdict, spent: u32, left: usize, right: usize) -> bool
+    ensures { λ r. ⌜ r ≡ isShown (answerOf answer) (verdictOf verdict) spent left right ⌝ }
+{
     let Answer::Shown {
         verdict: v,
         spent: s,
@@ -124,7 +135,9 @@ fn shows(answer: Answer, verdict: Verdict, spent: u32, left: usize, right: usize
     (s == spent) & (l == left) & (r == right) & same_verdict(v, verdict)
 }
 
-fn refuses(answer: Answer, number: u32) -> bool {
+fn refuses(answer: Answer, number: u32) -> bool
+    ensures { λ r. ⌜ r ≡ isRefused (answerOf answer) number ⌝ }
+{
     let Answer::Refused(n) = answer else {
         return false;
     };

@@ -22,11 +22,16 @@ use crate::text::read_number;
 use tables::Answer;
 use tables::load;
 use tables::write;
+ghost use mathlib.Core.Path.{_≡_};
+ghost use Rattle.tables.specs.Types.{answerOf};
+ghost use Rattle.vectors.specs.Answers.{isReturned};
 
 // The words of a record.
 const RECORD: u32 = 4;
 
-fn returns_count(answer: Answer, count: usize) -> bool {
+fn returns_count(answer: Answer, count: usize) -> bool
+    ensures { λ r. ⌜ r ≡ isReturned (answerOf answer) count ⌝ }
+{
     let Answer::Returned(n) = answer else {
         return false;
     };

@@ -1,18 +1,21 @@
+-- `fill` meets its contract: the words before the loop's position are filled.
 use Prim.Native.Nat.{_≤_, _-_}
-use mathlib.Core.Path.{_≡_, refl}
+use mathlib.Core.Path.{_≡_, refl, sym, _∙_}
 use native.Mathlib.Omega.{arith}
-use lib.ListN.{length, length-set}
+use lib.ListN.{length, take, replicate, length-set}
+use lib.Seq.{take-all}
+use Rattle.substitution.proofs.FillLaws.{filled-more}
 use Rattle.vectors.proofs.lent.fill.Statement.{statement}
 use Rattle.vectors.proofs.lent.fill.Tie as tie
 
 abbrev Inv-loop : tie.InvT-loop
-Inv-loop words₀ word i₀ words i = (length words ≡ length words₀) × (i ≤ length words)
+Inv-loop words₀ word i₀ words i = (length words ≡ length words₀) × (i ≤ length words) × (take i words ≡ replicate i word)
 
 abbrev μ-loop : tie.MeasureT-loop
 μ-loop words₀ word i₀ words i = length words - i
 
 loop-holds : tie.Need-loop-holds Inv-loop μ-loop
-loop-holds c = (refl, omega arith)
+loop-holds c = (refl, omega arith, refl)
 
 mul-words : tie.Need-mul-words Inv-loop μ-loop
 mul-words c = omega arith
@@ -27,13 +30,20 @@ loop-less : tie.Need-loop-less Inv-loop μ-loop
 loop-less c = simp length-set (omega arith)
 
 loop-again : tie.Need-loop-again Inv-loop μ-loop
-loop-again c = (simp length-set (omega arith), simp length-set (omega arith))
+loop-again c = (
+  simp length-set (omega arith),
+  simp length-set (omega arith),
+  filled-more (c .before .loop .words) (c .before .loop .i) _ (omega arith) (c .before .loop .inv .2),
+)
 
 same-length : tie.Need-same-length Inv-loop μ-loop
 same-length c = omega arith
 
 returns : tie.Need-returns Inv-loop μ-loop
-returns c = tt
+returns c =
+    let l = c .before .loop in
+    let e : l .i ≡ length (l .words) = omega arith in
+    sym (take-all (l .i) (l .words) (omega arith)) ∙ l .inv .2 ∙ (rw (e, l .inv .0))
 
 pub fill-spec : {M : Type 1} → statement M
 fill-spec =

@@ -1,0 +1,3 @@
+-- When a vector passes.
+pub mod Compared
+pub mod Answers
