@@ -3,4 +3,4 @@ pub mod Frames
 pub mod Scan
 pub mod Stack
 pub mod IsTerm
-pub mod ClearLaws
+pub mod PlacedLaws

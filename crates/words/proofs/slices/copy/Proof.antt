@@ -1,9 +1,9 @@
 -- `copy` meets its contract. The invariant: the words still to copy make of the destination what all of them make of it at entry.
 use Prim.Native.Nat.{_-_}
 use native.Mathlib.Omega.{arith}
-use Rattle.step.proofs.CopyLaws.{Copying, copying-starts, copying-turn, copying-ends}
-use Rattle.step.proofs.copy.Statement.{statement}
-use Rattle.step.proofs.copy.Tie as tie
+use Rattle.words.proofs.PlacedLaws.{Copying, copying-starts, copying-turn, copying-ends}
+use Rattle.words.proofs.slices.copy.Statement.{statement}
+use Rattle.words.proofs.slices.copy.Tie as tie
 
 abbrev Inv-loop : tie.InvT-loop
 Inv-loop src from to dst₀ out i₀ o₀ dst i o = Copying src from to dst₀ out dst i o
