@@ -3,3 +3,4 @@ pub mod Limits
 pub mod Bound
 pub mod Frames
 pub mod IsTerm
+pub mod Types
