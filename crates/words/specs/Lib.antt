@@ -4,3 +4,4 @@ pub mod Bound
 pub mod Frames
 pub mod IsTerm
 pub mod Placed
+pub mod Types

@@ -18,6 +18,7 @@ ghost use Rattle.words.specs.IsTerm.{isTerm};
 
 pub mod refusal;
 pub mod slices;
+pub mod workspace;
 
 // A word by value. A workspace holds its number, so a word read there is `Word(w)`.
 pub struct Word(pub u32);
