@@ -1,7 +1,11 @@
 pub mod Bench
-pub mod WordLaws
-pub mod SkipLaws
 pub mod All
+pub mod Spine
+pub mod Traversal
+pub mod EverywhereLaws
+pub mod WordLaws
+pub mod MarkedWords
+pub mod SkipLaws
 pub mod ReadLaws
 pub mod FirstLaws
 pub mod PrefixFree
@@ -12,10 +16,8 @@ pub mod Inversion
 pub mod LeftmostLaws
 pub mod RedexWord
 pub mod Decidable
-pub mod Spine
 pub mod AcceptedLaws
 pub mod Rewriting
-pub mod Traversal
 pub mod Substitution
 pub mod Parallel
 pub mod ChurchRosser

@@ -7,13 +7,16 @@ use mathlib.Core.Bool.{Bool, true, false, cond}
 use mathlib.Core.Option.{Option, some, none, Option·map, Option·getD}
 use native.Mathlib.Numerals.{add-one}
 use lib.Dec.{eqb}
+use lib.IntN.{pos}
 use borrow.Author.Tests.{eqb-true}
 use Rattle.calculus.specs.Term.{Sort, term, terms, branches, Exp, var, lam, app, con, case, nil, cons, end, branch, Term, Terms, Branches, count}
+use Rattle.calculus.specs.Shift.{shift}
 use Rattle.calculus.specs.Substitution.{argument, subst}
 use Rattle.calculus.specs.Contraction.{select}
 use Rattle.calculus.specs.Leftmost.{beta, inspect}
-use Rattle.calculus.proofs.Traversal.{traverse, raise, lift, sub, below-or-above, lift-below, lift-above, raise-is-sub}
-use Rattle.calculus.proofs.Substitution.{put, count-traverse, subst-is-sub, sub-subst}
+use Rattle.calculus.proofs.Spine.{count-traverse}
+use Rattle.calculus.proofs.Traversal.{below-or-above}
+use Rattle.calculus.proofs.Substitution.{lift, sub, lift-below, lift-above, shift-is-sub, put, subst-is-sub, sub-subst}
 
 pub data Par : (s : Sort) → Exp s → Exp s → Type 0 where
   par-var : {i : ℕ} → Par term (var i) (var i)
@@ -42,7 +45,6 @@ par-refl (branch t n b bs) = par-branch (par-refl b) (par-refl bs)
 
 -- The case rule commutes with substitution.
 select-sub : (σ : ℕ → Term) (d t : ℕ) (xs : Terms) (bs : Branches) → select t (sub σ d xs) (sub σ d bs) ≡ Option·map (sub σ d) (select t xs bs)
-unfolding traverse
 select-sub σ d t xs end = refl
 select-sub σ d t xs (branch u n b bs) = rw (count-traverse (lift σ) d xs, select-sub σ d t xs bs) (by (eqb t u) (eqb (count xs) n) refl)
   where
@@ -56,7 +58,6 @@ select-sub σ d t xs (branch u n b bs) = rw (count-traverse (lift σ) d xs, sele
 -- If the terms of σ reduce to those of τ, under any number of binders, then so does what σ makes of an expression to what τ makes of its reducts.
 module _ (σ τ : ℕ → Term) (variable : (d i : ℕ) → Par term (lift σ d i) (lift τ d i)) where
   par-traverse : {s : Sort} {e e′ : Exp s} (d : ℕ) → Par s e e′ → Par s (sub σ d e) (sub τ d e′)
-  unfolding traverse
   par-traverse d (par-var {i = i}) = variable d i
   par-traverse d (par-lam p) = par-lam (par-traverse (suc d) p)
   par-traverse d (par-app p q) = par-app (par-traverse d p) (par-traverse d q)
@@ -70,9 +71,9 @@ module _ (σ τ : ℕ → Term) (variable : (d i : ℕ) → Par term (lift σ d 
   par-traverse d par-end = par-end
   par-traverse d (par-branch {n = n} p q) = par-branch (par-traverse (d + n) p) (par-traverse d q)
 
-par-raise : {s : Sort} {e e′ : Exp s} (n d : ℕ) → Par s e e′ → Par s (raise n d e) (raise n d e′)
-par-raise {e = e} {e′ = e′} n d p =
-    rw (raise-is-sub n d e, raise-is-sub n d e′) (par-traverse up up (λ d i. par-refl (lift up d i)) d p)
+par-shift : {s : Sort} {e e′ : Exp s} (n d : ℕ) → Par s e e′ → Par s (shift (pos n) d e) (shift (pos n) d e′)
+par-shift {e = e} {e′ = e′} n d p =
+    rw (shift-is-sub n d e, shift-is-sub n d e′) (par-traverse up up (λ d i. par-refl (lift up d i)) d p)
   where
     up : ℕ → Term
     up i = var (i + n)
@@ -84,7 +85,7 @@ par-sub σ τ h d p = par-traverse σ τ variable d p
     variable d i =
         below-or-above i d
         (λ l. rw (lift-below σ d i l, lift-below τ d i l) par-var)
-        (λ l. rw (lift-above σ d i l, lift-above τ d i l) (par-raise d 0 (h (i - d))))
+        (λ l. rw (lift-above σ d i l, lift-above τ d i l) (par-shift d 0 (h (i - d))))
 
 -- Both are none, or the one term reduces to the other.
 abbrev ParOption : Option Term → Option Term → Type 0

@@ -141,8 +141,8 @@ at-subject (app f g) bs vs h s = rw (other-subject (count bs) applicationKind 0 
 at-subject (con t xs) bs {at} vs h s =
     let two : at + 1 + 1 ≡ at + 2 = omega arith in
     let s′ = rw (append-assoc (words (con t xs)) (words bs) vs) at (behind-word s) in
-    rw (append-assoc (words (con t xs)) (words bs) vs, parts-constructor (count bs) (pack t (count xs)) at (words xs ++ (words bs ++ vs)), caseParts-words (count bs) t xs at (words bs ++ vs) (h .0))
-    (root-selected (selected t xs bs vs (h .1) (behind (words (con t xs)) s′)) (stands xs (words bs ++ vs) (rw two at (behind-word s′)) (h .0 .1)) (h .0 .0) (λ limit i. i .0))
+    rw (append-assoc (words (con t xs)) (words bs) vs, parts-constructor (count bs) (pack t (count xs)) at (words xs ++ (words bs ++ vs)), caseParts-words (count bs) t xs at (words bs ++ vs) (h .1))
+    (root-selected (selected t xs bs vs (h .2) (behind (words (con t xs)) s′)) (stands xs (words bs ++ vs) (rw two at (behind-word s′)) (h .1 .1)) (h .1 .0) (λ limit i. i .1 .1))
 at-subject (case e cs) bs vs h s = rw (other-subject (count bs) caseKind (count cs) _ _ (omega arith) (λ e. omega arith)) stuck
 
 root-words : {W : List ℕ} (t : Term) {at : ℕ} (vs : List ℕ) → Packable t → From W at (words t ++ vs) → Root W t (contractAt 0 t) (parts at (words t ++ vs))

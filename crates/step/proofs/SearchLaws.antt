@@ -73,8 +73,8 @@ found-at (case c bs) at zero vs h s l e = found-root (case c bs) at vs h s (omeg
 found-at (case c bs) at (suc p) vs h s l e =
     let s′ = rw (append-assoc (words c) (words bs) vs) at (behind-word s) in
     agrees-ltb p (size c)
-    (λ m. agrees-map (λ c′. case c′ bs) (found-at c (at + 1) p (words bs ++ vs) (h .0) s′ m (omega arith)))
-    (λ m. agrees-map (case c) (found-at bs (at + 1 + size c) (p - size c) vs (h .1) (behind (words c) s′) (omega (arith, length-append (words c) (words bs))) (omega arith)))
+    (λ m. agrees-map (λ c′. case c′ bs) (found-at c (at + 1) p (words bs ++ vs) (h .1) s′ m (omega arith)))
+    (λ m. agrees-map (case c) (found-at bs (at + 1 + size c) (p - size c) vs (h .2) (behind (words c) s′) (omega (arith, length-append (words c) (words bs))) (omega arith)))
 found-at nil at p vs h s l e = absurd (omega arith)
 found-at (cons a xs) at p vs h s l e =
     let s′ = rw (append-assoc (words a) (words xs) vs) at s in
