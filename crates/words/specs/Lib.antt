@@ -2,4 +2,5 @@
 pub mod Limits
 pub mod Bound
 pub mod Frames
+pub mod Packed
 pub mod IsTerm
