@@ -2,22 +2,23 @@
 --
 -- A law here has the numbers of binders around the expression before (d) and after (d′) as variables, with inequalities between them, so that it
 -- applies again under a binder.
-use Prim.Native.Nat.{ℕ, zero, suc, _+_, _-_, _≤_}
+use Prim.Native.Nat.{ℕ, suc, _+_, _-_, _≤_}
 use mathlib.Core.Path.{_≡_, refl}
 use mathlib.Core.Bool.{Bool, true, false, cond}
 use mathlib.Core.Option.{Option, some, none}
 use lib.Dec.{ltb, eqb}
-use lib.IntN.{pos, negℤ}
+use lib.IntN.{pos}
 use borrow.Author.Tests.{ltb-true, eqb-true}
 use native.Mathlib.Omega.{arith}
 use Rattle.calculus.specs.Term.{Sort, Exp, var, lam, app, con, case, nil, cons, end, branch, Term, Terms, Branches, count}
 use Rattle.calculus.specs.Accepted.{freeLimit, Accepted}
-use Rattle.calculus.specs.Shift.{move, shift}
+use Rattle.calculus.specs.Shift.{shift}
 use Rattle.calculus.specs.Substitution.{argument, replaced, subst}
 use Rattle.calculus.specs.Contraction.{Rule, select, Contracts, at-beta, at-case, in-body, in-function, in-argument}
 use Rattle.calculus.specs.Contraction.{in-arguments, in-subject, in-branches, in-first, in-later, in-branch, in-later-branch}
 use Rattle.calculus.specs.Leftmost.{leftmost}
 use Rattle.calculus.specs.Theorems.{Contraction-keeps-accepted}
+use Rattle.calculus.proofs.Move.{move-down}
 use Rattle.calculus.proofs.Spine.{spine-shift, spine-subst, spine-contraction, count-kept, rising-kept}
 use Rattle.calculus.proofs.LeftmostLaws.{leftmost-contracts}
 
@@ -58,10 +59,6 @@ accepted-argument : (d : ℕ) (xs : Terms) (k : ℕ) → Accepted d xs → Every
 accepted-argument d nil k h = tt
 accepted-argument d (cons a xs) k h =
     chosen (Every (Accepted d)) (eqb k (count xs)) (λ q. h .0) (accepted-argument d xs k (h .1))
-
-move-down : (n i : ℕ) → move (negℤ (pos n)) i ≡ i - n
-move-down zero i = omega arith
-move-down (suc n) i = refl
 
 -- With arguments that are accepted under d₀ binders put for its indices, an expression is accepted under as many binders fewer.
 module _ (xs : Terms) (d₀ : ℕ) (h₀ : Accepted d₀ xs) where

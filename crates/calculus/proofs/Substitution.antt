@@ -1,16 +1,17 @@
 -- The laws of the calculus's shift and substitution: both are substitutions given by functions (`shift-is-sub`, `subst-is-sub`), so that their
 -- laws are instances. The law that the theory of contraction needs is `sub-subst`: any substitution commutes with that of a redex's arguments.
-use Prim.Native.Nat.{ℕ, zero, suc, _+_, _-_, _≤_, _<_}
+use Prim.Native.Nat.{ℕ, suc, _+_, _-_, _≤_, _<_}
 use mathlib.Core.Path.{_≡_, refl, sym, _∙_, ap, ap₂, fun-ext, _≡⟨_⟩_, _∎}
 use mathlib.Core.Bool.{Bool, true, false, cond}
 use mathlib.Core.Option.{Option, some, none, Option·map, Option·getD}
 use native.Mathlib.Omega.{arith}
 use lib.Dec.{eqb}
-use lib.IntN.{pos, negℤ}
+use lib.IntN.{pos}
 use borrow.Author.Tests.{lt-ltb, le-ltb, eqb-true, eqb-false}
 use Rattle.calculus.specs.Term.{Sort, Exp, var, lam, app, con, case, nil, cons, end, branch, Term, Terms, count}
-use Rattle.calculus.specs.Shift.{move, shift}
+use Rattle.calculus.specs.Shift.{shift}
 use Rattle.calculus.specs.Substitution.{argument, replaced, subst}
+use Rattle.calculus.proofs.Move.{move-down}
 use Rattle.calculus.proofs.Traversal.{traverse, raised, raise, raised-above, raise-raise, raise-zero, lift, sub, lift-below, lift-above, sub-sub, sub-lift, sub-variable, sub-identity, raise-is-sub, below-or-above}
 
 -- The substitution of arguments for the first indices, the last argument for index 0.
@@ -119,11 +120,6 @@ shift-is-raise n d nil = refl
 shift-is-raise n d (cons a xs) = ap₂ cons (shift-is-raise n d a) (shift-is-raise n d xs)
 shift-is-raise n d end = refl
 shift-is-raise n d (branch t m b bs) = ap₂ (branch t m) (shift-is-raise n (d + m) b) (shift-is-raise n d bs)
-
--- An index moves down by subtraction.
-pub move-down : (n i : ℕ) → move (negℤ (pos n)) i ≡ i - n
-move-down zero i = omega arith
-move-down (suc n) i = refl
 
 subst-variable : (xs : Terms) (d i : ℕ) → subst xs d (var i) ≡ lift (put xs) d i
 unfolding traverse

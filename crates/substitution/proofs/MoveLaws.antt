@@ -1,11 +1,10 @@
 -- Moves up and down: by binders that an index leaves room for, and by binders that it is not below.
-use Prim.Native.Nat.{ℕ, zero, suc, _+_, _-_, _≤_, _<_}
-use mathlib.Core.Path.{_≡_, refl}
+use Prim.Native.Nat.{ℕ, zero, suc, _+_, _≤_, _<_}
+use mathlib.Core.Path.{refl}
 use native.Mathlib.Omega.{arith}
 use borrow.Author.Tests.{le-ltb}
 use lib.IntN.{pos, negℤ}
 use Rattle.calculus.specs.Term.{Sort, Exp, var, lam, app, con, case, nil, cons, end, branch}
-use Rattle.calculus.specs.Shift.{move}
 use Rattle.calculus.specs.Theorems.{IndicesWithin}
 use mir.Syntax.{w32}
 use mir.Val.{SFits}
@@ -18,10 +17,6 @@ moves-up n i h = record { exact = refl; fits = h }
 pub moves-down : (n i : ℕ) → n ≤ i → i < payloadBound → Moves (negℤ (pos n)) i
 moves-down zero i h g = record { exact = refl; fits = omega arith }
 moves-down (suc n) i h g = record { exact = rw (le-ltb i (suc n) h); fits = omega arith }
-
-pub move-down : (n i : ℕ) → move (negℤ (pos n)) i ≡ i - n
-move-down zero i = omega arith
-move-down (suc n) i = refl
 
 -- A distance down fits the code's signed numbers.
 pub negation-fits : (n : ℕ) → n < distanceBound → SFits w32 (negℤ (pos n))

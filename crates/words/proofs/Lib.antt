@@ -4,4 +4,4 @@ pub mod Packed
 pub mod Scan
 pub mod Stack
 pub mod IsTerm
-pub mod ClearLaws
+pub mod PlacedLaws

@@ -4,3 +4,5 @@ pub mod Bound
 pub mod Frames
 pub mod Packed
 pub mod IsTerm
+pub mod Placed
+pub mod Types

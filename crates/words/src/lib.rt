@@ -4,6 +4,7 @@ mod frame;
 
 use frame::Entered;
 use frame::Frame;
+use slices::fill;
 ghost use mathlib.Core.Path.{_≡_};
 ghost use mathlib.Core.List.{_++_};
 ghost use Prim.Native.Nat.{_≤_, _<_, _+_, _-_};
@@ -17,6 +18,8 @@ ghost use Rattle.words.specs.Bound.{bound};
 ghost use Rattle.words.specs.IsTerm.{isTerm};
 
 pub mod refusal;
+pub mod slices;
+pub mod workspace;
 
 // A word by value. A workspace holds its number, so a word read there is `Word(w)`.
 pub struct Word(pub u32);
@@ -186,11 +189,8 @@ pub fn clear(ws: &mut [u32], from: usize)
     requires { ⌜ from ≤ length (now ws) ⌝ }
     ensures { λ _. ⌜ now (ws .exit) ≡ take from (now (ws .entry)) ++ replicate (length (now (ws .entry)) - from) 0 ⌝ }
 {
-    let mut i = from;
-    while i < ws.len() {
-        ws[i] = 0;
-        i += 1;
-    }
+    let end = ws.len();
+    fill(ws, from, end, 0);
 }
 
 // Does nothing. Its contract says that each constant is the number that the calculus gives its name.
