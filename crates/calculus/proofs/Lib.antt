@@ -23,6 +23,7 @@ pub mod Parallel
 pub mod ChurchRosser
 pub mod Earliest
 pub mod PositionLaws
+pub mod ResumeLaws
 pub mod Focus
 pub mod SizeLaws
 pub mod WorkspaceLaws

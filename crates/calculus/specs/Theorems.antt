@@ -1,5 +1,5 @@
 -- What is owed about the calculus: each statement is a type with a name, and its proof in proofs/ has that type.
-use Prim.Native.Nat.{ℕ, _≤_, _<_}
+use Prim.Native.Nat.{ℕ, _+_, _≤_, _<_}
 use mathlib.Core.Path.{_≡_}
 use mathlib.Core.List.{List, _++_}
 use mathlib.Core.Logic.{_↔_}
@@ -81,6 +81,11 @@ Leftmost-at-redex = (t : Term) → leftmost t ≡ bind (redexAt t) (λ p. contra
 abbrev pub Contraction-deterministic : Type 0
 Contraction-deterministic =
     (p : ℕ) (r r′ : Rule) (t u v : Term) → Contracts term p r t u → Contracts term p r′ t v → (r ≡ r′) × (u ≡ v)
+
+-- A contraction neither makes nor unmakes a redex that starts more than one word before it.
+abbrev pub Redexes-before-kept : Type 0
+Redexes-before-kept =
+    (p q : ℕ) (r : Rule) (t u : Term) → Contracts term p r t u → q + 1 < p → (contractAt q t ≡ none) ↔ (contractAt q u ≡ none)
 
 abbrev pub Contraction-keeps-accepted : Type 0
 Contraction-keeps-accepted =

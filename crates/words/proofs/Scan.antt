@@ -8,7 +8,7 @@ use mathlib.Core.Option.{Option, some, none, Option·elim}
 use native.Mathlib.Nat.{add-zero}
 use native.Mathlib.Numerals.{add-one}
 use native.Mathlib.Omega.{arith}
-use lib.Dec.{eqb}
+use lib.Dec.{eqb, ltb}
 use borrow.Author.Tests.{eqb-true, leb-true, ltb-true, le-leb, lt-ltb}
 use Rattle.calculus.specs.Term.{Sort, term, terms, branches, Exp, Term, Terms, Branches, var, lam, app, con, case, nil, cons, end, branch, count}
 use Rattle.calculus.specs.Words.{variableKind, abstractionKind, applicationKind, constructorKind, caseKind, branchKind, kindBase, countBase, word, pack, tagOf, countOf, words}
@@ -17,9 +17,8 @@ use Rattle.calculus.specs.Read.{read}
 use Rattle.calculus.specs.Skip.{following}
 use Rattle.calculus.proofs.WordLaws.{kindOf-word, payloadOf-word, word-of-parts, tagOf-pack, countOf-pack, pack-of-parts}
 use Rattle.calculus.proofs.ReadLaws.{read-exact}
-use Rattle.words.specs.declared.frame.Frame.{Frame}
 use Rattle.words.specs.Bound.{binding}
-use Rattle.words.specs.Frames.{frame, insideBy, inside, tagAbove, startsTerm, startsBranch, allowedBy, allowed, restBy, rest}
+use Rattle.words.specs.Frames.{Frame, frame, insideBy, inside, tagAbove, startsTerm, startsBranch, allowedBy, allowed, restBy, rest}
 
 -- A frame in front of others, left out if nothing is to come in it.
 abbrev pub pushBy : (terms branches : ℕ) → Frame → List Frame → List Frame
@@ -128,6 +127,13 @@ when-eqb {C} m n {x} {y} f g = go (eqb m n) refl
 pub both : (a b : Bool) → (a && b) ≡ true → (a ≡ true) × (b ≡ true)
 both true b q = (refl, q)
 both false b q = absurd (false≢true q)
+
+-- A branch that is allowed is to come, and its tag is within the limit.
+pub branch-allowed : (n b d t k p : ℕ) → n ≤ 0 → allowedBy n b d t k p ≡ true → (0 < b) × (tagOf p ≤ tagLimit)
+unfolding startsBranch
+branch-allowed zero zero d t k p h q = absurd (false≢true q)
+branch-allowed zero (suc b) d t k p h q = (omega arith, leb-true _ _ (both (ltb t (tagOf p)) _ (both (eqb k branchKind) (tagAbove t (tagOf p)) q .1) .1))
+branch-allowed (suc n) b d t k p h q = absurd (omega arith)
 
 -- A word that may start a term starts one, if what follows the word is filled; and so for a branch.
 fill-term : (k p d : ℕ) (P : List ℕ → Type 0) (ws : List ℕ) → startsTerm d k p ≡ true → FrameThen (insideBy d k p) P ws → TermsThen 1 d P (word k p ∷ ws)
