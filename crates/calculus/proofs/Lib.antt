@@ -11,8 +11,8 @@ pub mod FirstLaws
 pub mod PrefixFree
 pub mod Move
 pub mod Indices
-pub mod Scan
-pub mod Inversion
+pub mod Earliest
+pub mod PositionLaws
 pub mod LeftmostLaws
 pub mod RedexWord
 pub mod Decidable
@@ -21,8 +21,6 @@ pub mod Rewriting
 pub mod Substitution
 pub mod Parallel
 pub mod ChurchRosser
-pub mod Earliest
-pub mod PositionLaws
 pub mod ResumeLaws
 pub mod Focus
 pub mod SizeLaws

@@ -12,8 +12,8 @@ use borrow.Author.Tests.{eqb-true}
 use Rattle.calculus.specs.Term.{Sort, term, terms, branches, Exp, var, lam, app, con, case, nil, cons, end, branch, Term, Terms, Branches, count}
 use Rattle.calculus.specs.Shift.{shift}
 use Rattle.calculus.specs.Substitution.{argument, subst}
-use Rattle.calculus.specs.Contraction.{select}
-use Rattle.calculus.specs.Leftmost.{beta, inspect}
+use Rattle.calculus.specs.Contraction.{Rule, by-case, select}
+use Rattle.calculus.specs.Step.{contractum}
 use Rattle.calculus.proofs.Spine.{count-traverse}
 use Rattle.calculus.proofs.Traversal.{below-or-above}
 use Rattle.calculus.proofs.Substitution.{lift, sub, lift-below, lift-above, shift-is-sub, put, subst-is-sub, sub-subst}
@@ -135,72 +135,82 @@ par-select {xs} {xs′} t p (par-branch {t = u} {n = n} {b = b} {b′ = b′} {b
     by true false h = tt
     by false arity h = h
 
--- An application, and a case, contracted if it is a redex.
-abbrev applied : Term → Term → Term
-applied f a = Option·getD (beta f a) (app f a)
+-- A term contracted if it is itself a redex, by what the rule function gives.
+abbrev result : Option (Rule × Term) → Option Term
+result o = Option·map (λ c. c .1) o
 
-abbrev inspected : Term → Branches → Term
-inspected e bs = Option·getD (inspect e bs) (case e bs)
+abbrev fired : Term → Term
+fired t = Option·getD (result (contractum t)) t
+
+-- What the case rule gives.
+abbrev selected : Option Term → Option Term
+selected o = result (Option·map (λ u. (by-case, u)) o)
 
 -- The complete development: the parts developed, then the whole contracted if it is a redex.
 unfoldable pub develop : {s : Sort} → Exp s → Exp s
 develop (var i) = var i
 develop (lam b) = lam (develop b)
-develop (app f a) = applied (develop f) (develop a)
+develop (app f a) = fired (app (develop f) (develop a))
 develop (con t xs) = con t (develop xs)
-develop (case e bs) = inspected (develop e) (develop bs)
+develop (case e bs) = fired (case (develop e) (develop bs))
 develop nil = nil
 develop (cons a xs) = cons (develop a) (develop xs)
 develop end = end
 develop (branch t n b bs) = branch t n (develop b) (develop bs)
 
-app-to-applied : {f f′ a a′ : Term} → Par term f f′ → Par term a a′ → Par term (app f a) (applied f′ a′)
-app-to-applied {f′ = var i} p q = par-app p q
-app-to-applied {f′ = lam b} p q = par-beta p q
-app-to-applied {f′ = app g c} p q = par-app p q
-app-to-applied {f′ = con t xs} p q = par-app p q
-app-to-applied {f′ = case e bs} p q = par-app p q
+app-to-fired : {f f′ a a′ : Term} → Par term f f′ → Par term a a′ → Par term (app f a) (fired (app f′ a′))
+app-to-fired {f′ = var i} p q = par-app p q
+app-to-fired {f′ = lam b} p q = par-beta p q
+app-to-fired {f′ = app g c} p q = par-app p q
+app-to-fired {f′ = con t xs} p q = par-app p q
+app-to-fired {f′ = case e bs} p q = par-app p q
 
-par-applied : {f f′ a a′ : Term} → Par term f f′ → Par term a a′ → Par term (applied f a) (applied f′ a′)
-par-applied par-var r = app-to-applied par-var r
-par-applied (par-lam p) r = par-subst 0 (par-cons r par-nil) p
-par-applied (par-app p q) r = app-to-applied (par-app p q) r
-par-applied (par-beta p q) r = app-to-applied (par-beta p q) r
-par-applied (par-con p) r = app-to-applied (par-con p) r
-par-applied (par-case p q) r = app-to-applied (par-case p q) r
-par-applied (par-inspect p q h) r = app-to-applied (par-inspect p q h) r
+par-fired-app : {f f′ a a′ : Term} → Par term f f′ → Par term a a′ → Par term (fired (app f a)) (fired (app f′ a′))
+par-fired-app par-var r = app-to-fired par-var r
+par-fired-app (par-lam p) r = par-subst 0 (par-cons r par-nil) p
+par-fired-app (par-app p q) r = app-to-fired (par-app p q) r
+par-fired-app (par-beta p q) r = app-to-fired (par-beta p q) r
+par-fired-app (par-con p) r = app-to-fired (par-con p) r
+par-fired-app (par-case p q) r = app-to-fired (par-case p q) r
+par-fired-app (par-inspect p q h) r = app-to-fired (par-inspect p q h) r
 
-case-to-inspected : {e e′ : Term} {bs bs′ : Branches} → Par term e e′ → Par branches bs bs′ → Par term (case e bs) (inspected e′ bs′)
-case-to-inspected {e′ = var i} p q = par-case p q
-case-to-inspected {e′ = lam b} p q = par-case p q
-case-to-inspected {e′ = app f a} p q = par-case p q
-case-to-inspected {e} {e′ = con t xs} {bs} {bs′} p q = by (select t xs bs′) refl
+case-to-fired : {e e′ : Term} {bs bs′ : Branches} → Par term e e′ → Par branches bs bs′ → Par term (case e bs) (fired (case e′ bs′))
+case-to-fired {e′ = var i} p q = par-case p q
+case-to-fired {e′ = lam b} p q = par-case p q
+case-to-fired {e′ = app f a} p q = par-case p q
+case-to-fired {e} {e′ = con t xs} {bs} {bs′} p q = by (select t xs bs′) refl
   where
-    by : (o : Option Term) → select t xs bs′ ≡ o → Par term (case e bs) (Option·getD o (case (con t xs) bs′))
+    by : (o : Option Term) → select t xs bs′ ≡ o → Par term (case e bs) (Option·getD (selected o) (case (con t xs) bs′))
     by none h = par-case p q
     by (some u) h = par-inspect p q h
-case-to-inspected {e′ = case e cs} p q = par-case p q
+case-to-fired {e′ = case e cs} p q = par-case p q
 
-par-inspected : {e e′ : Term} {bs bs′ : Branches} → Par term e e′ → Par branches bs bs′ → Par term (inspected e bs) (inspected e′ bs′)
-par-inspected par-var r = case-to-inspected par-var r
-par-inspected (par-lam p) r = case-to-inspected (par-lam p) r
-par-inspected (par-app p q) r = case-to-inspected (par-app p q) r
-par-inspected (par-beta p q) r = case-to-inspected (par-beta p q) r
-par-inspected {bs = bs} {bs′ = bs′} (par-con {t = t} {xs = xs} {xs′ = xs′} p) r =
-    par-getD (select t xs bs) (select t xs′ bs′) (par-select t p r) (par-case (par-con p) r)
-par-inspected (par-case p q) r = case-to-inspected (par-case p q) r
-par-inspected (par-inspect p q h) r = case-to-inspected (par-inspect p q h) r
+par-fired-case : {e e′ : Term} {bs bs′ : Branches} → Par term e e′ → Par branches bs bs′ → Par term (fired (case e bs)) (fired (case e′ bs′))
+par-fired-case par-var r = case-to-fired par-var r
+par-fired-case (par-lam p) r = case-to-fired (par-lam p) r
+par-fired-case (par-app p q) r = case-to-fired (par-app p q) r
+par-fired-case (par-beta p q) r = case-to-fired (par-beta p q) r
+par-fired-case {bs = bs} {bs′ = bs′} (par-con {t = t} {xs = xs} {xs′ = xs′} p) r =
+    by (select t xs bs) (select t xs′ bs′) (par-select t p r)
+  where
+    by : (o o′ : Option Term) → ParOption o o′ → Par term (Option·getD (selected o) (case (con t xs) bs)) (Option·getD (selected o′) (case (con t xs′) bs′))
+    by none none h = par-case (par-con p) r
+    by none (some v) h = absurd h
+    by (some u) none h = absurd h
+    by (some u) (some v) h = h
+par-fired-case (par-case p q) r = case-to-fired (par-case p q) r
+par-fired-case (par-inspect p q h) r = case-to-fired (par-inspect p q h) r
 
 -- Whatever is contracted at once, the rest of the development can follow at once.
 pub triangle : {s : Sort} {e g : Exp s} → Par s e g → Par s g (develop e)
 unfolding develop
 triangle par-var = par-var
 triangle (par-lam p) = par-lam (triangle p)
-triangle (par-app p q) = app-to-applied (triangle p) (triangle q)
-triangle (par-beta p q) = par-applied (triangle p) (triangle q)
+triangle (par-app p q) = app-to-fired (triangle p) (triangle q)
+triangle (par-beta p q) = par-fired-app (triangle p) (triangle q)
 triangle (par-con p) = par-con (triangle p)
-triangle (par-case p q) = case-to-inspected (triangle p) (triangle q)
-triangle (par-inspect p q h) = rw h at (par-inspected (triangle p) (triangle q))
+triangle (par-case p q) = case-to-fired (triangle p) (triangle q)
+triangle (par-inspect p q h) = rw h at (par-fired-case (triangle p) (triangle q))
 triangle par-nil = par-nil
 triangle (par-cons p q) = par-cons (triangle p) (triangle q)
 triangle par-end = par-end

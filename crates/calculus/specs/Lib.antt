@@ -15,6 +15,7 @@ pub mod Substitution
 pub mod Contraction
 pub mod Relation
 pub mod Conversion
+pub mod Step
 pub mod Leftmost
 pub mod Position
 pub mod Equality
