@@ -307,6 +307,7 @@ fn trials_reach_every_edge() {
             let end = rounds(trial.left, trial.right, capacity, budget);
             let (moving, longest) = ahead(&end.left, &end.right);
             let over = longest.saturating_sub(capacity);
+            let size = end.left.size().max(end.right.size());
             let unspent = budget - end.spent;
             let verdict = end.verdict;
             census.meet(format!(
@@ -333,7 +334,9 @@ fn trials_reach_every_edge() {
                     census.meet_if(unspent == moving, "Full, the budget just enough");
                     census.meet_if(unspent > moving, "Full, budget left");
                     census.meet_if(over == 1, "Full by one word");
+                    census.meet_if(over == 1 && longest > size + 2, "Full by one of many words");
                     census.meet_if(over > 1, "Full by more");
+                    census.meet_if(size == capacity, "Full with a term of C words");
                     census.meet(format!("Full where {moving} move"));
                     census.meet_if(capacity == 16, "Full in 16 words");
                 }
@@ -363,7 +366,9 @@ fn trials_reach_every_edge() {
             "Full, the budget just enough",
             "Full, budget left",
             "Full by one word",
+            "Full by one of many words",
             "Full by more",
+            "Full with a term of C words",
             "Full where 1 move",
             "Full where 2 move",
             "Full in 16 words",
