@@ -1,5 +1,6 @@
 pub mod Spans
 pub mod Frames
+pub mod Packed
 pub mod Scan
 pub mod Stack
 pub mod IsTerm
