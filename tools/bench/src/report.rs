@@ -27,7 +27,11 @@ impl Report {
     pub fn markdown(&self, programs: &Programs) -> String {
         let mut parts = vec![self.introduction(), self.instructions()];
         parts.extend(self.plot.as_deref().map(growth));
-        parts.extend([self.times(), self.stack(), code(programs)]);
+        let mut rows = self.groups().into_iter().flat_map(|(_, rows)| rows);
+        if rows.any(|row| row.times.is_some()) {
+            parts.push(self.times());
+        }
+        parts.extend([self.stack(), code(programs)]);
         parts.join("\n")
     }
 
@@ -90,7 +94,7 @@ impl Report {
              programs by turns. Each is a median of nine, with its standard error, and each of these \
              the shortest of several runs.\n"
             .to_string();
-        text += &format!("{NONE}: the press does not stand out, or was not timed.\n");
+        text += &format!("{NONE}: the press does not stand out.\n");
         for (title, rows) in self.groups() {
             let unit = match rows.iter().all(|row| spent(&row.line) > 0) {
                 true => "contractions a second",
