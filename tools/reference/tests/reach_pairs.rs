@@ -139,10 +139,11 @@ fn look_at(term: &Term, census: &mut Census) {
                 _ => census.meet("application"),
             },
             Term::Con { tag, args } => {
-                census.meet(format!(
-                    "constructor of {} arguments",
-                    few_or_many(args.len())
-                ));
+                let name = match place.within {
+                    "a subject" => "subject",
+                    _ => "constructor",
+                };
+                census.meet(format!("{name} of {} arguments", few_or_many(args.len())));
                 census.meet_if(*tag == 255, "constructor of tag 255");
             }
             Term::Case {
@@ -188,6 +189,10 @@ fn pairs_reach_every_shape() {
             "constructor of one arguments",
             "constructor of several arguments",
             "constructor of fifteen arguments",
+            "subject of no arguments",
+            "subject of one arguments",
+            "subject of several arguments",
+            "subject of fifteen arguments",
             "constructor of tag 255",
             "case of no branches",
             "case of one branches",
