@@ -177,7 +177,7 @@ fn table<'a>(
 fn growth(plot: &str) -> String {
     format!(
         "## Growth\n\n\
-         Instructions of a contraction. Left: loops that touch more and more words, those of the redex \
+         Instructions of a contraction, those of a press less those of a press with budget 0. Left: loops that touch more and more words, those of the redex \
          and of what replaces it. Right: Loop, which touches 18 words, under more and more \
          abstractions.\n\n\
          ![Instructions of a contraction by the words touched and by the words not touched]({plot})\n"
