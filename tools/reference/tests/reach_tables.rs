@@ -74,7 +74,8 @@ fn refusal_1() {
             1..=2_048 if length % 4 != 0 => "no whole records",
             1..=2_048 => "many records too few",
             2_049 => "count 2,049",
-            _ if fitting & most == length => "count that fits in 32 bits",
+            _ if fitting & most == length && fitting >> 32 == 1 => "count that fits in 32 bits",
+            _ if fitting & most == length => "count that fits in 32 bits, twice over",
             _ => "far count",
         });
         census.meet_if(count == 0 && length == 4, "the header alone");
@@ -95,6 +96,7 @@ fn refusal_1() {
             "many records too few",
             "count 2,049",
             "count that fits in 32 bits",
+            "count that fits in 32 bits, twice over",
             "far count",
         ],
     );
@@ -229,7 +231,7 @@ fn refusal_4() {
         let count = records.len() as u32;
         let mut named = vec![0; records.len() + 1];
         named[table[2] as usize] += 1;
-        let mut onward = true;
+        let (mut onward, mut back) = (true, false);
         for record in &records {
             for (name, link) in ["child", "next"].into_iter().zip(record.links) {
                 let wrong = match link {
@@ -243,6 +245,7 @@ fn refusal_4() {
                 if link <= count {
                     named[link as usize] += 1;
                 }
+                back |= link <= record.own;
                 if !wrong.is_empty() {
                     onward = false;
                     census.meet(format!("{name} {wrong}"));
@@ -254,7 +257,7 @@ fn refusal_4() {
         census.meet_if(onward && unnamed && !twice, "only a record that none names");
         census.meet_if(onward && twice && !unnamed, "only a record named twice");
         census.meet_if(onward && twice && unnamed, "one named twice, one not");
-        census.meet_if(!onward && !twice && !unnamed, "a circle, all named once");
+        census.meet_if(back && !twice && !unnamed, "a circle, all named once");
         census.meet_if(table[2] != 1, "another root");
     });
     census.assert_reaches(
