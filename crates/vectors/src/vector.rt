@@ -1,9 +1,4 @@
-// A text of vectors, one to a line. What a line means is said at the top of pair.rt (pair), stored.rt (load, write) and contraction.rt (step, term). A
-// line that starts with `#` says where the next ones come from, and how what they expect was worked out: by hand, or on trees with names, and never by
-// the unit.
-//
-// Terms are given as words of document 01, payload * 8 + kind; 3*8 stands for 8,8,8, and - for no words. In comments fN is the variable of free number
-// N, \x.t an abstraction (\^n.t is n of them), #1(t,u) a constructor with its tag, and case t of {1 a b.u|2.v} a case.
+// Vectors, one to a line. What a line means is said at the top of pair.rt (pair), stored.rt (load, write) and contraction.rt (step, term).
 use crate::contraction::step_holds;
 use crate::contraction::term_holds;
 use crate::pair::pair_holds;
@@ -13,6 +8,14 @@ use crate::text::NOWHERE;
 use crate::text::after;
 use crate::text::find;
 use libc::STDOUT_FILENO;
+ghost use mathlib.Core.Path.{_≡_};
+ghost use Prim.Native.Nat.{_≤_};
+
+// How many vectors there are, and how many of them pass.
+pub struct Tally {
+    pub vectors: usize,
+    pub passed: usize,
+}
 
 // The vectors of the calls below a press.
 fn part_passes(line: &[u8]) -> bool {
@@ -39,30 +42,60 @@ fn passes(line: &[u8]) -> bool {
     part_passes(line)
 }
 
-// Whether a line is a vector that passes. One that fails is printed.
-fn counts(line: &[u8]) -> bool {
-    if line.len() == 0 || line[0] == b'#' {
-        return false;
-    }
-    if passes(line) {
-        return true;
-    }
+// A vector that fails is printed.
+fn fails(line: &[u8]) -> Tally
+    ensures { λ r. ⌜ (r .vectors ≡ 1) × (r .passed ≡ 0) ⌝ }
+{
     io::write_all(STDOUT_FILENO, b"failed: ");
     io::write_all(STDOUT_FILENO, line);
     io::write_all(STDOUT_FILENO, b"\n");
-    false
+    Tally {
+        vectors: 1,
+        passed: 0,
+    }
 }
 
-// A count raised by the vectors of a text that pass.
-pub fn count_all(start: u32, text: &[u8]) -> u32 {
-    let mut passed = start;
+// A line's share: none of an empty line and of a comment. A line that is cut off before its end fails.
+fn share(line: &[u8], ended: bool) -> Tally
+    ensures { λ r. ⌜ (r .passed ≤ r .vectors) × (r .vectors ≤ 1) ⌝ }
+{
+    if line.len() == 0 {
+        return Tally {
+            vectors: 0,
+            passed: 0,
+        };
+    }
+    if line[0] == b'#' {
+        return Tally {
+            vectors: 0,
+            passed: 0,
+        };
+    }
+    if !ended {
+        return fails(line);
+    }
+    if !passes(line) {
+        return fails(line);
+    }
+    Tally {
+        vectors: 1,
+        passed: 1,
+    }
+}
+
+// All lines of a text together.
+pub fn tally_all(text: &[u8]) -> Tally
+    ensures { λ r. ⌜ r .passed ≤ r .vectors ⌝ }
+{
+    let mut vectors = 0;
+    let mut passed = 0;
     let mut at = 0;
     while at < text.len() {
         let end = find(text, at, b'\n', true);
-        if counts(&text[at..end]) {
-            passed = std::num::wrapping_add_u32(passed, 1);
-        }
+        let line = share(&text[at..end], end < text.len());
+        vectors += line.vectors;
+        passed += line.passed;
         at = end + 1;
     }
-    passed
+    Tally { vectors, passed }
 }
