@@ -11,7 +11,7 @@ use Rattle.calculus.specs.Term.{Term}
 use Rattle.calculus.specs.Words.{words, size}
 use Rattle.calculus.specs.Accepted.{Accepted}
 use Rattle.calculus.specs.Workspace.{termAt}
-use Rattle.calculus.specs.Rounds.{Verdict, ended, after, rounds}
+use Rattle.calculus.specs.Rounds.{Verdict, shows, ended, after, rounds}
 use Rattle.calculus.proofs.WordLaws.{accepted-packable}
 use Rattle.calculus.proofs.ReadLaws.{words-injective}
 use Rattle.calculus.proofs.AcceptedLaws.{leftmost-keeps-accepted}
@@ -104,19 +104,18 @@ module _ {left₀ right₀ scratch₀ : List ℕ} {l r budget : ℕ} {left right
       rw (j, p, q, g .left-kept) (turned equal (λ s. same-terms lh rh (sym e ∙ s)) (λ s. other-terms lh rh (sym e ∙ s)))
 
   pub ran : {v : Verdict} → Turned (length left₀) (budget - spent) (held left m) (held right n) (ends v)
-      → Ran budget (rounds (length left₀) budget (held left₀ l) (held right₀ r)) v spent m n left right scratch
+      → Ran budget (rounds (length left₀) budget (held left₀ l) (held right₀ r)) (record { verdict = v; spent = spent; left = m; right = n }) left right scratch
   ran {v} t =
       let o : after spent (ended v (held left m) (held right n)) ≡ rounds (length left₀) budget (held left₀ l) (held right₀ r)
       = sym (ap (after spent) (rounds-stopped t)) ∙ g .rest in
       let ls = begins (g .runs .left-holds) in
       let rs = begins (g .runs .right-holds) in
       let all : spent ≡ spent + 0 = omega arith in
+      let here-shown : record { verdict = v; spent = spent; left = m; right = n } ≡ shows (after spent (ended v (held left m) (held right n)))
+      = λ i. record { verdict = v; spent = all i; left = sym (ls .long) i; right = sym (rs .long) i } in
       record {
-        verdict-is = ap (λ k. k .verdict) o;
-        spent-is = all ∙ ap (λ k. k .spent) o;
+        shown-is = here-shown ∙ ap shows o;
         within = g .within;
-        left-length = sym (ls .long) ∙ ap (λ k. size (k .left)) o;
-        right-length = sym (rs .long) ∙ ap (λ k. size (k .right)) o;
         left-others = drop m left;
         left-words = sym (ls .start) ∙ ap (λ k. words (k .left) ++ drop m left) o;
         right-others = drop n right;

@@ -2,22 +2,14 @@
 ghost use lib.ListN.{length};
 ghost use Rattle.calculus.specs.Rounds.{rounds};
 ghost use Rattle.rounds.specs.Run.{Runs, Ran};
-ghost use Rattle.rounds.specs.Types.{verdictOf};
+ghost use Rattle.rounds.specs.Types.{shownOf};
 ghost use Rattle.step.specs.Held.{held};
-use crate::Verdict;
+use crate::Shown;
 use crate::compare::same;
 use crate::turn::Turn;
 use crate::turn::advance;
 use crate::turn::judge;
 use crate::turn::plan_for;
-
-// What the rounds of a press end in.
-pub struct Ended {
-    pub verdict: Verdict,
-    pub spent: u32,
-    pub left: usize,
-    pub right: usize,
-}
 
 // The rounds of a press, on both workspaces through the scratch.
 pub fn run(
@@ -27,9 +19,9 @@ pub fn run(
     l: usize,
     r: usize,
     budget: u32,
-) -> Ended
+) -> Shown
     requires { ⌜ Runs (now left) (now right) (now scratch) l r ⌝ }
-    ensures { λ o. ⌜ Ran budget (rounds (length (now (left .entry))) budget (held (now (left .entry)) l) (held (now (right .entry)) r)) (verdictOf (o .verdict)) (o .spent) (o .left) (o .right) (now (left .exit)) (now (right .exit)) (now (scratch .exit)) ⌝ }
+    ensures { λ o. ⌜ Ran budget (rounds (length (now (left .entry))) budget (held (now (left .entry)) l) (held (now (right .entry)) r)) (shownOf o) (now (left .exit)) (now (right .exit)) (now (scratch .exit)) ⌝ }
 {
     let mut m = l;
     let mut n = r;
@@ -40,7 +32,7 @@ pub fn run(
         let b = plan_for(right, n);
         match judge(equal, a, b, budget - spent, left.len()) {
             Turn::Ends(verdict) => {
-                return Ended {
+                return Shown {
                     verdict,
                     spent,
                     left: m,
