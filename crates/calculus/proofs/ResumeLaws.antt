@@ -14,13 +14,12 @@ use Rattle.calculus.specs.Words.{words, size}
 use Rattle.calculus.specs.Substitution.{subst}
 use Rattle.calculus.specs.Contraction.{Rule, select, Contracts, at-beta, at-case, in-body, in-function, in-argument}
 use Rattle.calculus.specs.Contraction.{in-arguments, in-subject, in-branches, in-first, in-later, in-branch, in-later-branch}
-use Rattle.calculus.specs.Leftmost.{beta, inspect}
-use Rattle.calculus.specs.Position.{contractAt, redexAt}
+use Rattle.calculus.specs.Step.{contractum}
+use Rattle.calculus.specs.Position.{through, stepAt, contractAt, redexAt}
 use Rattle.calculus.specs.Theorems.{Redexes-before-kept}
 use Rattle.calculus.proofs.WordLaws.{size-positive}
 use Rattle.calculus.proofs.Spine.{count-contraction}
-use Rattle.calculus.proofs.LeftmostLaws.{contraction-within}
-use Rattle.calculus.proofs.PositionLaws.{contract-at-position, redex-none}
+use Rattle.calculus.proofs.PositionLaws.{contraction-within, contract-at-position, contractAt-none, redex-none}
 
 -- Both hold something, or neither does.
 data Alike {A B : Type 0} : Option A → Option B → Type 0 where
@@ -74,22 +73,22 @@ contraction-leaves (in-branch {b′ = b} {bs = bs} c) = omega (arith, contractio
 contraction-leaves (in-later-branch {b = b} {bs′ = bs} c) = omega (arith, contraction-leaves c, length-append (words b) (words bs))
 
 -- At the word before a contraction's redex and further in front: the application's function and the case's subject keep what tells a redex.
-beta-kept : {p : ℕ} {r : Rule} {f f′ : Term} (a : Term) → Contracts term p r f f′ → 1 ≤ p → Alike (beta f a) (beta f′ a)
-beta-kept a at-beta h = absurd (omega arith)
-beta-kept a (at-case k) h = absurd (omega arith)
-beta-kept a (in-body c) h = both
-beta-kept a (in-function c) h = neither
-beta-kept a (in-argument c) h = neither
-beta-kept a (in-arguments c) h = neither
-beta-kept a (in-subject c) h = neither
-beta-kept a (in-branches c) h = neither
+function-kept : {p : ℕ} {r : Rule} {f f′ : Term} (a : Term) → Contracts term p r f f′ → 1 ≤ p → Alike (contractum (app f a)) (contractum (app f′ a))
+function-kept a at-beta h = absurd (omega arith)
+function-kept a (at-case k) h = absurd (omega arith)
+function-kept a (in-body c) h = both
+function-kept a (in-function c) h = neither
+function-kept a (in-argument c) h = neither
+function-kept a (in-arguments c) h = neither
+function-kept a (in-subject c) h = neither
+function-kept a (in-branches c) h = neither
 
-beta-argument : (f a a′ : Term) → Alike (beta f a) (beta f a′)
-beta-argument (var i) a a′ = neither
-beta-argument (lam b) a a′ = both
-beta-argument (app f g) a a′ = neither
-beta-argument (con t xs) a a′ = neither
-beta-argument (case e bs) a a′ = neither
+argument-kept : (f a a′ : Term) → Alike (contractum (app f a)) (contractum (app f a′))
+argument-kept (var i) a a′ = neither
+argument-kept (lam b) a a′ = both
+argument-kept (app f g) a a′ = neither
+argument-kept (con t xs) a a′ = neither
+argument-kept (case e bs) a a′ = neither
 
 alike-found : {A : Type 0} (t : Bool) (x y : A) → Alike (cond t (some x) none) (cond t (some y) none)
 alike-found true x y = both
@@ -104,63 +103,66 @@ select-branches : {p : ℕ} {r : Rule} (t : ℕ) (xs : Terms) {bs bs′ : Branch
 select-branches t xs (in-branch {t = u} {n = n} {bs = bs} c) = alike-cond (eqb t u) _ _ _ _ (alike-found (eqb (count xs) n) _ _) (alike-itself (select t xs bs))
 select-branches t xs (in-later-branch {t = u} {n = n} c) = alike-cond (eqb t u) _ _ _ _ (alike-found (eqb (count xs) n) _ _) (select-branches t xs c)
 
-inspect-kept : {p : ℕ} {r : Rule} {e e′ : Term} (bs : Branches) → Contracts term p r e e′ → 1 ≤ p → Alike (inspect e bs) (inspect e′ bs)
-inspect-kept bs at-beta h = absurd (omega arith)
-inspect-kept bs (at-case k) h = absurd (omega arith)
-inspect-kept bs (in-body c) h = neither
-inspect-kept bs (in-function c) h = neither
-inspect-kept bs (in-argument c) h = neither
-inspect-kept bs (in-arguments {t = t} {xs = xs} {xs′ = ys} c) h = select-arguments t xs ys (count-contraction c) bs
-inspect-kept bs (in-subject c) h = neither
-inspect-kept bs (in-branches c) h = neither
+subject-kept : {p : ℕ} {r : Rule} {e e′ : Term} (bs : Branches) → Contracts term p r e e′ → 1 ≤ p → Alike (contractum (case e bs)) (contractum (case e′ bs))
+subject-kept bs at-beta h = absurd (omega arith)
+subject-kept bs (at-case k) h = absurd (omega arith)
+subject-kept bs (in-body c) h = neither
+subject-kept bs (in-function c) h = neither
+subject-kept bs (in-argument c) h = neither
+subject-kept bs (in-arguments {t = t} {xs = xs} {xs′ = ys} c) h = alike-map _ _ (select-arguments t xs ys (count-contraction c) bs)
+subject-kept bs (in-subject c) h = neither
+subject-kept bs (in-branches c) h = neither
 
-inspect-branches : {p : ℕ} {r : Rule} (e : Term) {bs bs′ : Branches} → Contracts branches p r bs bs′ → Alike (inspect e bs) (inspect e bs′)
-inspect-branches (var i) c = neither
-inspect-branches (lam b) c = neither
-inspect-branches (app f a) c = neither
-inspect-branches (con t xs) c = select-branches t xs c
-inspect-branches (case e cs) c = neither
+branches-kept : {p : ℕ} {r : Rule} (e : Term) {bs bs′ : Branches} → Contracts branches p r bs bs′ → Alike (contractum (case e bs)) (contractum (case e bs′))
+branches-kept (var i) c = neither
+branches-kept (lam b) c = neither
+branches-kept (app f a) c = neither
+branches-kept (con t xs) c = alike-map _ _ (select-branches t xs c)
+branches-kept (case e cs) c = neither
 
-module _ {s t : Sort} {p : ℕ} {r : Rule} {e g : Exp s} (c : Contracts s p r e g) (q : ℕ) (before : q + 1 < p) (f f′ : Exp s → Exp t) (y y′ : Option (Exp t)) where
-  in-part : Alike (contractAt q e) (contractAt q g)
-      → Alike (cond (ltb q (size e)) (Option·map f (contractAt q e)) y) (cond (ltb q (size g)) (Option·map f′ (contractAt q g)) y′)
+module _ {s t : Sort} {p : ℕ} {r : Rule} {e g : Exp s} (c : Contracts s p r e g) (q : ℕ) (before : q + 1 < p) (f f′ : Exp s → Exp t) (y y′ : Option (Rule × Exp t)) where
+  in-part : Alike (stepAt q e) (stepAt q g)
+      → Alike (cond (ltb q (size e)) (Option·map (through f) (stepAt q e)) y) (cond (ltb q (size g)) (Option·map (through f′) (stepAt q g)) y′)
   in-part a =
-      alike-part q (size e) (size g) _ y _ y′ (omega (arith, contraction-within c)) (omega (arith, contraction-leaves c)) (alike-map f f′ a)
+      alike-part q (size e) (size g) _ y _ y′ (omega (arith, contraction-within c)) (omega (arith, contraction-leaves c)) (alike-map (through f) (through f′) a)
 
-starts-alike : {s : Sort} {p : ℕ} {r : Rule} {e g : Exp s} → Contracts s p r e g → (q : ℕ) → q + 1 < p → Alike (contractAt q e) (contractAt q g)
-unfolding contractAt
+starts-alike : {s : Sort} {p : ℕ} {r : Rule} {e g : Exp s} → Contracts s p r e g → (q : ℕ) → q + 1 < p → Alike (stepAt q e) (stepAt q g)
+unfolding stepAt
 starts-alike at-beta q h = absurd (omega arith)
 starts-alike (at-case k) q h = absurd (omega arith)
 starts-alike (in-body c) zero h = neither
-starts-alike (in-body c) (suc q) h = alike-map lam lam (starts-alike c q (omega arith))
-starts-alike (in-function {a = a} c) zero h = beta-kept a c (omega arith)
+starts-alike (in-body c) (suc q) h = alike-map (through lam) (through lam) (starts-alike c q (omega arith))
+starts-alike (in-function {a = a} c) zero h = function-kept a c (omega arith)
 starts-alike (in-function {a = a} c) (suc q) h = in-part c q (omega arith) (λ f. app f a) (λ f. app f a) _ _ (starts-alike c q (omega arith))
-starts-alike (in-argument {f = f} {a = a} {a′ = a′} c) zero h = beta-argument f a a′
+starts-alike (in-argument {f = f} {a = a} {a′ = a′} c) zero h = argument-kept f a a′
 starts-alike (in-argument {f = f} {a = a} {a′ = a′} c) (suc q) h =
-    alike-behind q (size f) _ _ _ _ (alike-map (λ f. app f a) (λ f. app f a′) (alike-itself (contractAt q f)))
-    (λ l. alike-map (app f) (app f) (starts-alike c (q - size f) (omega arith)))
+    alike-behind q (size f) _ _ _ _ (alike-map (through (λ f. app f a)) (through (λ f. app f a′)) (alike-itself (stepAt q f)))
+    (λ l. alike-map (through (app f)) (through (app f)) (starts-alike c (q - size f) (omega arith)))
 starts-alike (in-arguments c) zero h = neither
-starts-alike (in-arguments {t = t} c) (suc q) h = alike-map (con t) (con t) (starts-alike c q (omega arith))
-starts-alike (in-subject {bs = bs} c) zero h = inspect-kept bs c (omega arith)
+starts-alike (in-arguments {t = t} c) (suc q) h = alike-map (through (con t)) (through (con t)) (starts-alike c q (omega arith))
+starts-alike (in-subject {bs = bs} c) zero h = subject-kept bs c (omega arith)
 starts-alike (in-subject {bs = bs} c) (suc q) h = in-part c q (omega arith) (λ e. case e bs) (λ e. case e bs) _ _ (starts-alike c q (omega arith))
-starts-alike (in-branches {e = e} c) zero h = inspect-branches e c
+starts-alike (in-branches {e = e} c) zero h = branches-kept e c
 starts-alike (in-branches {e = e} {bs = bs} {bs′ = bs′} c) (suc q) h =
-    alike-behind q (size e) _ _ _ _ (alike-map (λ e. case e bs) (λ e. case e bs′) (alike-itself (contractAt q e)))
-    (λ l. alike-map (case e) (case e) (starts-alike c (q - size e) (omega arith)))
+    alike-behind q (size e) _ _ _ _ (alike-map (through (λ e. case e bs)) (through (λ e. case e bs′)) (alike-itself (stepAt q e)))
+    (λ l. alike-map (through (case e)) (through (case e)) (starts-alike c (q - size e) (omega arith)))
 starts-alike (in-first {xs = xs} c) q h = in-part c q h (λ a. cons a xs) (λ a. cons a xs) _ _ (starts-alike c q h)
 starts-alike (in-later {a = a} {xs = xs} {xs′ = xs′} c) q h =
-    alike-behind q (size a) _ _ _ _ (alike-map (λ a. cons a xs) (λ a. cons a xs′) (alike-itself (contractAt q a)))
-    (λ l. alike-map (cons a) (cons a) (starts-alike c (q - size a) (omega arith)))
+    alike-behind q (size a) _ _ _ _ (alike-map (through (λ a. cons a xs)) (through (λ a. cons a xs′)) (alike-itself (stepAt q a)))
+    (λ l. alike-map (through (cons a)) (through (cons a)) (starts-alike c (q - size a) (omega arith)))
 starts-alike (in-branch c) zero h = neither
 starts-alike (in-branch {t = t} {n = n} {bs = bs} c) (suc q) h =
     in-part c q (omega arith) (λ b. branch t n b bs) (λ b. branch t n b bs) _ _ (starts-alike c q (omega arith))
 starts-alike (in-later-branch c) zero h = neither
 starts-alike (in-later-branch {t = t} {n = n} {b = b} {bs = bs} {bs′ = bs′} c) (suc q) h =
-    alike-behind q (size b) _ _ _ _ (alike-map (λ b. branch t n b bs) (λ b. branch t n b bs′) (alike-itself (contractAt q b)))
-    (λ l. alike-map (branch t n b) (branch t n b) (starts-alike c (q - size b) (omega arith)))
+    alike-behind q (size b) _ _ _ _ (alike-map (through (λ b. branch t n b bs)) (through (λ b. branch t n b bs′)) (alike-itself (stepAt q b)))
+    (λ l. alike-map (through (branch t n b)) (through (branch t n b)) (starts-alike c (q - size b) (omega arith)))
 
 alike-starts : {s : Sort} {p : ℕ} {r : Rule} {e g : Exp s} → Contracts s p r e g → (q : ℕ) → q + 1 < p → (contractAt q e ≡ none) ↔ (contractAt q g ≡ none)
-alike-starts c q h = (alike-none (starts-alike c q h), alike-none (alike-sym (starts-alike c q h)))
+alike-starts {e = e} {g} c q h = (
+  λ n. contractAt-none q g .1 (alike-none (starts-alike c q h) (contractAt-none q e .0 n)),
+  λ n. contractAt-none q e .1 (alike-none (alike-sym (starts-alike c q h)) (contractAt-none q g .0 n)),
+)
 
 pub redexes-before-kept : Redexes-before-kept
 redexes-before-kept p q r t u c h = alike-starts c q h

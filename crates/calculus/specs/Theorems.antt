@@ -6,8 +6,9 @@ use mathlib.Core.Logic.{_↔_}
 use mathlib.Core.Option.{some, none, bind}
 use lib.IntN.{ℤ, pos, _+ℤ_}
 use lib.ListN.{getD}
-use Rattle.calculus.specs.Term.{Sort, term, Exp, var, lam, app, con, case, nil, cons, end, branch, Term, count}
+use Rattle.calculus.specs.Term.{Sort, term, Exp, Term}
 use Rattle.calculus.specs.Words.{applicationKind, caseKind, kindOf, countBase, words, size, workspaceMost}
+use Rattle.calculus.specs.Everywhere.{anywhere, Asked, variables, Everywhere}
 use Rattle.calculus.specs.Accepted.{Accepted, indexLimit}
 use Rattle.calculus.specs.Read.{read}
 use Rattle.calculus.specs.Shift.{move}
@@ -21,16 +22,18 @@ abbrev pub Read-exact : Type 0
 Read-exact = (ws : List ℕ) (t : Term) → (read ws ≡ some t) ↔ ((words t ≡ ws) × Accepted 0 t)
 
 -- Argument and bound counts are below 16, so that a payload holds them beside the tag.
+abbrev pub counted : Asked (Unit {0})
+counted =
+    record {
+      places = anywhere;
+      of-variable = λ d i. Unit {0};
+      of-constructor = λ t n. n < countBase;
+      of-case = λ bs. Unit {0};
+      of-branch = λ t n. n < countBase;
+    }
+
 abbrev pub Packable : {s : Sort} → Exp s → Type 0
-Packable (var i) = Unit {0}
-Packable (lam b) = Packable b
-Packable (app f a) = Packable f × Packable a
-Packable (con t xs) = (count xs < countBase) × Packable xs
-Packable (case e bs) = Packable e × Packable bs
-Packable nil = Unit {0}
-Packable (cons a xs) = Packable a × Packable xs
-Packable end = Unit {0}
-Packable (branch t n b bs) = (n < countBase) × Packable b × Packable bs
+Packable e = Everywhere counted tt e
 
 -- The words of a term are never the start of another's. Without the bound on counts this is false: tag 1 with 16 arguments and tag 2 with none
 -- share a word.
@@ -103,15 +106,7 @@ Normality-decidable = (t : Term) → Dec (Normal t)
 
 -- No index of the expression is above the limit.
 abbrev pub IndicesWithin : {s : Sort} → ℕ → Exp s → Type 0
-IndicesWithin limit (var i) = i ≤ limit
-IndicesWithin limit (lam b) = IndicesWithin limit b
-IndicesWithin limit (app f a) = IndicesWithin limit f × IndicesWithin limit a
-IndicesWithin limit (con t xs) = IndicesWithin limit xs
-IndicesWithin limit (case e bs) = IndicesWithin limit e × IndicesWithin limit bs
-IndicesWithin limit nil = Unit {0}
-IndicesWithin limit (cons a xs) = IndicesWithin limit a × IndicesWithin limit xs
-IndicesWithin limit end = Unit {0}
-IndicesWithin limit (branch t n b bs) = IndicesWithin limit b × IndicesWithin limit bs
+IndicesWithin limit e = Everywhere (variables anywhere (λ d i. i ≤ limit)) tt e
 
 abbrev pub Indices-bounded : Type 0
 Indices-bounded = (t : Term) → Accepted 0 t → size t ≤ workspaceMost → IndicesWithin indexLimit t

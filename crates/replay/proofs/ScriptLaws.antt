@@ -7,7 +7,7 @@ use native.Mathlib.Omega.{arith}
 use lib.Dec.{leb}
 use lib.ListN.{length}
 use borrow.Author.Tests.{le-leb, lt-leb}
-use Rattle.verdict_line.specs.Bytes.{wordBytes}
+use Rattle.text.specs.Bytes.{wordBytes}
 use Rattle.replay.specs.declared.script.Operation.{Operation}
 use Rattle.replay.specs.declared.script.Read.{Read}
 use Rattle.replay.specs.declared.script.Read.the-variants as read

@@ -7,10 +7,11 @@ use native.Mathlib.Omega.{arith}
 use lib.ListN.{length, getD, drop, length-append}
 use lib.Seq.{sets, drop-cons, length-sets}
 use Rattle.rounds.specs.Session.{Session}
-use Rattle.verdict_line.specs.Line.{field}
-use Rattle.verdict_line.specs.Put.{Put}
-use Rattle.verdict_line.proofs.Storing.{sets-append}
-use Rattle.verdict_line.proofs.LineLaws.{length-decimal, length-name}
+use Rattle.text.specs.Decimal.{field}
+use Rattle.text.specs.Put.{Put}
+use Rattle.text.proofs.Storing.{sets-append}
+use Rattle.text.proofs.DecimalLaws.{length-decimal}
+use Rattle.verdict_line.proofs.LineLaws.{length-name}
 use Rattle.replay.specs.Text.{fields, line, leftName, rightName, scratchName, sessionLine, stateLines, numberMost, Printed}
 
 -- The bytes put and those still to come.

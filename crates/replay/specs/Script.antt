@@ -8,8 +8,8 @@ use lib.Dec.{leb, ltb, eqb}
 use lib.ListN.{length}
 use Rattle.rounds.specs.declared.Verdict.{Verdict}
 use Rattle.rounds.specs.declared.Verdict.the-variants as verdict
-use Rattle.verdict_line.specs.Bytes.{wordBytes}
-use Rattle.verdict_line.specs.Decode.{wordAt}
+use Rattle.text.specs.Bytes.{wordBytes}
+use Rattle.text.specs.Decode.{wordAt}
 use Rattle.verdict_line.specs.Request.{tableLimit}
 use Rattle.verdict_line.specs.Parse.{Stands}
 use Rattle.replay.specs.declared.script.Side.{Side}

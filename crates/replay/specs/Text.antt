@@ -3,8 +3,9 @@ use Prim.Native.Nat.{ℕ, _≤_}
 use mathlib.Core.List.{List, [], _∷_, _++_}
 use Rattle.rounds.specs.Session.{Session}
 use lib.ListN.{length}
-use Rattle.verdict_line.specs.Line.{nameOf, newline, field}
-use Rattle.verdict_line.specs.Put.{Put}
+use Rattle.verdict_line.specs.Line.{nameOf}
+use Rattle.text.specs.Decimal.{newline, field}
+use Rattle.text.specs.Put.{Put}
 
 -- Numbers, each behind a space.
 unfoldable pub fields : List ℕ → List ℕ

@@ -1,19 +1,19 @@
 // What the operations of a script do: the unit's calls on the lent slices, each with its line.
+use crate::print::put_numbered;
+use crate::print::put_state;
 use crate::script::Call;
 use crate::script::Operation;
 use crate::script::Side;
-use crate::text::put_numbered;
-use crate::text::put_state;
 use rounds::Answer;
 use rounds::Pressed;
 use rounds::Session;
 use session::press_owned;
+use text::decimal::put_bytes;
 use verdict_line::judge::load_from;
 use verdict_line::print::Line;
 use verdict_line::print::put_line;
 use verdict_line::request::TABLE_MOST;
 use verdict_line::request::Table;
-use verdict_line::text::put_bytes;
 ghost use mathlib.Core.Path.{_≡_};
 ghost use Prim.Native.Nat.{_≤_};
 ghost use lib.ListN.{length, replicate, set};

@@ -1,14 +1,14 @@
 // Replays calls of the unit: reads a script from standard input and prints what each of its operations prints, or `Script` where it is broken.
 use crate::calls::Kept;
 use crate::calls::perform;
+use crate::print::TEXT_MOST;
 use crate::script::Read;
 use crate::script::operation_at;
-use crate::text::TEXT_MOST;
 use libc::STDIN_FILENO;
 use libc::STDOUT_FILENO;
 use rounds::Session;
-use verdict_line::bytes::WORD_BYTES;
-use verdict_line::bytes::word_at;
+use text::bytes::WORD_BYTES;
+use text::bytes::word_at;
 use verdict_line::judge::LENT_MOST;
 use verdict_line::judge::lent;
 use verdict_line::request::TABLE_MOST;
@@ -17,8 +17,8 @@ ghost use Rattle.replay.specs.Script.{scriptMost, isScript};
 ghost use Rattle.replay.specs.Text.{textMost};
 
 mod calls;
+mod print;
 mod script;
-mod text;
 
 // The most bytes of a script: 32,768 words.
 const SCRIPT_MOST: usize = WORD_BYTES * 32768;

@@ -1,8 +1,8 @@
 // What a script asks: operations of little-endian words, one after the other.
 use rounds::Session;
 use rounds::Verdict;
-use verdict_line::bytes::WORD_BYTES;
-use verdict_line::bytes::word_at;
+use text::bytes::WORD_BYTES;
+use text::bytes::word_at;
 use verdict_line::request::TABLE_MOST;
 use verdict_line::request::Table;
 ghost use mathlib.Core.Path.{_≡_};

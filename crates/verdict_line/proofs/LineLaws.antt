@@ -11,33 +11,20 @@ use lib.Seq.{length-sets}
 use borrow.Author.Tests.{lt-ltb}
 use lib.ListN.{length, take, replicate, length-append, length-replicate}
 use Rattle.calculus.specs.Rounds.{Verdict, Same, Different, Budget, Full}
-use Rattle.verdict_line.specs.Decimal.{digit, digits, decimal, digitsMost}
 use Rattle.verdict_line.specs.Line.{Line, input, refuses, shows, judged, nameOf, lineBytes, lineMost, printed}
 use Rattle.calculus.specs.Words.{workspaceMost}
 use Rattle.calculus.specs.Refusal.{wrongWorkspaceNumber}
 use Rattle.tables.specs.Load.{refused, load}
 use Rattle.verdict_line.specs.Request.{Request, request}
-use Rattle.verdict_line.specs.Put.{Put}
+use Rattle.text.specs.Put.{Put}
+use Rattle.text.proofs.DecimalLaws.{length-decimal}
 use Rattle.verdict_line.specs.Judge.{lentMost}
-
-length-digits : (k n : ℕ) → length (digits k n) ≤ k
-unfolding digits
-length-digits zero n = omega arith
-length-digits (suc k) n = go (ltb n 10) refl (length-digits k (n / 10))
-  where
-    go : (b : Bool) → ltb n 10 ≡ b → length (digits k (n / 10)) ≤ k → length (digits (suc k) n) ≤ suc k
-    go true e h = rw (e, digits) (omega arith)
-    go false e h = rw (e, digits) (omega (arith, length-append (digits k (n / 10)) (digit (n % 10) ∷ [])))
 
 pub length-name : (v : Verdict) → length (nameOf v) ≤ 9
 length-name Same = omega arith
 length-name Different = omega arith
 length-name Budget = omega arith
 length-name Full = omega arith
-
-pub length-decimal : (n : ℕ) → length (decimal n) ≤ digitsMost
-unfolding decimal
-length-decimal n = length-digits digitsMost n
 
 -- No line is longer than `lineMost`.
 pub line-length : (l : Line) → length (lineBytes l) ≤ lineMost

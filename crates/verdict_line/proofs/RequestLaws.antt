@@ -14,11 +14,11 @@ use Rattle.words.proofs.Scan.{both}
 use Rattle.verdict_line.specs.declared.request.Table.{Table}
 use Rattle.verdict_line.specs.declared.request.Found.{Found}
 use Rattle.verdict_line.specs.declared.request.Found.the-variants as found
-use Rattle.verdict_line.specs.Bytes.{wordBytes, wordsOf}
-use Rattle.verdict_line.specs.Decode.{wordAt, wordsFrom}
+use Rattle.text.specs.Bytes.{wordBytes, wordsOf}
+use Rattle.text.specs.Decode.{wordAt, wordsFrom}
 use Rattle.verdict_line.specs.Request.{Request, tableLimit, inputMost, counted, complete, requestOf, request}
 use Rattle.verdict_line.specs.Parse.{end, tableAt, wordsOfTable, Stands}
-use Rattle.verdict_line.proofs.DecodeLaws.{length-wordsFrom, take-wordsFrom, drop-wordsFrom, wordsOf-whole, wordsOf-part}
+use Rattle.text.proofs.DecodeLaws.{length-wordsFrom, take-wordsFrom, drop-wordsFrom, wordsOf-whole, wordsOf-part}
 
 -- What is made of the table, if it is there.
 abbrev pub with : {A : Type 0} → Found → (Table → Option A) → Option A

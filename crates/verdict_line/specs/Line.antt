@@ -1,16 +1,16 @@
 -- The line that the verdict program prints ("The verdict program"): left is loaded, then right, then one press with a fresh session. It shows
 -- verdict, spent, left length and right length, or `Refused` and the number, or `Input` where the bytes are no request.
-use Prim.Native.Nat.{ℕ}
+use Prim.Native.Nat.{ℕ, _+_, _*_}
 use mathlib.Core.List.{List, [], _∷_, _++_}
 use mathlib.Core.Option.{Option, some, none}
-use lib.ListN.{replicate}
+use lib.ListN.{length, replicate}
 use Rattle.calculus.specs.Rounds.{Verdict, Same, Different, Budget, Full}
 use Rattle.rounds.specs.Session.{fresh}
 use Rattle.rounds.specs.Press.{press}
 use Rattle.rounds.specs.Press as press
 use Rattle.tables.specs.Load.{Answer, refused, returned, load}
 use Rattle.verdict_line.specs.Request.{Request, request}
-use Rattle.verdict_line.specs.Decimal.{decimal}
+use Rattle.text.specs.Decimal.{digitsMost, field, newline}
 
 -- What is printed.
 pub data Line : Type 0 where
@@ -57,22 +57,15 @@ inputName = 73 ∷ 110 ∷ 112 ∷ 117 ∷ 116 ∷ []
 abbrev pub refusedName : List ℕ
 refusedName = 82 ∷ 101 ∷ 102 ∷ 117 ∷ 115 ∷ 101 ∷ 100 ∷ []
 
-abbrev pub newline : ℕ
-newline = 10
-
--- A number behind a space.
-abbrev pub field : ℕ → List ℕ
-field n = 32 ∷ decimal n
-
 -- The bytes of a line, the newline included.
 abbrev pub lineBytes : Line → List ℕ
 lineBytes input = inputName ++ (newline ∷ [])
 lineBytes (refuses n) = refusedName ++ (field n ++ (newline ∷ []))
 lineBytes (shows v s l r) = nameOf v ++ (field s ++ (field l ++ (field r ++ (newline ∷ []))))
 
--- The most bytes of a line: the longest verdict, three numbers of at most twenty digits behind a space, and the newline.
+-- The most bytes of a line: the longest verdict, three numbers behind a space, and the newline.
 abbrev pub lineMost : ℕ
-lineMost = 73
+lineMost = length (nameOf Different) + 3 * (1 + digitsMost) + 1
 
 -- What the program prints for the bytes that it reads.
 unfoldable pub printed : List ℕ → List ℕ

@@ -11,8 +11,8 @@ use Rattle.verdict_line.specs.declared.request.Found.{Found}
 use Rattle.verdict_line.specs.declared.request.Found.the-variants as found
 use Rattle.verdict_line.specs.declared.request.Parsed.{Parsed}
 use Rattle.verdict_line.specs.declared.request.Parsed.the-variants as parsed
-use Rattle.verdict_line.specs.Bytes.{wordBytes}
-use Rattle.verdict_line.specs.Decode.{wordAt, wordsFrom}
+use Rattle.text.specs.Bytes.{wordBytes}
+use Rattle.text.specs.Decode.{wordAt, wordsFrom}
 use Rattle.verdict_line.specs.Request.{Request, tableLimit, request}
 
 -- The position after a table.

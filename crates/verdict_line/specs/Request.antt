@@ -6,7 +6,9 @@ use mathlib.Core.List.{List, [], _∷_}
 use mathlib.Core.Option.{Option, some, none, bind}
 use lib.Dec.{leb}
 use lib.ListN.{length, take, drop}
-use Rattle.verdict_line.specs.Bytes.{wordBytes, wordsOf}
+use Rattle.calculus.specs.Words.{workspaceMost}
+use Rattle.tables.specs.Records.{recordWords}
+use Rattle.text.specs.Bytes.{wordBytes, wordsOf}
 
 pub record Request : Type 0 where
   pub budget : ℕ
@@ -14,9 +16,9 @@ pub record Request : Type 0 where
   pub left : List ℕ
   pub right : List ℕ
 
--- The most words of a table: a header and 2,048 records of four words.
+-- The most words of a table: a header, and as many records as a workspace has words.
 abbrev pub tableLimit : ℕ
-tableLimit = 8196
+tableLimit = recordWords * (workspaceMost + 1)
 
 -- The most bytes of a request: budget, C, and two tables behind their counts.
 abbrev pub inputMost : ℕ

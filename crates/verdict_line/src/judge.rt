@@ -1,5 +1,4 @@
 // What a request comes to: left is loaded, then right, then one press with a fresh session.
-use crate::bytes::words_from;
 use crate::print::Line;
 use crate::request::Parsed;
 use crate::request::TABLE_MOST;
@@ -7,7 +6,8 @@ use crate::request::Table;
 use crate::request::parse;
 use rounds::Answer;
 use rounds::Session;
-use rounds::press;
+use session::press_owned;
+use text::bytes::words_from;
 use words::Word;
 ghost use mathlib.Core.Path.{_≡_};
 ghost use mathlib.Core.Option.{some};
@@ -80,7 +80,7 @@ fn judge_with(bytes: &[u8], left: Table, right: Table, budget: u32, c: u32) -> L
         tables::Answer::Returned(l) => match load_from(bytes, right, &mut right_words[..n]) {
             tables::Answer::Refused(number) => Line::Refuses(number),
             tables::Answer::Returned(r) => {
-                let pressed = press(
+                let pressed = press_owned(
                     &mut left_words[..n],
                     &mut right_words[..n],
                     &mut scratch[..n],

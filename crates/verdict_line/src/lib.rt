@@ -1,19 +1,15 @@
 // The verdict program's work on slices: bytes in, the printed line out.
-use crate::bytes::WORD_BYTES;
 use crate::print::LINE_MOST;
 use crate::request::INPUT_MOST;
 use crate::request::TABLE_MOST;
 ghost use mathlib.Core.Path.{_≡_};
-ghost use Rattle.verdict_line.specs.Bytes.{wordBytes};
 ghost use Rattle.verdict_line.specs.Request.{tableLimit, inputMost};
 ghost use Rattle.verdict_line.specs.Line.{lineMost, printed};
-ghost use Rattle.verdict_line.specs.Put.{Put};
+ghost use Rattle.text.specs.Put.{Put};
 
-pub mod bytes;
 pub mod judge;
 pub mod print;
 pub mod request;
-pub mod text;
 
 // Puts what is printed for the bytes at the start of `out`, and returns its length.
 pub fn line(bytes: &[u8], out: &mut [u8; LINE_MOST]) -> usize
@@ -25,7 +21,6 @@ pub fn line(bytes: &[u8], out: &mut [u8; LINE_MOST]) -> usize
 
 // Does nothing. Its contract says that each constant is the number that the definitions give its name.
 fn constants()
-    ensures { λ r. do ⌜ (← ⟦WORD_BYTES⟧ .entry) ≡ wordBytes ⌝ }
     ensures { λ r. do ⌜ (← ⟦TABLE_MOST⟧ .entry) ≡ tableLimit ⌝ }
     ensures { λ r. do ⌜ (← ⟦INPUT_MOST⟧ .entry) ≡ inputMost ⌝ }
     ensures { λ r. do ⌜ (← ⟦LINE_MOST⟧ .entry) ≡ lineMost ⌝ }

@@ -1,17 +1,21 @@
 // The line that the verdict program prints.
-use crate::text::put_bytes;
-use crate::text::put_field;
 use rounds::Verdict;
+use text::decimal::DIGITS_MOST;
+use text::decimal::put_bytes;
+use text::decimal::put_end;
+use text::decimal::put_field;
 ghost use Prim.Native.Nat.{_≤_, _+_};
-ghost use mathlib.Core.List.{[], _∷_};
 ghost use lib.ListN.{length};
 ghost use Rattle.rounds.specs.Types.{verdictOf};
-ghost use Rattle.verdict_line.specs.Line.{nameOf, lineBytes, refuses, shows, newline};
+ghost use Rattle.verdict_line.specs.Line.{nameOf, lineBytes, refuses, shows};
 ghost use Rattle.verdict_line.specs.Types.{printedLine};
-ghost use Rattle.verdict_line.specs.Put.{Put};
+ghost use Rattle.text.specs.Put.{Put};
 
-// The most bytes of a line: the longest verdict, three numbers of at most twenty digits behind a space, and the newline.
-pub const LINE_MOST: usize = 73;
+// The bytes of the longest verdict, `Different`.
+const VERDICT_MOST: usize = 9;
+
+// The most bytes of a line: a verdict, three numbers behind a space, and the newline.
+pub const LINE_MOST: usize = VERDICT_MOST + 3 * (1 + DIGITS_MOST) + 1;
 
 pub enum Line {
     Input,
@@ -35,15 +39,6 @@ pub fn put_verdict(verdict: Verdict, out: &mut [u8], at: usize) -> usize
         Verdict::Budget => put_bytes(b"Budget", out, at),
         Verdict::Full => put_bytes(b"Full", out, at),
     }
-}
-
-// The end of a line.
-pub fn put_end(out: &mut [u8], at: usize) -> usize
-    requires { ⌜ at + 1 ≤ length (now out) ⌝ }
-    ensures { λ r. ⌜ Put (now (out .entry)) at (newline ∷ []) (now (out .exit)) r ⌝ }
-{
-    out[at] = b'\n';
-    at + 1
 }
 
 fn put_refusal(number: u32, out: &mut [u8]) -> usize

@@ -1,13 +1,17 @@
 // What the bytes ask ("The verdict program"): budget, C, and two tables, each behind its word count.
-use crate::bytes::WORD_BYTES;
-use crate::bytes::word_at;
+use text::bytes::WORD_BYTES;
+use text::bytes::word_at;
+use words::Word;
 ghost use mathlib.Core.Path.{_≡_};
 ghost use Prim.Native.Nat.{_≤_};
 ghost use lib.ListN.{length};
 ghost use Rattle.verdict_line.specs.Parse.{tableAt, Parses};
 
-// The most words of a table: a header and 2,048 records of four words.
-pub const TABLE_MOST: usize = 8196;
+// The words of a record.
+const RECORD_WORDS: usize = 4;
+
+// The most words of a table: a header, and as many records as a workspace has words.
+pub const TABLE_MOST: usize = RECORD_WORDS * (Word::WORKSPACE_MOST + 1);
 
 // The most bytes of a request: budget, C, and two tables behind their counts.
 pub const INPUT_MOST: usize = WORD_BYTES * (4 + 2 * TABLE_MOST);

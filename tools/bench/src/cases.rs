@@ -1,5 +1,6 @@
 //! The pairs that are measured, with the line that each must give, worked out by hand.
 
+use crate::numbers::grouped;
 use unit::limits::MAX_BUDGET;
 use unit::program::input;
 use unit::Term;
@@ -27,6 +28,17 @@ impl Case {
         }
     }
 
+    /// What the measuring of the stack reads: budget, C, and the words of both sides.
+    pub fn words(&self, budget: u32) -> Vec<u8> {
+        let mut words = vec![budget, C];
+        for term in [&self.left, &self.right] {
+            let side = term.words().expect("the case is within the limits");
+            words.push(side.len() as u32);
+            words.extend(side);
+        }
+        words.into_iter().flat_map(u32::to_le_bytes).collect()
+    }
+
     /// Standard input with another budget.
     pub fn input(&self, budget: u32) -> Vec<u8> {
         input(budget, C, &self.left, &self.right)
@@ -45,8 +57,46 @@ pub fn contracting() -> Vec<Case> {
     cases.extend([5, 7, 9].map(power));
     cases.extend([30, 100, 300].map(addition));
     cases.extend([10, 20, 40].map(multiplication));
-    cases.push(looping_beside_normal());
     cases
+}
+
+/// Pairs with contractions that touch a small part of long terms.
+pub fn untouched() -> Vec<Case> {
+    vec![
+        looping_beside_normal(),
+        looping_under(2_030),
+        looping_before(2_001),
+        looping_in_stuck_cases(255),
+        addition_before(30, 1_501),
+    ]
+}
+
+/// A case at a place on the x axis of a plot.
+pub struct Point {
+    pub x: usize,
+    pub case: Case,
+}
+
+/// Loops that touch more and more words in each contraction.
+pub fn growing_touched() -> Vec<Point> {
+    let padded = |padding| Point {
+        x: 28 + 5 * padding,
+        case: looping_padded(padding),
+    };
+    [1, 3, 10, 30, 100, 300, 677].map(padded).into()
+}
+
+/// Loops that touch 18 words in each contraction, of longer and longer terms.
+pub fn growing_untouched() -> Vec<Point> {
+    let under = |depth| Point {
+        x: depth,
+        case: Case {
+            budget: PLOTTED,
+            line: format!("Budget {PLOTTED} {} 1", depth + 9),
+            ..looping_under(depth)
+        },
+    };
+    [1, 3, 10, 30, 100, 300, 1_000, 2_030].map(under).into()
 }
 
 /// Pairs of normal terms, alike up to the last word unless equal.
@@ -80,15 +130,74 @@ fn looping() -> Case {
     Case::new("Loop".to_string(), LOOP, "0", line)
 }
 
-/// Every round searches all of the normal side.
+/// A term that runs on, followed for some contractions, against the variable 0.
+fn endless(name: String, left: &str, length: usize, budget: u32) -> Case {
+    let line = format!("Budget {budget} {length} 1");
+    Case {
+        budget,
+        ..Case::new(name, left, "0", line)
+    }
+}
+
+/// Contractions followed where a program searches or moves long terms.
+const FOLLOWED: u32 = 10_000;
+/// Contractions followed for a point of a plot.
+const PLOTTED: u32 = 400;
+
+/// Loop, and a normal side that has 1,023 applications to the left.
 fn looping_beside_normal() -> Case {
     let name = "Loop beside 2,047 normal words".to_string();
     let right = format!("0{}", " 0".repeat(1_023));
-    let budget = 10_000;
+    let line = format!("Budget {FOLLOWED} 9 2047");
     Case {
-        budget,
-        ..Case::new(name, LOOP, &right, format!("Budget {budget} 9 2047"))
+        budget: FOLLOWED,
+        ..Case::new(name, LOOP, &right, line)
     }
+}
+
+fn looping_under(depth: usize) -> Case {
+    let left = format!("{}{LOOP}", r"\".repeat(depth));
+    let name = format!("Loop under {} abstractions", grouped(depth));
+    endless(name, &left, depth + 9, FOLLOWED)
+}
+
+/// Loop applied to an argument of so many words, an odd number.
+fn looping_before(words: usize) -> Case {
+    let left = format!("({LOOP}) ({})", tail(words));
+    let name = format!("Loop before {} words", grouped(words));
+    endless(name, &left, words + 10, FOLLOWED)
+}
+
+/// Loop in the subject of stuck cases, each the argument of the next one's constructor.
+fn looping_in_stuck_cases(n: usize) -> Case {
+    let left = format!("{}{LOOP}{}", "?#1[".repeat(n), "]{1.0:0}".repeat(n));
+    let name = format!("Loop in {n} stuck cases");
+    endless(name, &left, 4 * n + 9, FOLLOWED)
+}
+
+/// n + n, and behind it as many words as given, an odd number.
+fn addition_before(n: usize, words: usize) -> Case {
+    let tail = tail(words);
+    let left = format!("#3[{ADD} {ADD} {0} {0},{tail}]", peano(n));
+    let right = format!("#3[{},{tail}]", peano(2 * n));
+    let length = 2 * n + 2 + words;
+    let line = format!("Same {} {length} {length}", 4 * (n + 1));
+    let name = format!("Peano {n} + {n} before {} words", grouped(words));
+    Case::new(name, &left, &right, line)
+}
+
+/// A normal term of so many words, an odd number.
+fn tail(words: usize) -> String {
+    format!("0{}", " 0".repeat(words / 2))
+}
+
+/// f f where f is the abstraction of (\ f' f') p over its own f', and p has as many words as given.
+/// One contraction of 13 + 2p words leads to (\ f f) p, 15 + 3p words, and the next one back.
+fn looping_padded(padding: usize) -> Case {
+    let p = format!("{}#1{}", "#1[".repeat(padding - 1), "]".repeat(padding - 1));
+    let f = format!(r"\(\1 1) {p}");
+    let name = format!("Loop with {padding} words to spare");
+    endless(name, &format!("({f}) {f}"), 13 + 2 * padding, PLOTTED)
 }
 
 /// n 2 f x. Write T(k) for 2 (... (2 f)), k times 2: T(k) x takes two contractions to
@@ -168,18 +277,17 @@ fn stuck_cases(n: usize) -> Case {
 #[cfg(test)]
 mod tests {
     use super::*;
-    use crate::peers::flat;
+    use crate::peers::{flat, graph};
 
     #[test]
-    fn the_peer_gives_the_lines_worked_out() {
-        for case in contracting().into_iter().chain(normal()) {
-            assert_eq!(
-                flat::line(&case.input(case.budget)),
-                case.line,
-                "{}",
-                case.name
-            );
-            assert_eq!(flat::line(&case.refused()), "Refused 9", "{}", case.name);
+    fn the_peers_give_the_lines_worked_out() {
+        let points = growing_touched().into_iter().chain(growing_untouched());
+        let cases = [contracting(), untouched(), normal()].into_iter().flatten();
+        for case in cases.chain(points.map(|point| point.case)) {
+            for line in [flat::line, graph::line] {
+                assert_eq!(line(&case.input(case.budget)), case.line, "{}", case.name);
+                assert_eq!(line(&case.refused()), "Refused 9", "{}", case.name);
+            }
         }
     }
 }

@@ -32,7 +32,7 @@ impl Drop for InputFile {
 }
 
 /// Runs the program once: the line that it prints and the time from its start to its end.
-pub fn timed(program: &Path, input: &InputFile) -> Result<(String, Duration), String> {
+pub fn line_of(program: &Path, input: &InputFile) -> Result<(String, Duration), String> {
     let failed = |reason: String| format!("{}: {reason}", program.display());
     let start = Instant::now();
     let output = input.output(&mut Command::new(program));

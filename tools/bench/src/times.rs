@@ -4,7 +4,7 @@ use std::path::Path;
 use std::time::Duration;
 
 use crate::cases::Case;
-use crate::measure::{checked, input_file, Programs};
+use crate::measure::{checked, input_file, Each, Programs, NAMES};
 
 /// A time is taken this often, each time as the shortest of some runs: other work on the machine
 /// only ever makes a run longer.
@@ -29,8 +29,8 @@ pub struct Estimate {
     pub error: f64,
 }
 
-/// The times of the unit's program and of its peer, which run by turns.
-pub fn times(case: &Case, programs: &Programs) -> Result<[Times; 2], String> {
+/// The times of the programs, which run by turns.
+pub fn times(case: &Case, programs: &Programs) -> Result<Each<Times>, String> {
     let full = input_file("full", &case.input(case.budget))?;
     let refused = input_file("refused", &case.refused())?;
     let seconds = |program: &Path, presses: bool| match presses {
@@ -38,16 +38,16 @@ pub fn times(case: &Case, programs: &Programs) -> Result<[Times; 2], String> {
         false => checked(program, &refused, "Refused 9"),
     };
     let mut slowest = f64::MIN_POSITIVE;
-    for program in programs.both() {
+    for program in programs {
         slowest = slowest.max(seconds(program, true)?);
     }
     let runs = TOGETHER.as_secs_f64() / slowest / REPETITIONS as f64;
     let runs = (runs as usize).clamp(MIN_RUNS, MAX_RUNS);
-    let mut samples = [Samples::default(), Samples::default()];
+    let mut samples: Each<Samples> = Default::default();
     for _ in 0..REPETITIONS {
-        let mut shortest = [[f64::INFINITY; 2]; 2];
+        let mut shortest = [[f64::INFINITY; 2]; NAMES.len()];
         for _ in 0..runs {
-            for (program, [run, start]) in programs.both().into_iter().zip(&mut shortest) {
+            for (program, [run, start]) in programs.iter().zip(&mut shortest) {
                 *run = run.min(seconds(program, true)?);
                 *start = start.min(seconds(program, false)?);
             }

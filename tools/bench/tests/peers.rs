@@ -1,6 +1,6 @@
-//! The peer against the rules' bench pairs, refusals and limits.
+//! The peers against the rules' bench pairs, refusals and limits.
 
-use bench::peers::flat as peer;
+use bench::peers::{flat, graph};
 use unit::program::input;
 use unit::{table, Term};
 
@@ -8,8 +8,15 @@ fn term(text: &str) -> Term {
     text.parse().expect("a term")
 }
 
+/// The line that both peers print.
+fn printed(input: &[u8]) -> String {
+    let line = flat::line(input);
+    assert_eq!(graph::line(input), line);
+    line
+}
+
 fn line(budget: u32, c: u32, left: &str, right: &str) -> String {
-    peer::line(&input(budget, c, &term(left), &term(right)))
+    printed(&input(budget, c, &term(left), &term(right)))
 }
 
 /// The line for a left table as it stands, beside the variable 0.
@@ -17,7 +24,7 @@ fn line_of_table(left: &[u32]) -> String {
     let right = table(&term("0"));
     let counted = |table: &[u32]| [&[table.len() as u32], table].concat();
     let words = [&[10, 16], &counted(left)[..], &counted(&right)].concat();
-    peer::line(&bytes(&words))
+    printed(&bytes(&words))
 }
 
 fn bytes(words: &[u32]) -> Vec<u8> {
@@ -129,15 +136,15 @@ fn refused_pairs() {
 #[test]
 fn inputs_of_another_length() {
     let whole = input(0, 16, &term("0"), &term("0"));
-    assert_eq!(peer::line(&whole), "Same 0 1 1");
+    assert_eq!(printed(&whole), "Same 0 1 1");
     for length in 0..whole.len() {
-        assert_eq!(peer::line(&whole[..length]), "Input", "{length}");
+        assert_eq!(printed(&whole[..length]), "Input", "{length}");
     }
     for surplus in [&[0][..], &[0; 4]] {
-        assert_eq!(peer::line(&[&whole, surplus].concat()), "Input");
+        assert_eq!(printed(&[&whole, surplus].concat()), "Input");
     }
     let counted =
         |count: u32| bytes(&[&[0, 0, count], &vec![0; count as usize][..], &[0]].concat());
-    assert_eq!(peer::line(&counted(8_196)), "Refused 7");
-    assert_eq!(peer::line(&counted(8_197)), "Input");
+    assert_eq!(printed(&counted(8_196)), "Refused 7");
+    assert_eq!(printed(&counted(8_197)), "Input");
 }

@@ -108,7 +108,12 @@ pub struct Script<'a> {
 
 impl Script<'_> {
     pub fn at_end(&self) -> bool {
-        self.words.ahead.is_empty()
+        self.unread() == 0
+    }
+
+    /// The bytes that are still to be read.
+    pub fn unread(&self) -> usize {
+        self.words.ahead.len()
     }
 
     /// The next operation, if it is whole and known.

@@ -2,6 +2,7 @@
 //! Rust from the rules.
 
 pub mod flat;
+pub mod graph;
 mod table;
 
 use std::fmt;

@@ -121,14 +121,16 @@ fn arithmetic(random: &mut Random) -> (Term, Term) {
 }
 
 fn data(random: &mut Random) -> (Term, Term) {
-    let (m, n) = (random.below(6), random.below(6));
+    let most = random.pick(&[6, 6, 30]);
+    let (m, n) = (random.below(most), random.below(most));
+    let off = usize::from(random.percent(40));
     match random.below(5) {
-        0 => (peano_sum(peano(m), peano(n)), peano(m + n)),
+        0 => (peano_sum(peano(m), peano(n)), peano(m + n + off)),
         1 => (peano_sum(peano(m), peano(n)), peano_sum(peano(n), peano(m))),
         2 => (peano_predecessor(peano(m)), peano(m.saturating_sub(1))),
         3 => (
             peano_parity(peano_sum(peano(m), peano(n))),
-            con(3 + ((m + n) % 2) as u32, Vec::new()),
+            con(3 + ((m + n + off) % 2) as u32, Vec::new()),
         ),
         _ => (
             peano_sum(peano(m), var(0)),

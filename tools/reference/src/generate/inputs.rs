@@ -220,7 +220,10 @@ fn broken_bytes(random: &mut Random, mut request: Request) -> Vec<u8> {
         u32::MAX,
     ]);
     match random.below(6) {
-        0 => bytes.truncate(bytes.len() - random.between(1, 7)),
+        0 => {
+            let end = random.pick(&[bytes.len(), right_count, right_count + 4]);
+            bytes.truncate(end - random.between(1, 7));
+        }
         1 => bytes.truncate(random.below(bytes.len())),
         2 => bytes.truncate(4 * random.below(bytes.len() / 4)),
         3 => bytes.extend(vec![0; random.between(1, 8)]),

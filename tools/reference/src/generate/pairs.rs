@@ -156,7 +156,9 @@ impl Survey {
     /// A length that ends before some round, and a budget for which this
     /// round may be the last.
     fn short_of_room(&self, random: &mut Random) -> (u32, usize) {
-        let round = random.pick(&self.growing());
+        let growing = self.growing();
+        let any = random.pick(&growing);
+        let round = random.pick(&[growing[0], any]);
         let (least, after) = (self.states[round].1, self.states[round + 1]);
         let any = random.between(least, after.1 - 1);
         let room = random.pick(&[least, any, after.1 - 1]);

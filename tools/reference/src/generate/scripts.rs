@@ -256,28 +256,23 @@ fn any_call(random: &mut Random, composer: &mut Composer) {
     }
 }
 
-/// A press with any of its numbers wrong.
+/// A press with one of its numbers wrong, now and then several.
 fn wrong_press(random: &mut Random, composer: &mut Composer) {
+    let one = random.below(4);
+    let mut is_wrong = |number| number == one || random.percent(10);
+    let [scratch, budget, left, right] = [0, 1, 2, 3].map(&mut is_wrong);
     let capacity = composer.machine.left.len();
-    let scratch = if random.percent(40) {
-        let near = random.pick(&[capacity.saturating_sub(1), capacity + 1]);
-        random.pick(&[near, near, 0, 15, 16, 2_048, 2_049, LONGEST_TABLE])
-    } else {
-        capacity
-    };
-    let budget = if random.percent(40) {
-        wrong_budget(random)
-    } else {
-        composer.budget
-    };
-    let lengths = (
-        wrong_length(random, composer.lengths.0, 40),
-        wrong_length(random, composer.lengths.1, 40),
-    );
+    let near = random.pick(&[capacity.saturating_sub(1), capacity + 1]);
+    let other = random.pick(&[near, near, 0, 15, 16, 2_048, 2_049, LONGEST_TABLE]);
+    let large = wrong_budget(random);
+    let lengths = composer.lengths;
     composer.add(Operation::Press {
-        scratch,
-        lengths,
-        budget,
+        scratch: if scratch { other } else { capacity },
+        lengths: (
+            wrong_length(random, lengths.0, 100 * usize::from(left)),
+            wrong_length(random, lengths.1, 100 * usize::from(right)),
+        ),
+        budget: if budget { large } else { composer.budget },
     });
 }
 
@@ -423,7 +418,7 @@ fn broken_script(random: &mut Random, composer: Composer) -> Vec<u8> {
     let mut words = composer.words;
     let over = LONGEST_TABLE as u32 + 1;
     let large = random.pick(&[over, over + 3, 1 << 30, u32::MAX]);
-    let end: Vec<u32> = match random.below(12) {
+    let end: Vec<u32> = match random.below(14) {
         0 => vec![0],
         1 => vec![8],
         2 => vec![random.pick(&[256 + 7, 1 << 31, u32::MAX])],
@@ -435,8 +430,13 @@ fn broken_script(random: &mut Random, composer: Composer) -> Vec<u8> {
         8 => vec![5, 1, 1, 1, random.pick(&[4, 5, u32::MAX])],
         9 => vec![6, random.pick(&[2, 258]), 0, 0],
         10 => {
-            words.truncate(random.below(words.len()));
+            let any = random.below(words.len());
+            words.truncate(random.pick(&[0, 1, any]));
             Vec::new()
+        }
+        11 | 12 => {
+            words.extend(cut_operation(random));
+            return bytes(&words);
         }
         _ => {
             let mut cut = bytes(&words);
@@ -449,6 +449,20 @@ fn broken_script(random: &mut Random, composer: Composer) -> Vec<u8> {
         words.push(7);
     }
     bytes(&words)
+}
+
+/// The start of an operation that has more words.
+fn cut_operation(random: &mut Random) -> Vec<u32> {
+    let whole: [&[u32]; 6] = [
+        &[1, 0, 4, 1, 1, 1, 0],
+        &[2, 16, 1, 1, 0],
+        &[3, 1, 1],
+        &[4, 0, 1, 8],
+        &[5, 0, 0, 0, 0],
+        &[6, 0, 0, 0],
+    ];
+    let operation = random.pick(&whole);
+    operation[..random.between(1, operation.len() - 1)].to_vec()
 }
 
 /// A script of exactly the greatest length, or one word longer.

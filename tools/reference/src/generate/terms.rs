@@ -112,16 +112,20 @@ fn count(random: &mut Random, most: usize) -> usize {
     random.pick(&[few, few, few, any, most])
 }
 
-/// Strictly rising tags for `count` branches.
+/// Strictly rising tags for `count` branches, now and then up to the largest.
 fn rising_tags(random: &mut Random, count: usize) -> Vec<u32> {
     let widest = random.pick(&[1, 1, *TAGS.end() as usize / MOST]);
     let mut last = 0;
-    (0..count)
+    let mut tags: Vec<u32> = (0..count)
         .map(|_| {
             last += random.between(1, widest) as u32;
             last
         })
-        .collect()
+        .collect();
+    if let Some(last) = tags.last_mut().filter(|_| random.percent(10)) {
+        *last = *TAGS.end();
+    }
+    tags
 }
 
 fn constructor(random: &mut Random, size: usize, binders: u32, style: Style) -> Term {

@@ -1,6 +1,8 @@
 //! Short ways to say what the tests expect.
 #![allow(dead_code)]
 
+pub mod census;
+
 use reference::contraction::step;
 use reference::press::{press, Answer, Session, Verdict};
 use reference::refusal::Refusal;

@@ -5,7 +5,7 @@ use native.Mathlib.Numerals.{add-one}
 use native.Mathlib.Omega.{arith}
 use lib.ListN.{length, drop, replicate, length-set, length-replicate, getD-replicate}
 use lib.Seq.{sets, drop-length}
-use Rattle.verdict_line.proofs.Storing.{store-next, sets-whole}
+use Rattle.text.proofs.Storing.{store-next, sets-whole}
 use Rattle.replay.specs.Replay.{filler}
 use Rattle.replay.proofs.calls.fill.Statement.{statement}
 use Rattle.replay.proofs.calls.fill.Tie as tie

@@ -63,26 +63,26 @@ enum-known-r c = search needs
 array-borrow-prefix-left-words-2 : tie.Need-array-borrow-prefix-left-words-2
 array-borrow-prefix-left-words-2 c = again-fits _ (within (c .before .before .before .before .before .before .before .before .before .before .before .before)) (c .before .before .before .before .before .before .before .before .before .before .load-from .last .1 .1 .0) (c .before .before .before .before .before .before .before .before .before .before .load-from .kept .1 .1 .0)
 
-slice-aggregate-press : tie.Need-slice-aggregate-press
-slice-aggregate-press c = again-length _ (within (c .before .before .before .before .before .before .before .before .before .before .before .before .before)) (c .before .before .before .before .before .before .before .before .before .before .before .load-from .last .1 .1 .0) (c .before .before .before .before .before .before .before .before .before .before .before .load-from .kept .1 .1 .0)
+slice-aggregate-press-owned : tie.Need-slice-aggregate-press-owned
+slice-aggregate-press-owned c = again-length _ (within (c .before .before .before .before .before .before .before .before .before .before .before .before .before)) (c .before .before .before .before .before .before .before .before .before .before .before .load-from .last .1 .1 .0) (c .before .before .before .before .before .before .before .before .before .before .before .load-from .kept .1 .1 .0)
 
 array-borrow-prefix-right-words-2 : tie.Need-array-borrow-prefix-right-words-2
 array-borrow-prefix-right-words-2 c = again-fits _ (within (c .before .before .before .before .before .before .before .before .before .before .before .before .before)) (c .before .before .before .before .before .load-from2 .last .1 .1 .0) (c .before .before .before .before .before .load-from2 .kept .1 .1 .0)
 
-slice-aggregate-press-2 : tie.Need-slice-aggregate-press-2
-slice-aggregate-press-2 c = again-length _ (within (c .before .before .before .before .before .before .before .before .before .before .before .before .before .before)) (c .before .before .before .before .before .before .load-from2 .last .1 .1 .0) (c .before .before .before .before .before .before .load-from2 .kept .1 .1 .0)
+slice-aggregate-press-owned-2 : tie.Need-slice-aggregate-press-owned-2
+slice-aggregate-press-owned-2 c = again-length _ (within (c .before .before .before .before .before .before .before .before .before .before .before .before .before .before)) (c .before .before .before .before .before .before .load-from2 .last .1 .1 .0) (c .before .before .before .before .before .before .load-from2 .kept .1 .1 .0)
 
 array-borrow-prefix-scratch : tie.Need-array-borrow-prefix-scratch
 array-borrow-prefix-scratch c = search needs
 
-slice-aggregate-press-3 : tie.Need-slice-aggregate-press-3
-slice-aggregate-press-3 c = lent-length _ (within (c .before .before .before .before .before .before .before .before .before .before .before .before .before .before .before))
+slice-aggregate-press-owned-3 : tie.Need-slice-aggregate-press-owned-3
+slice-aggregate-press-owned-3 c = lent-length _ (within (c .before .before .before .before .before .before .before .before .before .before .before .before .before .before .before))
 
 fresh-requires : tie.Need-fresh-requires
 fresh-requires c κs = search needs
 
-press-requires : tie.Need-press-requires
-press-requires c κs = search needs
+press-owned-requires : tie.Need-press-owned-requires
+press-owned-requires c κs = search needs
 
 line-of-requires : tie.Need-line-of-requires
 line-of-requires c κs = search needs
@@ -107,7 +107,7 @@ returns-3 c =
     let a = start o .args in
     let x = c .before .before .before .before .before .before .before .before .before .before .before .before .before .before .before .before .before .before .before .load-from in
     let y = c .before .before .before .before .before .before .before .before .before .before .before .before .before .load-from2 in
-    let p = c .before .before .before .before .press in
+    let p = c .before .before .before .before .press-owned in
     c .line-of .ensures
     ∙ pressed-line (o .lent .result) (within o) (a .budget) _ _ (x .last .1 .1 .0) (x .ensures) (c .before .before .before .before .before .before .before .before .before .before .before .before .before .before .before .before .l .given .1) (y .last .1 .1 .0) (y .ensures) (c .before .before .before .before .before .before .before .before .before .before .r .given .1) (x .kept .1 .1 .0) (y .kept .1 .1 .0) (c .before .before .before .before .before .fresh .result) (c .before .before .before .before .before .fresh .ensures) (p .result) _ _ _ (p .ensures)
     ∙ for-all-words o
@@ -128,13 +128,13 @@ judge-with-spec =
     enum-known-number-2
     enum-known-r
     array-borrow-prefix-left-words-2
-    slice-aggregate-press
+    slice-aggregate-press-owned
     array-borrow-prefix-right-words-2
-    slice-aggregate-press-2
+    slice-aggregate-press-owned-2
     array-borrow-prefix-scratch
-    slice-aggregate-press-3
+    slice-aggregate-press-owned-3
     fresh-requires
-    press-requires
+    press-owned-requires
     line-of-requires
     returns
     returns-2

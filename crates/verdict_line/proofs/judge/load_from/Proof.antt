@@ -3,9 +3,9 @@ use mathlib.Core.Path.{_≡_, sym, _∙_, ap}
 use lib.ListN.{length}
 use lib.Seq.{length-take-le, take-at}
 use Rattle.tables.specs.Load.{load}
-use Rattle.verdict_line.specs.Decode.{wordsFrom}
+use Rattle.text.specs.Decode.{wordsFrom}
 use Rattle.verdict_line.specs.Parse.{wordsOfTable}
-use Rattle.verdict_line.proofs.Storing.{front-fits, front-length}
+use Rattle.text.proofs.Storing.{front-fits, front-length}
 use borrow.Author.Needs.{needs}
 use Rattle.verdict_line.proofs.judge.load_from.Statement.{statement}
 use Rattle.verdict_line.proofs.judge.load_from.Tie as tie

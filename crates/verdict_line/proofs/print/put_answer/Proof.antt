@@ -1,7 +1,7 @@
 -- `put_answer` meets its contract: five pieces one after the other.
 use native.Mathlib.Omega.{arith}
 use lib.ListN.{length-append}
-use Rattle.verdict_line.proofs.Storing.{put-append}
+use Rattle.text.proofs.Storing.{put-append}
 use borrow.Author.Needs.{needs}
 use Rattle.verdict_line.proofs.print.put_answer.Statement.{statement}
 use Rattle.verdict_line.proofs.print.put_answer.Tie as tie

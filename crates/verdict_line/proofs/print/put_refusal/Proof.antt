@@ -1,7 +1,7 @@
 -- `put_refusal` meets its contract: three pieces one after the other.
 use native.Mathlib.Omega.{arith}
 use lib.ListN.{length-append}
-use Rattle.verdict_line.proofs.Storing.{put-append}
+use Rattle.text.proofs.Storing.{put-append}
 use borrow.Author.Needs.{needs}
 use Rattle.verdict_line.proofs.print.put_refusal.Statement.{statement}
 use Rattle.verdict_line.proofs.print.put_refusal.Tie as tie

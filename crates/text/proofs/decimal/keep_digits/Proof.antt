@@ -1,0 +1,79 @@
+-- `keep_digits` meets its contract. The invariant: the digits still to come and those kept are the number's.
+use Prim.Native.Nat.{_≤_}
+use mathlib.Core.Path.{_≡_, _∙_}
+use mathlib.Core.List.{_++_, append-nil}
+use native.Mathlib.Omega.{arith}
+use lib.ListN.{length, drop, length-set, drop-of-length-le}
+use Rattle.text.specs.Decimal.{digitsMost, digits, decimal}
+use Rattle.text.proofs.DecimalLaws.{digits-next, digits-last}
+use Rattle.text.proofs.decimal.keep_digits.Statement.{statement}
+use Rattle.text.proofs.decimal.keep_digits.Tie as tie
+
+abbrev Inv-loop : tie.InvT-loop
+Inv-loop n kept₀ i₀ rest₀ kept i rest = (i ≤ digitsMost) × (length kept ≡ digitsMost) × (digits i rest ++ drop i kept ≡ decimal n)
+
+abbrev μ-loop : tie.MeasureT-loop
+μ-loop n kept₀ i₀ rest₀ kept i rest = i
+
+loop-holds : tie.Need-loop-holds Inv-loop μ-loop
+unfolding decimal
+loop-holds c =
+    (omega arith, c .pre, rw (drop-of-length-le (c .args .kept .now) {i = digitsMost} (omega arith), append-nil))
+
+sub-i : tie.Need-sub-i Inv-loop μ-loop
+sub-i c = omega arith
+
+cast-kept : tie.Need-cast-kept Inv-loop μ-loop
+cast-kept c = omega arith
+
+add-kept : tie.Need-add-kept Inv-loop μ-loop
+add-kept c = omega arith
+
+slice-write-kept : tie.Need-slice-write-kept Inv-loop μ-loop
+slice-write-kept c = omega arith
+
+same-length : tie.Need-same-length Inv-loop μ-loop
+same-length c = simp length-set (omega arith)
+
+returns : tie.Need-returns Inv-loop μ-loop
+returns c =
+    let l = c .before .before .loop in
+    let e = digits-last (l .kept) (l .i) (l .rest) (omega arith) (omega arith) (omega arith) in
+    record { inside = simp length-set (omega arith); digits = e ∙ l .inv .2 }
+
+loop-less : tie.Need-loop-less Inv-loop μ-loop
+loop-less c = omega arith
+
+loop-again : tie.Need-loop-again Inv-loop μ-loop
+loop-again c =
+    let l = c .before .before .loop in
+    let e = digits-next (l .kept) (l .i) (l .rest) (omega arith) (omega arith) (omega arith) in
+    (omega arith, simp length-set (l .inv .1), e ∙ l .inv .2)
+
+same-length-2 : tie.Need-same-length-2 Inv-loop μ-loop
+same-length-2 c = omega arith
+
+returns-2 : tie.Need-returns-2 Inv-loop μ-loop
+unfolding digits
+returns-2 c =
+    let l = c .before .loop in
+    let e : l .i ≡ 0 = omega arith in
+    record { inside = omega arith; digits = rw e (rw e at (l .inv .2)) }
+
+pub keep-digits-spec : {M : Type 1} → statement M
+keep-digits-spec =
+    tie.close
+    (tie.spec
+    Inv-loop
+    μ-loop
+    loop-holds
+    sub-i
+    cast-kept
+    add-kept
+    slice-write-kept
+    same-length
+    returns
+    loop-less
+    loop-again
+    same-length-2
+    returns-2)

@@ -1,0 +1,38 @@
+// Little-endian 32-bit words in bytes.
+ghost use mathlib.Core.Path.{_≡_};
+ghost use Prim.Native.Nat.{_≤_, _+_, _*_};
+ghost use lib.ListN.{length};
+ghost use Rattle.text.specs.Bytes.{wordBytes, wordOf};
+ghost use Rattle.text.specs.Decode.{wordAt, wordsFrom};
+
+pub const WORD_BYTES: usize = 4;
+
+// A byte stands for so many of the byte before it.
+const BYTE_BASE: u32 = 256;
+
+// The word of four bytes, the lowest first.
+fn word_of(a: u8, b: u8, c: u8, d: u8) -> u32
+    ensures { λ r. ⌜ r ≡ wordOf a b c d ⌝ }
+{
+    a as u32 + BYTE_BASE * (b as u32 + BYTE_BASE * (c as u32 + BYTE_BASE * d as u32))
+}
+
+// The word whose first byte stands at a position.
+pub fn word_at(bytes: &[u8], at: usize) -> u32
+    requires { ⌜ at + wordBytes ≤ length (now bytes) ⌝ }
+    ensures { λ r. ⌜ r ≡ wordAt (now (bytes .entry)) at ⌝ }
+{
+    word_of(bytes[at], bytes[at + 1], bytes[at + 2], bytes[at + 3])
+}
+
+// Fills a slice with the words from a position on.
+pub fn words_from(bytes: &[u8], at: usize, words: &mut [u32])
+    requires { ⌜ at + wordBytes * length (now words) ≤ length (now bytes) ⌝ }
+    ensures { λ r. ⌜ now (words .exit) ≡ wordsFrom (length (now (words .entry))) (now (bytes .entry)) at ⌝ }
+{
+    let mut i = 0;
+    while i < words.len() {
+        words[i] = word_at(bytes, at + WORD_BYTES * i);
+        i += 1;
+    }
+}
