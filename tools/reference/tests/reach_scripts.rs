@@ -92,6 +92,38 @@ fn broken_inputs_are_broken_in_every_way() {
     );
 }
 
+#[test]
+fn mixed_inputs_come_to_every_end() {
+    let census = on_large_stack(|| {
+        let mut census = Census::default();
+        for case in 0..1_500 {
+            let bytes = inputs::aimed(&mut Random::new(45, case), Aim::Mixed);
+            census.meet(match outcome(&bytes) {
+                Outcome::Answered(answer) => answer.verdict.to_string(),
+                Outcome::Refused(refusal) => refusal.to_string(),
+                Outcome::Input => "Input".to_string(),
+            });
+        }
+        census
+    });
+    let ends = [
+        "Same",
+        "Different",
+        "Budget",
+        "Full",
+        "1",
+        "2",
+        "3",
+        "4",
+        "5",
+        "6",
+        "7",
+        "8",
+        "9",
+    ];
+    census.assert_reaches(15, &ends);
+}
+
 /// Each call of a script with the machine before it, and what is left unread.
 fn each_call(input: &[u8], mut look: impl FnMut(&Machine, &Operation, Event)) -> Option<usize> {
     let (mut machine, mut script) = replay::start(input)?;
