@@ -121,7 +121,7 @@ fn mixed_inputs_come_to_every_end() {
         "8",
         "9",
     ];
-    census.assert_reaches(15, &ends);
+    census.assert_reaches(4, &ends);
 }
 
 /// Each call of a script with the machine before it, and what is left unread.
