@@ -329,7 +329,9 @@ fn look_at_end(end: Rounds, capacity: usize, budget: u32, census: &mut Census) {
             census.meet_if(unspent == moving, "Full, the budget just enough");
             census.meet_if(unspent > moving, "Full, budget left");
             census.meet_if(over == 1, "Full by one word");
-            census.meet_if(over == 1 && longest > size + 2, "Full by one of many words");
+            // The shortest workspace that holds the first terms would be Full by more.
+            let at_once = end.spent == 0 && size >= 16 && longest > size + 1;
+            census.meet_if(over == 1 && at_once, "Full by one of many words");
             census.meet_if(over > 1, "Full by more");
             census.meet_if(size == capacity, "Full with a term of C words");
             census.meet_if(capacity == 16, "Full in 16 words");
