@@ -95,6 +95,7 @@ fn look_at_case(scrutinee: &Term, branches: &[Branch], place: Place, census: &mu
     census.meet(format!("case of {} branches", few_or_many(branches.len())));
     for branch in branches {
         census.meet_if(branch.tag == 255, "branch of tag 255");
+        census.meet_if((16..255).contains(&branch.tag), "branch of a tag above 15");
         let bound = few_or_many(branch.bound as usize);
         census.meet(format!("branch that binds {bound}"));
     }
@@ -155,7 +156,7 @@ fn look_at(term: &Term, census: &mut Census) {
 }
 
 /// Sizes, nodes, variables and places of redexes.
-const SHAPES: [&str; 58] = [
+const SHAPES: [&str; 59] = [
     "one word",
     "few words",
     "some words",
@@ -187,6 +188,7 @@ const SHAPES: [&str; 58] = [
     "case of several branches",
     "case of fifteen branches",
     "branch of tag 255",
+    "branch of a tag above 15",
     "branch that binds no",
     "branch that binds one",
     "branch that binds several",
