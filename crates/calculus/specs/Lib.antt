@@ -23,3 +23,4 @@ pub mod Rounds
 pub mod Bench
 pub mod Boundaries
 pub mod Theorems
+pub mod Instances

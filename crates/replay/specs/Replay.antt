@@ -80,8 +80,8 @@ writtenLine w = tableLine writeName (w .answer) (w .table)
 
 -- Verdict, spent and lengths, or the refusal's number.
 abbrev pub answerLine : press.Answer → List ℕ
-answerLine (press.refused n) = line refusedName (n ∷ [])
-answerLine (press.shown v s l r) = lineBytes (shows v s l r)
+answerLine (press.refused why) = line refusedName (number why ∷ [])
+answerLine (press.shown a) = lineBytes (shows (a .verdict) (a .spent) (a .left) (a .right))
 
 -- The side that a part belongs to, and its words. What is refused is the empty start of the left workspace.
 abbrev pub sideNumber : shown.Side → ℕ

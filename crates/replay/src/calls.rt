@@ -61,21 +61,19 @@ fn put_answer(answer: Answer, out: &mut [u8]) -> usize
     ensures { λ r. ⌜ Printed (now (out .entry)) (answerLine (answerOf answer)) (now (out .exit)) r ⌝ }
 {
     match answer {
-        Answer::Refused(number) => put_numbered(b"refused", number as usize, &[], out),
-        Answer::Shown {
-            verdict,
-            spent,
-            left,
-            right,
-        } => put_line(
-            Line::Shows {
-                verdict,
-                spent,
-                left,
-                right,
-            },
-            out,
-        ),
+        Answer::Refused(refusal) => put_numbered(b"refused", refusal.number() as usize, &[], out),
+        Answer::Shown(shown) => {
+            let verdict = shown.verdict;
+            put_line(
+                Line::Shows {
+                    verdict,
+                    spent: shown.spent,
+                    left: shown.left,
+                    right: shown.right,
+                },
+                out,
+            )
+        }
     }
 }
 

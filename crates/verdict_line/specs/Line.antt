@@ -20,8 +20,8 @@ pub data Line : Type 0 where
   shows : Verdict → (spent left right : ℕ) → Line
 
 abbrev pub lineOf : press.Answer → Line
-lineOf (press.refused n) = refuses n
-lineOf (press.shown v s l r) = shows v s l r
+lineOf (press.refused why) = refuses (number why)
+lineOf (press.shown a) = shows (a .verdict) (a .spent) (a .left) (a .right)
 
 -- The press on what loading left, with workspaces and scratch of C words.
 abbrev pub pressed : (C budget : ℕ) → (left right : List ℕ) → (leftLength rightLength : ℕ) → Line

@@ -15,6 +15,9 @@ enum-known-answer c = search needs
 slice-aggregate-put-numbered : tie.Need-slice-aggregate-put-numbered
 slice-aggregate-put-numbered c = search needs
 
+number-requires : tie.Need-number-requires
+number-requires c κs = search needs
+
 cast-put-numbered : tie.Need-cast-put-numbered
 cast-put-numbered c = search needs
 
@@ -28,13 +31,14 @@ enum-known-answer-2 : tie.Need-enum-known-answer-2
 enum-known-answer-2 c = search needs
 
 put-line-requires : tie.Need-put-line-requires
-put-line-requires c κs = let a = c .before .before .answer2 .given .0 in le-trans (line-length (shows (verdictOf (a .0)) (a .1 .0) (a .1 .1 .0) (a .1 .1 .1 .0))) (omega arith)
+put-line-requires c κs = let a = c .before .before .answer2 .given .0 .0 in le-trans (line-length (shows (verdictOf (a .verdict)) (a .spent) (a .left) (a .right))) (omega arith)
 
 same-length : tie.Need-same-length
 same-length c = search needs
 
 returns : tie.Need-returns
-returns c = rw (c .before .before .before .before .before .before .before .answer .given .1) (c .before .before .put-numbered .ensures)
+returns c =
+    rw (c .before .before .before .before .before .before .before .before .answer .given .1, ← c .before .before .before .before .before .number .ensures) (c .before .before .put-numbered .ensures)
 
 same-length-2 : tie.Need-same-length-2
 same-length-2 c = search needs
@@ -44,7 +48,7 @@ returns-2 c =
     let a = c .before .before .before .before .before .answer2 .given in
     rw (a .1)
     (printed (c .before .before .put-line .ensures)
-    (le-trans (line-length (shows (verdictOf (a .0 .0)) (a .0 .1 .0) (a .0 .1 .1 .0) (a .0 .1 .1 .1 .0))) (omega (arith, c .before .before .before .before .before .before .before .before .pre))))
+    (le-trans (line-length (shows (verdictOf (a .0 .0 .verdict)) (a .0 .0 .spent) (a .0 .0 .left) (a .0 .0 .right))) (omega (arith, c .before .before .before .before .before .before .before .before .pre))))
 
 pub put-answer-spec : {M : Type 1} → statement M
 put-answer-spec =
@@ -52,6 +56,7 @@ put-answer-spec =
     (tie.spec
     enum-known-answer
     slice-aggregate-put-numbered
+    number-requires
     cast-put-numbered
     slice-aggregate-put-numbered-2
     put-numbered-requires
