@@ -3,6 +3,7 @@ pub mod MeaningLaws
 pub mod Extent
 pub mod ChainMeaning
 pub mod Exists
+pub mod Held
 pub mod Accepts
 pub mod SoundMeans
 pub mod Hanging
