@@ -22,6 +22,8 @@ pub mod Substitution
 pub mod Parallel
 pub mod ChurchRosser
 pub mod ResumeLaws
+pub mod RoundsLaws
+pub mod UnlimitedLaws
 pub mod Focus
 pub mod SizeLaws
 pub mod WorkspaceLaws

@@ -15,7 +15,7 @@ use Rattle.calculus.specs.Step.{firstStep}
 use Rattle.calculus.specs.Leftmost.{leftmost}
 use Rattle.calculus.specs.Equality.{tree, from-trees, equal?}
 use Rattle.calculus.specs.Workspace.{termAt}
-use Rattle.calculus.specs.Rounds.{Same, Budget, Full, round, rounds}
+use Rattle.calculus.specs.Rounds.{Same, Budget, Full, same, roundsIn, roundsBy}
 use Rattle.calculus.specs.Refusal.{WrongWorkspace, OverBudget, NoTerm}
 use Rattle.calculus.specs.Bench.{shown as showing}
 use Rattle.rounds.specs.Press.{refused, shown, Memory, Call, press}
@@ -70,7 +70,7 @@ pub record Computed : Type 0 where
   pub ended : Ended start calls (showing Same 1 1 1)
 
 pub computed : Computed
-unfolding press termAt read items item takeTerm takeTerms takeBranches readLam readApp readCon readCase readBranch oneTerm accepted? everywhere? tagged? both₃ isTag? startsAbove? rising? Dec·and decLe decLt bind orElse firstStep leftmost tree from-trees equal? ℕ-discrete round rounds
+unfolding press termAt read items item takeTerm takeTerms takeBranches readLam readApp readCon readCase readBranch oneTerm accepted? everywhere? tagged? both₃ isTag? startsAbove? rising? Dec·and decLe decLt bind orElse firstStep leftmost tree from-trees equal? ℕ-discrete same roundsIn roundsBy
 computed = record { answers = refl; after-two-calls = refl; after-all = refl; budget-in-one-go = refl; spent = refl; ended = refl }
 
 pub left-holds : Holds 16 leftTerm (start .left)

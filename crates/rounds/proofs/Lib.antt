@@ -1,5 +1,4 @@
 pub mod CompareLaws
-pub mod Walk
 pub mod Verdicts
 pub mod Workspaces
 pub mod PressLaws

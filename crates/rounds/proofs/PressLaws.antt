@@ -13,10 +13,10 @@ use Rattle.calculus.specs.Term.{Term}
 use Rattle.calculus.specs.Words.{words, size}
 use Rattle.calculus.specs.Workspace.{sized, padded}
 use Rattle.calculus.specs.Refusal.{Refusal, WrongWorkspace, OverBudget, NoTerm}
-use Rattle.calculus.specs.Rounds.{Outcome, Shown, rounds}
+use Rattle.calculus.specs.Rounds.{Outcome, Shown, same, rounds}
 use Rattle.rounds.specs.Press.{refused, shown, Memory, Call, Pressed, budgetLimit, totalLimit, affordable, refuse, conclude, pressTerms, press}
 use Rattle.rounds.specs.Claim.{Holds, Reply, refuses, spends, replyOf, Standing, replyTo, advance, LeavesBy}
-use Rattle.rounds.proofs.Walk.{Walk, walked, walk-fits}
+use Rattle.calculus.proofs.RoundsLaws.{Walk, walked, walk-fits}
 use Rattle.rounds.proofs.Verdicts.{walk-accepted}
 use Rattle.rounds.proofs.PressCode.{sized-scratch}
 use Rattle.rounds.proofs.Workspaces.{termAt-holds, holds-padded, holds-fits}
@@ -87,10 +87,10 @@ concluded C total o =
     }
 
 -- Workspaces that hold two terms hold, with zeros after them, those that a walk leads to.
-pub holds-walk : {C s : ℕ} {t u t′ u′ : Term} {ws vs : List ℕ} → Holds C t ws → Holds C u vs → Walk C s t u t′ u′
+pub holds-walk : {C s : ℕ} {t u t′ u′ : Term} {ws vs : List ℕ} → Holds C t ws → Holds C u vs → Walk same C s t u t′ u′
     → Holds C t′ (padded C (words t′)) × Holds C u′ (padded C (words u′))
 holds-walk h k w =
-    let (f, g) = walk-fits w in
+    let (f, g) = walk-fits same w in
     let (a, b) = walk-accepted w in
     (holds-padded (a (h .accepted)) (f (holds-fits h)), holds-padded (b (k .accepted)) (g (holds-fits k)))
 
@@ -101,7 +101,7 @@ stands-first m h k = record { total-is = refl; left-holds = h; right-holds = k }
 pub stands-concluded : {C : ℕ} {t u : Term} {ws vs : List ℕ} → Holds C t ws → Holds C u vs → (B total : ℕ)
     → (let o = rounds C B t u in Stands C (record { total = total; left = o .left; right = o .right }) (concluded C total o))
 stands-concluded {C} {t} {u} h k B total =
-    let (l, r) = holds-walk h k (walked C B t u .walk) in
+    let (l, r) = holds-walk h k (walked same C B t u) in
     record { total-is = refl; left-holds = l; right-holds = r }
 
 -- After the press the memory is where `advance` says.
@@ -110,7 +110,7 @@ pub stands-next : {C : ℕ} {s : Standing} {m : Memory} {c : Call} {r : Reply} {
 stands-next h (turned-down why) = h
 stands-next {C} {s} {c = c} h (made e) =
     let o = rounds C (c .budget) (s .left) (s .right) in
-    let (l, r) = holds-walk (h .left-holds) (h .right-holds) (walked C (c .budget) (s .left) (s .right) .walk) in
+    let (l, r) = holds-walk (h .left-holds) (h .right-holds) (walked same C (c .budget) (s .left) (s .right)) in
     record { total-is = ap (λ n. n + o .spent) (h .total-is); left-holds = l; right-holds = r }
 
 pub refused≢shown : {why : Refusal} {a : Shown} → refused why ≡ shown a → ⊥

@@ -5,11 +5,11 @@ use mathlib.Core.List.{List, [], _∷_, map}
 use mathlib.Core.Option.{Option, some, none, Option·none-ne-some}
 use native.Mathlib.Nat.{zero-add, add-zero, add-assoc}
 use Rattle.calculus.specs.Term.{Term}
-use Rattle.calculus.specs.Rounds.{Shown, shows, withSpent, after, rounds}
+use Rattle.calculus.specs.Rounds.{Shown, shows, withSpent, same, after, rounds}
 use Rattle.rounds.specs.Press.{Answer, Memory, Call, Pressed, press}
 use Rattle.rounds.specs.Runs.{final, history, spentOf, spentIn, noteBudget, budgetFrom, budgetInOneGo, noteShown, shownFrom, lastShown}
 use Rattle.rounds.specs.Claim.{Holds, Reply, replyOf, Standing, repliesTo, EachLeaves, InOneGo}
-use Rattle.rounds.proofs.Walk.{Walk, here, walked, rounds-walk}
+use Rattle.calculus.proofs.RoundsLaws.{Walk, here, walked, rounds-walk}
 use Rattle.rounds.proofs.PressLaws.{Stands, Answered, turned-down, made, answered, concluded, stands-first, stands-concluded, stands-next, reply-answered, leaves-answered}
 
 pub replies-answered : {C : ℕ} {s : Standing} {m : Memory} → Stands C s m → (calls : List Call)
@@ -35,7 +35,7 @@ pub data Reached (C : ℕ) (t u : Term) (start : Memory) (spent : ℕ) (found : 
 -- The walk from the first terms to those where the memory stands.
 record At (C : ℕ) (t u : Term) (start : Memory) (spent : ℕ) (m : Memory) : Type 0 where
   standing : Standing
-  walk : Walk C spent t u (standing .left) (standing .right)
+  walk : Walk same C spent t u (standing .left) (standing .right)
   total-is : m .session .total ≡ start .session .total + spent
   stands : Stands C standing m
 
@@ -54,7 +54,7 @@ module _ {C : ℕ} {t u : Term} {start : Memory} (left-holds : Holds C t (start 
       rw (e, q)
       (record {
         standing = record { total = start .session .total + o .spent; left = o .left; right = o .right };
-        walk = walked C B t u .walk;
+        walk = walked same C B t u;
         total-is = refl;
         stands = stands-concluded left-holds right-holds B (start .session .total + o .spent);
       })
@@ -67,7 +67,7 @@ module _ {C : ℕ} {t u : Term} {start : Memory} (left-holds : Holds C t (start 
   reached-answered {spent} {m = m} {c = c} h a (made e) =
       let s = a .standing in
       let o = rounds C (c .budget) (s .left) (s .right) in
-      let whole : after spent o ≡ rounds C (spent + c .budget) t u = sym (rounds-walk (a .walk) (c .budget)) in
+      let whole : after spent o ≡ rounds C (spent + c .budget) t u = sym (rounds-walk same (a .walk) (c .budget)) in
       ran (spent + c .budget) (o .spent)
       (ap (λ o′. o′ .spent) whole)
       refl

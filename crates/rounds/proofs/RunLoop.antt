@@ -2,30 +2,30 @@
 -- end in what all the rounds end in.
 use Prim.Native.Nat.{ℕ, _+_, _-_, _≤_}
 use mathlib.Core.Path.{_≡_, refl, sym, _∙_, ap, subst, subst⁻¹}
-use mathlib.Core.Bool.{Bool, true, false, false≢true}
+use mathlib.Core.Bool.{Bool, true, false, cond, false≢true}
 use mathlib.Core.List.{List, _++_}
-use mathlib.Core.Option.{some}
+use mathlib.Core.Option.{some, none}
 use native.Mathlib.Omega.{arith}
 use lib.ListN.{length, take, drop}
 use Rattle.calculus.specs.Term.{Term}
 use Rattle.calculus.specs.Words.{words, size}
 use Rattle.calculus.specs.Accepted.{Accepted}
 use Rattle.calculus.specs.Workspace.{termAt}
-use Rattle.calculus.specs.Rounds.{Verdict, shows, ended, after, rounds}
+use Rattle.calculus.specs.Rounds.{Verdict, Same, shows, Round, ends, goes, round, next, nextLength, same, roundBy, ended, after, rounds}
 use Rattle.calculus.proofs.WordLaws.{accepted-packable}
 use Rattle.calculus.proofs.ReadLaws.{words-injective}
 use Rattle.calculus.proofs.AcceptedLaws.{leftmost-keeps-accepted}
 use Rattle.step.specs.Held.{held, Holds}
 use Rattle.rounds.specs.Compare.{sameWords}
-use Rattle.rounds.specs.Turn.{next, Plan, planned, Turn, ends, goes, turn}
+use Rattle.rounds.specs.Turn.{Plan, lengthIn, planned}
 use Rattle.rounds.specs.Advance.{Advances, Advanced}
 use Rattle.rounds.specs.Run.{Runs, Ran}
 use Rattle.rounds.specs.Claim as claim
 use Rattle.rounds.proofs.CompareLaws.{sameWords-refl, sameWords-equal}
 use Rattle.step.proofs.HeldLaws.{held-term, holds-term, Start, termAt-start}
 use Rattle.rounds.proofs.Workspaces.{termAt-size}
-use Rattle.rounds.proofs.Walk.{here, further, walk-fits, after-zero, after-after}
-use Rattle.rounds.proofs.TurnLaws.{Planned, is-normal, contracts, planned-tells, next-is, next-normal, Turned, going, turned, rounds-stopped, rounds-going}
+use Rattle.calculus.proofs.RoundsLaws.{Goes, goes-on, goes-wider, here, further, rounds-end, rounds-go, Moves, walk-fits, after-zero, after-after}
+use Rattle.rounds.proofs.TurnLaws.{Planned, is-normal, contracts, planned-tells, next-is, next-normal, planned-length, asked}
 
 begins : {ws : List ℕ} {n : ℕ} → Holds ws n → Start ws n (held ws n)
 begins {ws} {n} h = termAt-start ws n (held ws n) (h .term)
@@ -95,19 +95,20 @@ module _ {left₀ right₀ scratch₀ : List ℕ} {l r budget : ℕ} {left right
   right-fits = begins (g .runs .right-holds) .within
 
   -- The judged round, from what the three calls before it tell.
-  pub judged : {equal : Bool} {a b : Plan} {t : Turn} → equal ≡ sameWords (take m left) (take n right) → a ≡ planned (held left m)
-      → b ≡ planned (held right n) → t ≡ turn equal a b (budget - spent) (length left)
-      → Turned (length left₀) (budget - spent) (held left m) (held right n) t
+  pub judged : {equal : Bool} {a b : Plan} {x : Round} → equal ≡ sameWords (take m left) (take n right) → a ≡ planned (held left m)
+      → b ≡ planned (held right n) → x ≡ round (cond equal (some Same) none) (length left) (budget - spent) (lengthIn a) (lengthIn b)
+      → roundBy same (length left₀) (budget - spent) (held left m) (held right n) ≡ x
   judged {equal} e p q j =
       let lh = g .runs .left-holds in
       let rh = g .runs .right-holds in
-      rw (j, p, q, g .left-kept) (turned equal (λ s. same-terms lh rh (sym e ∙ s)) (λ s. other-terms lh rh (sym e ∙ s)))
+      let first = asked equal (λ s. same-terms lh rh (sym e ∙ s)) (λ s. other-terms lh rh (sym e ∙ s)) in
+      sym (rw (j, p, q, g .left-kept, first, planned-length (held left m), planned-length (held right n)))
 
-  pub ran : {v : Verdict} → Turned (length left₀) (budget - spent) (held left m) (held right n) (ends v)
+  pub ran : {v : Verdict} → roundBy same (length left₀) (budget - spent) (held left m) (held right n) ≡ ends v
       → Ran budget (rounds (length left₀) budget (held left₀ l) (held right₀ r)) (record { verdict = v; spent = spent; left = m; right = n }) left right scratch
   ran {v} t =
       let o : after spent (ended v (held left m) (held right n)) ≡ rounds (length left₀) budget (held left₀ l) (held right₀ r)
-      = sym (ap (after spent) (rounds-stopped t)) ∙ g .rest in
+      = sym (ap (after spent) (rounds-end same (length left₀) (budget - spent) (held left m) (held right n) t)) ∙ g .rest in
       let ls = begins (g .runs .left-holds) in
       let rs = begins (g .runs .right-holds) in
       let all : spent ≡ spent + 0 = omega arith in
@@ -123,23 +124,22 @@ module _ {left₀ right₀ scratch₀ : List ℕ} {l r budget : ℕ} {left right
         scratch-length = g .runs .scratch-length;
       }
 
-  module _ {p : ℕ} (t : Turned (length left₀) (budget - spent) (held left m) (held right n) (goes p)) where
+  module _ {p : ℕ} (t : roundBy same (length left₀) (budget - spent) (held left m) (held right n) ≡ goes p) where
+    goes-here : Goes (same (held left m) (held right n)) (length left₀) (budget - spent) (nextLength (held left m)) (nextLength (held right n)) p
+    goes-here = goes-on (same (held left m) (held right n)) (length left₀) (budget - spent) (nextLength (held left m)) (nextLength (held right n)) t
+
+    moves : Moves same (length left₀) p (held left m) (held right n)
+    moves = goes-wider {C′ = length left₀} {rest′ = p} (omega arith) (omega arith) goes-here
+
     pub spends : (1 ≤ p) × (p ≤ budget - spent)
-    spends = by t
-      where
-        by : Turned (length left₀) (budget - spent) (held left m) (held right n) (goes p) → (1 ≤ p) × (p ≤ budget - spent)
-        by (going q pos h mv) = (pos, h)
+    spends = (goes-here .moves, goes-here .covered)
 
     both-fit : (size (next (held left m)) ≤ length left) × (size (next (held right n)) ≤ length left)
-    both-fit = by t
-      where
-        by : Turned (length left₀) (budget - spent) (held left m) (held right n) (goes p)
-            → (size (next (held left m)) ≤ length left) × (size (next (held right n)) ≤ length left)
-        by (going q pos h mv) =
-            let f = walk-fits (further mv here) in
-            let lm : size (held left m) ≤ length left₀ = omega (arith, begins (g .runs .left-holds) .long, left-fits, g .left-kept) in
-            let rn : size (held right n) ≤ length left₀ = omega (arith, begins (g .runs .right-holds) .long, right-fits, g .left-kept, g .runs .right-length) in
-            (omega (arith, f .0 lm, g .left-kept), omega (arith, f .1 rn, g .left-kept))
+    both-fit =
+        let f = walk-fits same (further moves here) in
+        let lm : size (held left m) ≤ length left₀ = omega (arith, begins (g .runs .left-holds) .long, left-fits, g .left-kept) in
+        let rn : size (held right n) ≤ length left₀ = omega (arith, begins (g .runs .right-holds) .long, right-fits, g .left-kept, g .runs .right-length) in
+        (omega (arith, f .0 lm, g .left-kept), omega (arith, f .1 rn, g .left-kept))
 
     pub left-advances : {a : Plan} → a ≡ planned (held left m) → Advances left m a scratch
     left-advances e =
@@ -162,6 +162,7 @@ module _ {left₀ right₀ scratch₀ : List ℕ} {l r budget : ℕ} {left right
         going-on =
             let (pos, h) = spends in
             let less : budget - (spent + p) ≡ budget - spent - p = omega arith in
+            let whole : p + (budget - spent - p) ≡ budget - spent = omega arith in
             record {
               runs =
                   record {
@@ -177,6 +178,7 @@ module _ {left₀ right₀ scratch₀ : List ℕ} {l r budget : ℕ} {left right
               rest =
                   rw (advanced-held (g .runs .left-holds) lk la, advanced-held (g .runs .right-holds) rk ra, less)
                   (sym (after-after spent p (rounds (length left₀) (budget - spent - p) (next (held left m)) (next (held right n))))
-                  ∙ ap (after spent) (sym (rounds-going t))
+                  ∙ ap (after spent) (sym (rounds-go same moves (budget - spent - p)))
+                  ∙ ap (λ b. after spent (rounds (length left₀) b (held left m) (held right n))) whole
                   ∙ g .rest);
             }

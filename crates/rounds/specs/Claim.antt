@@ -15,7 +15,7 @@ use Rattle.calculus.specs.Workspace.{sized}
 use Rattle.calculus.specs.Accepted.{Accepted}
 use Rattle.calculus.specs.Refusal.{Refusal, WrongWorkspace, OverBudget, NoTerm}
 use Rattle.calculus.specs.Conversion.{Reaches, Joined}
-use Rattle.calculus.specs.Rounds.{Verdict, Same, Different, Outcome, Shown, shows, withSpent, rounds}
+use Rattle.calculus.specs.Rounds.{Same, Different, Decided, Outcome, Shown, shows, withSpent, rounds}
 use Rattle.rounds.specs.Press.{Answer, refused, shown, Memory, Call, Pressed, budgetLimit, totalLimit, press}
 use Rattle.rounds.specs.Runs.{final, history, spentIn, budgetInOneGo, lastShown}
 
@@ -25,10 +25,6 @@ pub record Holds (C : ℕ) (t : Term) (ws : List ℕ) : Type 0 where
   pub others : List ℕ
   pub contents : ws ≡ words t ++ others
   pub length-is : length ws ≡ C
-
--- A verdict that stays.
-abbrev pub Decided : Verdict → Type 0
-Decided v = (v ≡ Same) ⊎ (v ≡ Different)
 
 -- What is said of a press from the calls alone: why it is refused, or what it spends.
 pub data Reply : Type 0 where

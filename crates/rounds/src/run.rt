@@ -6,7 +6,7 @@ ghost use Rattle.rounds.specs.Types.{shownOf};
 ghost use Rattle.step.specs.Held.{held};
 use crate::Shown;
 use crate::compare::same;
-use crate::turn::Turn;
+use crate::turn::Round;
 use crate::turn::advance;
 use crate::turn::judge;
 use crate::turn::plan_for;
@@ -31,7 +31,7 @@ pub fn run(
         let a = plan_for(left, m);
         let b = plan_for(right, n);
         match judge(equal, a, b, budget - spent, left.len()) {
-            Turn::Ends(verdict) => {
+            Round::Ends(verdict) => {
                 return Shown {
                     verdict,
                     spent,
@@ -39,7 +39,7 @@ pub fn run(
                     right: n,
                 };
             }
-            Turn::Goes(count) => {
+            Round::Goes(count) => {
                 m = advance(left, m, a, scratch);
                 n = advance(right, n, b, scratch);
                 spent += count;
