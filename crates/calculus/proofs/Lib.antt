@@ -21,6 +21,7 @@ pub mod Rewriting
 pub mod Substitution
 pub mod Parallel
 pub mod ChurchRosser
+pub mod Instances
 pub mod ResumeLaws
 pub mod RoundsLaws
 pub mod UnlimitedLaws

@@ -24,3 +24,4 @@ pub mod Unlimited
 pub mod Bench
 pub mod Boundaries
 pub mod Theorems
+pub mod Instances

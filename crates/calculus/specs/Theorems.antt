@@ -1,8 +1,8 @@
 -- What is owed about the calculus: each statement is a type with a name, and its proof in proofs/ has that type.
 use Prim.Native.Nat.{ℕ, _+_, _≤_, _<_}
 use mathlib.Core.Path.{_≡_}
-use mathlib.Core.List.{List, _++_}
-use mathlib.Core.Logic.{_↔_}
+use mathlib.Core.List.{List, [], _∷_, _++_}
+use mathlib.Core.Logic.{_↔_, _⊎_}
 use mathlib.Core.Option.{some, none, bind}
 use lib.IntN.{ℤ, pos, _+ℤ_}
 use lib.ListN.{getD}
@@ -13,7 +13,7 @@ use Rattle.calculus.specs.Accepted.{Accepted, indexLimit}
 use Rattle.calculus.specs.Read.{read}
 use Rattle.calculus.specs.Shift.{move}
 use Rattle.calculus.specs.Contraction.{Rule, by-beta, by-case, Contracts}
-use Rattle.calculus.specs.Conversion.{Reaches, Joined, Normal}
+use Rattle.calculus.specs.Conversion.{Contracts₁, Reaches, Joined, Normal}
 use Rattle.calculus.specs.Leftmost.{Contracts-leftmost, leftmost}
 use Rattle.calculus.specs.Position.{contractAt, redexAt}
 
@@ -91,9 +91,31 @@ abbrev pub Contraction-keeps-accepted : Type 0
 Contraction-keeps-accepted =
     (d p : ℕ) (r : Rule) (t u : Term) → Contracts term p r t u → Accepted d t → Accepted d u
 
--- Two terms joined by a chain have a common reduct.
+-- The terms after the first, each one step of the relation from the term before it, and b last.
+abbrev pub Along : {A : Type 0} → (A → A → Type 0) → A → List A → A → Type 0
+Along R a [] b = a ≡ b
+Along R a (c ∷ cs) b = R a c × Along R c cs b
+
+-- Reaching is a finite list of contractions one after the other; a chain is a finite list of terms with any two neighbours one contraction apart,
+-- in either direction.
+abbrev pub Reaches-exact : Type 0
+Reaches-exact = (t u : Term) → Reaches t u ↔ ((vs : List Term) × Along Contracts₁ t vs u)
+
+abbrev pub Joined-exact : Type 0
+Joined-exact = (t u : Term) → Joined t u ↔ ((vs : List Term) × Along (λ v w. Contracts₁ v w ⊎ Contracts₁ w v) t vs u)
+
+abbrev pub Contraction-reaches : Type 0
+Contraction-reaches = (t u : Term) → Contracts₁ t u → Reaches t u
+
+abbrev pub Reaching-joins : Type 0
+Reaching-joins = (t u : Term) → Reaches t u → Joined t u
+
+abbrev pub Normal-reaches-itself : Type 0
+Normal-reaches-itself = (t u : Term) → Normal t → Reaches t u → t ≡ u
+
+-- Two terms are joined by a chain exactly if they have a common reduct.
 abbrev pub Church-Rosser : Type 0
-Church-Rosser = (t u : Term) → Joined t u → (v : Term) × Reaches t v × Reaches u v
+Church-Rosser = (t u : Term) → Joined t u ↔ ((v : Term) × Reaches t v × Reaches u v)
 
 abbrev pub Joined-normal-equal : Type 0
 Joined-normal-equal = (t u : Term) → Joined t u → Normal t → Normal u → t ≡ u

@@ -119,7 +119,7 @@ fn lines(bench: &Bench, points: Vec<Point>) -> Result<Each<Vec<(f64, f64)>>, Str
     let mut lines: Each<Vec<(f64, f64)>> = Default::default();
     for point in points {
         eprintln!("{}", point.case.name);
-        let counts = bench.count(&point.case)?;
+        let counts = bench.marginal(&point.case)?;
         for (line, count) in lines.iter_mut().zip(counts) {
             let count = count.ok_or("the instructions cannot be counted")?;
             line.push((point.x as f64, count));

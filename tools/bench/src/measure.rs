@@ -60,9 +60,13 @@ impl Bench {
         })
     }
 
-    /// The instructions of each contraction, or of the press if there is none.
-    pub fn count(&self, case: &Case) -> Result<Each<Option<f64>>, String> {
-        Counted::new(case, &self.programs).map(|counted| self.instructions(&counted))
+    /// The instructions of each contraction, without what a press makes before the first.
+    pub fn marginal(&self, case: &Case) -> Result<Each<Option<f64>>, String> {
+        let counted = Counted {
+            without: input_file("counted-none", &case.input(0))?,
+            ..Counted::new(case, &self.programs)?
+        };
+        Ok(self.instructions(&counted))
     }
 
     fn instructions(&self, counted: &Counted) -> Each<Option<f64>> {
@@ -96,7 +100,8 @@ pub(crate) fn checked(program: &Path, input: &InputFile, line: &str) -> Result<f
 struct Counted {
     budget: u32,
     input: InputFile,
-    refused: InputFile,
+    /// The input of a run whose instructions are not counted.
+    without: InputFile,
     line: String,
 }
 
@@ -111,15 +116,15 @@ impl Counted {
         Ok(Counted {
             budget,
             input,
-            refused: input_file("counted-refused", &case.refused())?,
+            without: input_file("counted-refused", &case.refused())?,
             line,
         })
     }
 
     fn instructions(&self, program: &Path, counter: Counter) -> Option<f64> {
         let run = counter.count(program, &self.input)?;
-        let start = counter.count(program, &self.refused)?;
-        Some((run as f64 - start as f64) / f64::from(spent(&self.line).max(1)))
+        let without = counter.count(program, &self.without)?;
+        Some((run as f64 - without as f64) / f64::from(spent(&self.line).max(1)))
     }
 }
 

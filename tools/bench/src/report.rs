@@ -27,7 +27,11 @@ impl Report {
     pub fn markdown(&self, programs: &Programs) -> String {
         let mut parts = vec![self.introduction(), self.instructions()];
         parts.extend(self.plot.as_deref().map(growth));
-        parts.extend([self.times(), self.stack(), code(programs)]);
+        let mut rows = self.groups().into_iter().flat_map(|(_, rows)| rows);
+        if rows.any(|row| row.times.is_some()) {
+            parts.push(self.times());
+        }
+        parts.extend([self.stack(), code(programs)]);
         parts.join("\n")
     }
 
@@ -90,7 +94,7 @@ impl Report {
              programs by turns. Each is a median of nine, with its standard error, and each of these \
              the shortest of several runs.\n"
             .to_string();
-        text += &format!("{NONE}: the press does not stand out, or was not timed.\n");
+        text += &format!("{NONE}: the press does not stand out.\n");
         for (title, rows) in self.groups() {
             let unit = match rows.iter().all(|row| spent(&row.line) > 0) {
                 true => "contractions a second",
@@ -173,7 +177,7 @@ fn table<'a>(
 fn growth(plot: &str) -> String {
     format!(
         "## Growth\n\n\
-         Instructions of a contraction. Left: loops that touch more and more words, those of the redex \
+         Instructions of a contraction, those of a press less those of a press with budget 0. Left: loops that touch more and more words, those of the redex \
          and of what replaces it. Right: Loop, which touches 18 words, under more and more \
          abstractions.\n\n\
          ![Instructions of a contraction by the words touched and by the words not touched]({plot})\n"
@@ -212,4 +216,81 @@ fn compiler() -> String {
     let output = Command::new("rustc").arg("--version").output();
     let version = output.map(|output| String::from_utf8_lossy(&output.stdout).trim().to_string());
     version.unwrap_or("rustc".to_string())
+}
+
+#[cfg(test)]
+mod tests {
+    use super::*;
+    use crate::stack::Stack;
+    use crate::times::Estimate;
+
+    fn row(name: &str, line: &str, press: Option<Estimate>) -> Row {
+        let times = |run| Times { run, press };
+        Row {
+            name: name.to_string(),
+            line: line.to_string(),
+            times: Some([times(1e-3), times(2e-3), times(3e-3)]),
+            instructions: [Some(1234.5), Some(7.4), None],
+            stack: Some(Stack {
+                press: 10_240,
+                show: 1_100,
+            }),
+            limit_kib: [Some(136), Some(56), None],
+        }
+    }
+
+    fn report(rows: [Row; 3]) -> String {
+        let [contracting, untouched, normal] = rows.map(|row| vec![row]);
+        let report = Report {
+            contracting,
+            untouched,
+            normal,
+            counter: Some(Counter::Callgrind),
+            plot: Some("growth.svg".to_string()),
+        };
+        report.markdown(&NAMES.map(|name| format!("/no/{name}").into()))
+    }
+
+    fn press(value: f64) -> Option<Estimate> {
+        Some(Estimate {
+            value,
+            error: value / 50.0,
+        })
+    }
+
+    #[test]
+    fn every_measurement_has_its_cell() {
+        let page = report([
+            row("Loop", "Budget 100 9 1", press(1e-4)),
+            row("Long", "Same 2 1 1", None),
+            row("Normal", "Different 0 1 1", press(2e-6)),
+        ]);
+        for line in [
+            "| Loop | `Budget 100 9 1` | 1,235 | 7 | n/a |",
+            "| Loop | 1,000,000 ±2% | 1,000,000 ±2% | 1,000,000 ±2% |",
+            "| Loop | 10.0 | 1.1 | 136 | 56 | n/a |",
+            "| Long | n/a | n/a | n/a |",
+            "| Normal | 2.00 ±2% | 2.00 ±2% | 2.00 ±2% |",
+            "### Contractions: contractions a second",
+            "### Normal terms, no contraction: microseconds a press",
+            "| `flat` | n/a |",
+        ] {
+            assert!(
+                page.lines().any(|printed| printed == line),
+                "{line}\n{page}"
+            );
+        }
+        assert!(page.contains("](growth.svg)"));
+    }
+
+    #[test]
+    fn no_times_are_printed_where_none_were_taken() {
+        let untimed = |name| Row {
+            times: None,
+            ..row(name, "Same 2 1 1", None)
+        };
+        let page = report(["One", "Two", "Three"].map(untimed));
+        assert!(!page.contains("## Times"));
+        assert!(page.contains("## Machine stack"));
+    }
 }

@@ -1,8 +1,7 @@
 // Calls of the unit by C's calling convention, for a program that measures the machine stack that each takes.
-use rounds::Answer;
 use rounds::Session;
 
-// What a press by a fresh session spends, or the number of its refusal.
+// What a press by a fresh session spends.
 #[no_mangle]
 pub extern "C" fn probe_press(
     left: &mut [u32],
@@ -21,16 +20,8 @@ pub extern "C" fn probe_press(
         budget,
         Session::fresh(),
     );
-    let answer = p.answer;
-    match answer {
-        Answer::Refused(number) => number,
-        Answer::Shown {
-            verdict,
-            spent,
-            left,
-            right,
-        } => spent,
-    }
+    let session = p.session;
+    session.total
 }
 
 // The length of what is shown.

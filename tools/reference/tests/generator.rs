@@ -10,10 +10,9 @@ use reference::generate::tables::{term_table, Order};
 use reference::generate::terms::{replace, subterms, term, Style};
 use reference::generate::{families, scripts};
 use reference::on_large_stack;
-use reference::press::{rounds, Side, Verdict};
+use reference::press::rounds;
 use reference::random::Random;
-use reference::refusal::Refusal;
-use reference::replay::{self, Event, Machine, Operation};
+use reference::replay::VERDICTS;
 use reference::table::write;
 use reference::term::{abs, app, con, var, Term};
 use reference::verdict::{outcome, Outcome};
@@ -171,7 +170,7 @@ fn trials_reach_every_verdict_after_some_rounds() {
         let mut counts = [0; 4];
         for case in 0..1_200 {
             let random = &mut Random::new(11, case);
-            let wish = random.pick(&replay::VERDICTS);
+            let wish = random.pick(&VERDICTS);
             let trial = trial(random, Some(wish));
             let end = rounds(trial.left, trial.right, trial.capacity, trial.budget);
             if end.verdict == wish && end.spent > 2 {
@@ -180,127 +179,8 @@ fn trials_reach_every_verdict_after_some_rounds() {
         }
         counts
     });
-    for (verdict, count) in replay::VERDICTS.iter().zip(counts) {
+    for (verdict, count) in VERDICTS.iter().zip(counts) {
         assert!(count >= 20, "{verdict} {count}");
-    }
-}
-
-/// Fine points of the calls that the scripts have to come by.
-#[derive(Default, Debug)]
-struct Points {
-    tail_zeroed: usize,
-    tail_zeroed_without_a_round: usize,
-    tail_kept_by_a_refusal: usize,
-    refused_by_the_total: usize,
-    refused_with_budget_0: usize,
-    sum_past_32_bits: usize,
-    only_the_right_is_no_term: usize,
-    only_the_scratch_is_wrong: usize,
-    equal_lengths_shown: usize,
-    pressed_on_after_an_end: usize,
-    pressed_on_after_budget: usize,
-    loaded_over_other_words: usize,
-}
-
-impl Points {
-    fn all(&self) -> [(&str, usize); 12] {
-        [
-            ("tail_zeroed", self.tail_zeroed),
-            ("without a round", self.tail_zeroed_without_a_round),
-            ("tail kept", self.tail_kept_by_a_refusal),
-            ("total", self.refused_by_the_total),
-            ("budget 0", self.refused_with_budget_0),
-            ("32 bits", self.sum_past_32_bits),
-            ("right", self.only_the_right_is_no_term),
-            ("scratch", self.only_the_scratch_is_wrong),
-            ("equal", self.equal_lengths_shown),
-            ("after an end", self.pressed_on_after_an_end),
-            ("after Budget", self.pressed_on_after_budget),
-            ("loaded over", self.loaded_over_other_words),
-        ]
-    }
-
-    fn load(&mut self, before: &Machine, operation: &Operation, event: Event) {
-        if let (Operation::Load { side, .. }, Event::Load(Ok(length))) = (operation, event) {
-            let words = match side {
-                Side::Left => &before.left,
-                Side::Right => &before.right,
-            };
-            let over = words[length as usize..].iter().any(|word| *word != 0);
-            self.loaded_over_other_words += usize::from(over);
-        }
-    }
-
-    fn press(&mut self, before: &Machine, operation: &Operation, event: Event) {
-        let (
-            Operation::Press {
-                lengths,
-                budget,
-                scratch,
-            },
-            Event::Press(answer),
-        ) = (operation, event)
-        else {
-            return;
-        };
-        let tail = before
-            .left
-            .iter()
-            .skip(lengths.0 as usize)
-            .any(|word| *word != 0);
-        let sum = u64::from(before.session.total) + u64::from(*budget);
-        match answer {
-            Ok(answer) => {
-                self.tail_zeroed += usize::from(tail);
-                self.tail_zeroed_without_a_round += usize::from(tail && answer.spent == 0);
-                let pressed = before.session.total > 0;
-                let ended = matches!(before.session.verdict, Verdict::Same | Verdict::Different);
-                self.pressed_on_after_an_end += usize::from(pressed && ended);
-                self.pressed_on_after_budget += usize::from(pressed && !ended && answer.spent > 0);
-            }
-            Err(Refusal::Budget) => {
-                self.tail_kept_by_a_refusal += usize::from(tail);
-                self.refused_by_the_total += usize::from(*budget <= 1_000_000);
-                self.refused_with_budget_0 += usize::from(*budget == 0);
-                self.sum_past_32_bits += usize::from(sum > u64::from(u32::MAX));
-            }
-            Err(Refusal::NotATerm) => {
-                let left = before.left.get(..lengths.0 as usize).and_then(read);
-                self.only_the_right_is_no_term += usize::from(left.is_some());
-            }
-            Err(_) => {
-                let right = before.left.len() == before.right.len();
-                let fits = (16..=2_048).contains(&before.left.len());
-                let other = *scratch != before.left.len();
-                self.only_the_scratch_is_wrong += usize::from(right && fits && other);
-            }
-        }
-    }
-}
-
-#[test]
-fn scripts_come_by_the_fine_points() {
-    let points = on_large_stack(|| {
-        let mut points = Points::default();
-        for case in 0..600 {
-            let input = scripts::script(9, case);
-            let Some((mut machine, mut script)) = replay::start(&input) else {
-                continue;
-            };
-            while let Some(operation) = script.operation() {
-                let before = machine.clone();
-                let event = machine.apply(&operation, &mut String::new());
-                points.load(&before, &operation, event);
-                points.press(&before, &operation, event);
-                if let (Operation::Show { lengths }, Event::Show(Some(_))) = (&operation, event) {
-                    points.equal_lengths_shown += usize::from(lengths.0 == lengths.1);
-                }
-            }
-        }
-        points
-    });
-    for (point, times) in points.all() {
-        assert!(times >= 5, "{point}: {times} of {points:?}");
     }
 }
 

@@ -139,10 +139,11 @@ fn look_at(term: &Term, census: &mut Census) {
                 _ => census.meet("application"),
             },
             Term::Con { tag, args } => {
-                census.meet(format!(
-                    "constructor of {} arguments",
-                    few_or_many(args.len())
-                ));
+                let name = match place.within {
+                    "a subject" => "subject",
+                    _ => "constructor",
+                };
+                census.meet(format!("{name} of {} arguments", few_or_many(args.len())));
                 census.meet_if(*tag == 255, "constructor of tag 255");
             }
             Term::Case {
@@ -188,6 +189,10 @@ fn pairs_reach_every_shape() {
             "constructor of one arguments",
             "constructor of several arguments",
             "constructor of fifteen arguments",
+            "subject of no arguments",
+            "subject of one arguments",
+            "subject of several arguments",
+            "subject of fifteen arguments",
             "constructor of tag 255",
             "case of no branches",
             "case of one branches",
@@ -417,50 +422,85 @@ fn inputs_reach_the_limits_of_a_press() {
     );
 }
 
+/// The way in which a deep term goes on, by its outermost level.
+fn way(term: &Term) -> &'static str {
+    match term {
+        Term::Abs(_) => "abstractions",
+        Term::Con { args, .. } if args.len() == 1 => "constructors",
+        Term::Con { .. } => "last arguments",
+        Term::Case { branches, .. } if branches.is_empty() => "subjects",
+        Term::Case { .. } => "branches",
+        Term::App(function, _) if function.size() > 1 => "functions",
+        _ => "arguments",
+    }
+}
+
+/// The innermost variable and the binders around it.
+fn innermost(term: &Term, functions: bool, binders: u32) -> (u32, u32) {
+    match term {
+        Term::Var(index) => (*index, binders),
+        Term::Abs(body) => innermost(body, functions, binders + 1),
+        Term::Con { args, .. } => innermost(&args[args.len() - 1], functions, binders),
+        Term::Case {
+            scrutinee,
+            branches,
+        } => match branches.first() {
+            Some(branch) => innermost(&branch.body, functions, binders + branch.bound),
+            None => innermost(scrutinee, functions, binders),
+        },
+        // The identity is applied to the innermost variable.
+        Term::App(function, argument) => match function.as_ref() {
+            Term::Abs(body) if **body == Term::Var(0) => innermost(argument, functions, binders),
+            _ if functions => innermost(function, functions, binders),
+            _ => innermost(argument, functions, binders),
+        },
+    }
+}
+
 #[test]
 fn deep_terms_go_every_way() {
     let census = on_large_stack(|| {
         let mut census = Census::default();
-        for case in 0..300 {
+        for case in 0..400 {
             let random = &mut Random::new(35, case);
             let size = random.between(100, 2_048);
             let term = families::deep(random, size);
-            let parts = all_parts(&term);
-            let (last, place) = parts[parts.len() - 1];
-            let deepest = parts
-                .iter()
-                .map(|(_, place)| place.depth)
-                .max()
-                .unwrap_or(0);
-            let within = parts[parts.len() / 2].1.within;
-            census.meet(format!("within {within}"));
-            census.meet_if(3 * deepest + 20 < size, "shallow");
-            census.meet(match step(&term) {
-                Some(_) => "a redex inside",
-                None => "normal",
+            let way = way(&term);
+            let (index, binders) = innermost(&term, way == "functions", 0);
+            census.meet(match index.checked_sub(binders) {
+                Some(free) => format!("{way} around free number {free}"),
+                None => format!("{way} around a bound variable"),
             });
-            if let Term::Var(index) = last {
-                census.meet_if(*index == 0, "the last is the next binder's");
-                census.meet_if(*index == place.binders, "the last is free number 0");
-                census.meet_if(*index == place.binders + 255, "the last is free number 255");
-            }
+            census.meet(match step(&term) {
+                Some(_) => format!("{way} around a redex"),
+                None => format!("{way} without a redex"),
+            });
         }
         census
     });
-    census.assert_reaches(
-        10,
-        &[
-            "within an abstraction",
-            "within a constructor",
-            "within a subject",
-            "within a function",
-            "within an argument",
-            "within a branch",
-            "a redex inside",
-            "normal",
-            "the last is the next binder's",
-            "the last is free number 0",
-            "the last is free number 255",
-        ],
-    );
+    let mut features = Vec::new();
+    for way in [
+        "abstractions",
+        "constructors",
+        "last arguments",
+        "subjects",
+        "branches",
+        "functions",
+        "arguments",
+    ] {
+        let around = ["free number 0", "free number 255", "a redex"];
+        features.extend(around.map(|inside| format!("{way} around {inside}")));
+        features.push(format!("{way} without a redex"));
+    }
+    // Levels of two words may have an abstraction inside, which makes up the size.
+    let binding = [
+        "abstractions",
+        "branches",
+        "functions",
+        "arguments",
+        "last arguments",
+    ];
+    features.extend(binding.map(|way| format!("{way} around a bound variable")));
+    let features: Vec<&str> = features.iter().map(String::as_str).collect();
+    census.assert_reaches(3, &features);
 }

@@ -314,15 +314,36 @@ fn broken_scripts_are_broken_in_every_way() {
     );
 }
 
-/// Presses around the limits of budget and total.
+/// Presses around the limits of budget and total, and words behind a term.
 fn look_at_limits(before: &Machine, operation: &Operation, event: Event, census: &mut Census) {
-    let (Operation::Press { budget, .. }, Event::Press(answer)) = (operation, event) else {
+    if let (Operation::Load { side, .. }, Event::Load(Ok(length))) = (operation, event) {
+        let workspace = match side {
+            Side::Left => &before.left,
+            Side::Right => &before.right,
+        };
+        let over = workspace[length as usize..].iter().any(|word| *word != 0);
+        census.meet_if(over, "loaded over other words");
+    }
+    let (
+        Operation::Press {
+            budget, lengths, ..
+        },
+        Event::Press(answer),
+    ) = (operation, event)
+    else {
         return;
     };
+    let mut behind = before.left.iter().skip(lengths.0 as usize);
+    let tail = behind.any(|word| *word != 0);
     let total = u64::from(before.session.total);
     let sum = total + u64::from(*budget);
     match answer {
         Ok(answer) => {
+            census.meet_if(tail && answer.spent > 0, "a tail becomes zeros");
+            census.meet_if(
+                tail && answer.spent == 0,
+                "a tail becomes zeros without a round",
+            );
             census.meet_if(sum == 1_000_000_000, "sum at its limit");
             census.meet_if(*budget == 1_000_000, "budget at its limit");
             census.meet_if(*budget == 0, "budget 0");
@@ -335,6 +356,7 @@ fn look_at_limits(before: &Machine, operation: &Operation, event: Event, census:
             census.meet_if(answer.left as usize == before.left.len(), "left of C words");
         }
         Err(Refusal::Budget) => {
+            census.meet_if(tail, "a tail kept by a refusal");
             census.meet_if(*budget == 1_000_001, "budget just above");
             census.meet_if(
                 *budget <= 1_000_000 && sum == 1_000_000_001,
@@ -362,6 +384,10 @@ fn scripts_reach_the_limits_of_a_press() {
     census.assert_reaches(
         8,
         &[
+            "loaded over other words",
+            "a tail becomes zeros",
+            "a tail becomes zeros without a round",
+            "a tail kept by a refusal",
             "sum at its limit",
             "budget at its limit",
             "budget 0",
