@@ -53,6 +53,10 @@ unfolding same
 asked {t} {u} true equals differs = sym (if-pos (equal? t u) (equals refl) _ _)
 asked {t} {u} false equals differs = sym (if-neg (equal? t u) (differs refl) _ _)
 
-pub few : (o : Option ℕ) → contractions o ≤ 1
-few none = omega arith
-few (some n) = omega arith
+-- A side makes one contraction at most.
+one-at-most : (o : Option ℕ) → contractions o ≤ 1
+one-at-most none = omega arith
+one-at-most (some n) = omega arith
+
+pub few : {n : ℕ} (p : Plan) → n ≡ contractions (lengthIn p) → n ≤ 1
+few p e = omega (arith, e, one-at-most (lengthIn p))
