@@ -11,14 +11,16 @@ pub mod FirstLaws
 pub mod PrefixFree
 pub mod Move
 pub mod Indices
+pub mod Site
 pub mod Earliest
 pub mod PositionLaws
 pub mod LeftmostLaws
-pub mod RedexWord
+pub mod Inversion
 pub mod Decidable
 pub mod AcceptedLaws
 pub mod Rewriting
 pub mod Substitution
+pub mod Members
 pub mod Parallel
 pub mod ChurchRosser
 pub mod Instances

@@ -5,9 +5,11 @@ ghost use Rattle.rounds.specs.Run.{Runs, Ran};
 ghost use Rattle.rounds.specs.Types.{shownOf};
 ghost use Rattle.step.specs.Held.{held};
 use crate::Shown;
-use crate::compare::same;
+use crate::compare::agreeing;
 use crate::turn::Round;
+use crate::turn::Side;
 use crate::turn::advance;
+use crate::turn::agreed;
 use crate::turn::judge;
 use crate::turn::plan_for;
 
@@ -23,25 +25,28 @@ pub fn run(
     requires { ⌜ Runs (now left) (now right) (now scratch) l r ⌝ }
     ensures { λ o. ⌜ Ran budget (rounds (length (now (left .entry))) budget (held (now (left .entry)) l) (held (now (right .entry)) r)) (shownOf o) (now (left .exit)) (now (right .exit)) (now (scratch .exit)) ⌝ }
 {
-    let mut m = l;
-    let mut n = r;
+    let mut a = Side { length: l, from: 0 };
+    let mut b = Side { length: r, from: 0 };
+    let mut agree: usize = 0;
     let mut spent: u32 = 0;
     loop {
-        let equal = same(left, m, right, n);
-        let a = plan_for(left, m);
-        let b = plan_for(right, n);
-        match judge(equal, a, b, budget - spent, left.len()) {
+        let shared = agreeing(left, a.length, right, b.length, agree);
+        let p = plan_for(left, a);
+        let q = plan_for(right, b);
+        // No term's words are the start of another's, so a term whose words are all shared is the other one.
+        match judge(shared == a.length, p, q, budget - spent, left.len()) {
             Round::Ends(verdict) => {
                 return Shown {
                     verdict,
                     spent,
-                    left: m,
-                    right: n,
+                    left: a.length,
+                    right: b.length,
                 };
             }
             Round::Goes(count) => {
-                m = advance(left, m, a, scratch);
-                n = advance(right, n, b, scratch);
+                agree = agreed(left, a.length, shared, p, q);
+                a = advance(left, a, p, scratch);
+                b = advance(right, b, q, scratch);
                 spent += count;
             }
         }
