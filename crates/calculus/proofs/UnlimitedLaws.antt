@@ -68,15 +68,15 @@ module _ (early : Question) where
       by none n e = decided (eqb (both t u) 0) (ltb rest (both t u)) (ltb C (longest (nextLength t) (nextLength u))) refl n e
 
   -- Rounds that decide are rounds without limit.
-  abbrev Found : (C rest : ℕ) (t u : Term) → Outcome → Type 0
-  Found C rest t u o = Decided (o .verdict) → (m : ℕ) × (m ≤ C) × (o .spent ≤ rest) × Unlimited early t u m o
+  abbrev Decides : (C rest : ℕ) (t u : Term) → Outcome → Type 0
+  Decides C rest t u o = Decided (o .verdict) → (m : ℕ) × (m ≤ C) × (o .spent ≤ rest) × Unlimited early t u m o
 
   found-resume : {C rest : ℕ} {t u : Term} {f : ℕ → Outcome} (x : Round) → roundBy early C rest t u ≡ x
-      → ((p : ℕ) → Goes (early t u) C rest (nextLength t) (nextLength u) p → Found C rest t u (f p)) → Found C rest t u (resume t u f x)
+      → ((p : ℕ) → Goes (early t u) C rest (nextLength t) (nextLength u) p → Decides C rest t u (f p)) → Decides C rest t u (resume t u f x)
   found-resume {C} {rest} {t} {u} (ends v) e h = λ d. (0, omega arith, omega arith, ends-unlimited C rest t u e d)
   found-resume {C} {rest} {t} {u} (goes p) e h = h p (goes-on (early t u) C rest (nextLength t) (nextLength u) e)
 
-  found : (n C rest : ℕ) (t u : Term) → Found C rest t u (roundsIn early n C rest t u)
+  found : (n C rest : ℕ) (t u : Term) → Decides C rest t u (roundsIn early n C rest t u)
   unfolding roundsIn
   found zero C rest t u = found-resume (roundBy early C rest t u) refl (λ p g d. absurd (budget-undecided d))
   found (suc n) C rest t u =
@@ -89,7 +89,7 @@ module _ (early : Question) where
             (onward (g .undecided) (omega (arith, g .moves, g .made)) w),
       ))
 
-  pub rounds-found : (C B : ℕ) (t u : Term) → Found C B t u (roundsBy early C B t u)
+  pub rounds-found : (C B : ℕ) (t u : Term) → Decides C B t u (roundsBy early C B t u)
   unfolding roundsBy
   rounds-found C B t u = found B C B t u
 
@@ -176,36 +176,36 @@ pub verdicts-exact : Verdicts-exact
 verdicts-exact early s C B t u d = let (m, h, w) = unlimited-found early t u C B d in unlimited-verdict s w
 
 -- The question of a press: Same where the terms are equal, and nothing else.
-pub data Asked (t u : Term) : Option Verdict → Type 0 where
-  equal : t ≡ u → Asked t u (some Same)
-  unequal : (t ≡ u → ⊥) → Asked t u none
+pub data Compared (t u : Term) : Option Verdict → Type 0 where
+  equal : t ≡ u → Compared t u (some Same)
+  unequal : (t ≡ u → ⊥) → Compared t u none
 
-pub asked : (t u : Term) → Asked t u (same t u)
+pub compared : (t u : Term) → Compared t u (same t u)
 unfolding same
-asked t u = by (equal? t u)
+compared t u = by (equal? t u)
   where
-    by : (d : Dec (t ≡ u)) → Asked t u (ite d (some Same) none)
+    by : (d : Dec (t ≡ u)) → Compared t u (ite d (some Same) none)
     by (yes e) = equal e
     by (no n) = unequal n
 
-same-answers : {t u : Term} {a : Option Verdict} → Asked t u a → (v : Verdict) → a ≡ some v → Exact v t u
+same-answers : {t u : Term} {a : Option Verdict} → Compared t u a → (v : Verdict) → a ≡ some v → Exact v t u
 same-answers {t} {u} (equal e) v h = subst (λ v. Exact v t u) (Option·some-injective Same v h) (subst (Joined t) e alone)
 same-answers (unequal n) v h = absurd (Option·none-ne-some v h)
 
-same-finds : {t u : Term} {a : Option Verdict} → Asked t u a → a ≡ none → t ≡ u → ⊥
+same-finds : {t u : Term} {a : Option Verdict} → Compared t u a → a ≡ none → t ≡ u → ⊥
 same-finds (equal e) h = absurd (Option·none-ne-some Same (sym h))
 same-finds (unequal n) h = n
 
 pub same-sound : Same-sound
-same-sound = record { answers = λ t u. same-answers (asked t u); finds = λ t u. same-finds (asked t u) }
+same-sound = record { answers = λ t u. same-answers (compared t u); finds = λ t u. same-finds (compared t u) }
 
 -- A press's rounds that end in Same end in equal terms.
-same-equal : {t u : Term} {a : Option Verdict} → Asked t u a → {v : Verdict} → a ≡ some v → t ≡ u
+same-equal : {t u : Term} {a : Option Verdict} → Compared t u a → {v : Verdict} → a ≡ some v → t ≡ u
 same-equal (equal e) h = e
 same-equal (unequal n) h = absurd (Option·none-ne-some _ h)
 
 unlimited-same : {t u : Term} {m : ℕ} {o : Outcome} → Unlimited same t u m o → o .verdict ≡ Same → o .left ≡ o .right
-unlimited-same {t} {u} (at-once e) h = same-equal (asked t u) e
+unlimited-same {t} {u} (at-once e) h = same-equal (compared t u) e
 unlimited-same (both-normal e p q) h = absurd (let z : _≡_ {A = ℕ} 0 1 = cc in omega arith)
 unlimited-same (onward e g w) h = unlimited-same w h
 

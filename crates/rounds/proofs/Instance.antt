@@ -22,8 +22,8 @@ use Rattle.calculus.specs.Bench.{shown as showing}
 use Rattle.rounds.specs.Session.{fresh}
 use Rattle.rounds.specs.Limits.{Limits}
 use Rattle.rounds.specs.Press.{refused, shown, Memory, Call, press}
-use Rattle.rounds.specs.Runs.{final, history, spentIn, budgetInOneGo}
-use Rattle.rounds.specs.Claim.{Holds, Ended, inAll, SameTerms, Claim, together}
+use Rattle.rounds.specs.Presses.{final, history, spentIn, budgetInOneGo}
+use Rattle.rounds.specs.Claim.{Contains, Ended, inAll, SameTerms, Claim, together}
 use Rattle.rounds.proofs.Claim.{every-list-of-presses}
 use Rattle.rounds.proofs.TwoPresses.{two-presses}
 
@@ -144,10 +144,10 @@ apart =
       on-first-terms = refl;
     }
 
-pub left-holds : Holds 16 leftTerm (start .left)
+pub left-holds : Contains 16 leftTerm (start .left)
 left-holds = record { accepted = omega arith; others = replicate 9 7; contents = refl; length-is = refl }
 
-pub right-holds : Holds 16 rightTerm (start .right)
+pub right-holds : Contains 16 rightTerm (start .right)
 right-holds = record { accepted = omega arith; others = replicate 15 7; contents = refl; length-is = refl }
 
 pub claimed : Claim 16 leftTerm rightTerm start calls
@@ -176,10 +176,10 @@ limits =
       fresh-verdict = refl;
     }
 
-contracting-holds : (C : ℕ) → length (pair C .left) ≡ C → Holds C contracting (pair C .left)
+contracting-holds : (C : ℕ) → length (pair C .left) ≡ C → Contains C contracting (pair C .left)
 contracting-holds C e = record { accepted = omega arith; others = replicate (C - 4) 7; contents = refl; length-is = e }
 
-other-holds : (C : ℕ) → length (pair C .right) ≡ C → Holds C other (pair C .right)
+other-holds : (C : ℕ) → length (pair C .right) ≡ C → Contains C other (pair C .right)
 other-holds C e = record { accepted = omega arith; others = replicate (C - 1) 7; contents = refl; length-is = e }
 
 pub claimed-apart : Claim 16 contracting other (pair 16) in-two

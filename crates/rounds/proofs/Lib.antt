@@ -7,7 +7,7 @@ pub mod AgreeLaws
 pub mod RunCode
 pub mod RunLoop
 pub mod PressCode
-pub mod RunLaws
+pub mod PressesLaws
 pub mod Settled
 pub mod Claim
 pub mod TwoPresses

@@ -15,13 +15,13 @@ use Rattle.calculus.specs.Refusal.{Refusal}
 use Rattle.calculus.specs.Conversion.{Reaches, Joined}
 use Rattle.calculus.specs.Unlimited.{Exact}
 use Rattle.rounds.specs.Press.{refused, shown, Memory, Call, Pressed, press}
-use Rattle.rounds.specs.Runs.{final, history, spentIn}
-use Rattle.rounds.specs.Claim.{Holds, Reply, Standing, Again, Ended, SameTerms}
+use Rattle.rounds.specs.Presses.{final, history, spentIn}
+use Rattle.rounds.specs.Claim.{Contains, Reply, Progress, Again, Ended, SameTerms}
 use Rattle.calculus.proofs.RoundsLaws.{walked}
 use Rattle.calculus.proofs.UnlimitedLaws.{rounds-stable, rounds-agree, rounds-again, rounds-same, verdicts-exact, same-sound}
 use Rattle.rounds.proofs.Verdicts.{reached}
 use Rattle.rounds.proofs.PressLaws.{Answered, turned-down, made, answered, concluded, stands-first, stands-concluded, refused≢shown, shown-injective}
-use Rattle.rounds.proofs.RunLaws.{Reached, untouched, ran, reached-by}
+use Rattle.rounds.proofs.PressesLaws.{Reached, untouched, ran, reached-by}
 
 -- What the last unrefused press showed, with what the list spent: rounds in one go, with some budget, show this and leave this memory.
 pub record Stopped (C : ℕ) (t u : Term) (start : Memory) (spent : ℕ) (m : Memory) (a : Shown) : Type 0 where
@@ -46,7 +46,7 @@ stopped {C} {t} {u} {spent = spent} {a = a} (ran B s e f p q) h =
     let shown-last : a ≡ withSpent s (shows (rounds C B t u)) = cc in
     record { budget = B; shown-is = ap₂ withSpent e shown-last; memory-is = q }
 
-pub stopped-by : {C : ℕ} {t u : Term} {start : Memory} → Holds C t (start .left) → Holds C u (start .right) → (calls : List Call) {a : Shown}
+pub stopped-by : {C : ℕ} {t u : Term} {start : Memory} → Contains C t (start .left) → Contains C u (start .right) → (calls : List Call) {a : Shown}
     → Ended start calls a → Stopped C t u start (spentIn (history start calls)) (final start calls) a
 stopped-by left-holds right-holds calls e = stopped (reached-by left-holds right-holds calls) e
 
@@ -64,7 +64,7 @@ idle-always {a} {m} h (c ∷ cs) =
     ((i .answer-is, subst (λ k. Again a (history k cs)) (sym (i .memory-is)) again), ap (λ k. final k cs) (i .memory-is) ∙ e)
 
 -- After Same or Different every press is idle.
-idle-settled : {C : ℕ} {s : Standing} {m : Memory} {v : Verdict} {c : Call} {r : Reply} {p : Pressed}
+idle-settled : {C : ℕ} {s : Progress} {m : Memory} {v : Verdict} {c : Call} {r : Reply} {p : Pressed}
     → ((B : ℕ) → rounds C B (s .left) (s .right) ≡ ended v (s .left) (s .right))
     → m ≡ concluded C (s .total) (ended v (s .left) (s .right)) → Answered C s m c r p → Idle (shows (ended v (s .left) (s .right))) m p
 idle-settled h e (turned-down why) = record { answer-is = inl (why, refl); memory-is = refl }
@@ -73,7 +73,7 @@ idle-settled {C} {s} {m} {v} {c} h e (made q) =
     rw (h (c .budget))
     (record { answer-is = inr refl; memory-is = ap (λ n. concluded C n o) (add-zero _ ∙ ap (λ k. k .session .total) e) ∙ sym e })
 
-module _ {C : ℕ} {t u : Term} {start : Memory} (left-holds : Holds C t (start .left)) (right-holds : Holds C u (start .right)) where
+module _ {C : ℕ} {t u : Term} {start : Memory} (left-holds : Contains C t (start .left)) (right-holds : Contains C u (start .right)) where
   pub settled-stays : {spent : ℕ} {m : Memory} {a : Shown} → Stopped C t u start spent m a → Decided (a .verdict) → (later : List Call)
       → Again (withSpent 0 a) (history m later) × (final m later ≡ m)
   settled-stays h d later =
@@ -90,7 +90,7 @@ same-words C C′ ws = take-append-seam ws _ ∙ sym (take-append-seam ws _)
 
 module _ {C : ℕ} {t u : Term} {start : Memory} {spent : ℕ} {m : Memory} {a : Shown} (h : Stopped C t u start spent m a) where
   -- A press on the first terms in workspaces at least as long, with what was spent for a budget or more, gives the same.
-  pub settled-on-first-terms : Decided (a .verdict) → (C′ : ℕ) (m′ : Memory) (c : Call) → C ≤ C′ → Holds C′ t (m′ .left) → Holds C′ u (m′ .right)
+  pub settled-on-first-terms : Decided (a .verdict) → (C′ : ℕ) (m′ : Memory) (c : Call) → C ≤ C′ → Contains C′ t (m′ .left) → Contains C′ u (m′ .right)
       → spent ≤ c .budget → (a′ : Shown) → press m′ c .answer ≡ shown a′ → (a′ ≡ withSpent spent a) × SameTerms a (press m′ c .memory) m
   settled-on-first-terms d C′ m′ c wide lh rh enough a′ = by (answered (stands-first m′ lh rh) c)
     where

@@ -15,7 +15,7 @@ use Rattle.calculus.specs.Workspace.{sized, termAt}
 use Rattle.calculus.specs.Refusal.{WrongWorkspace, OverBudget}
 use Rattle.calculus.specs.Rounds.{Outcome, Shown, shows, withSpent, same, after, rounds}
 use Rattle.rounds.specs.Press.{shown, Memory, Call, budgetLimit, totalLimit, affordable, refuse, conclude, pressTerms, press}
-use Rattle.rounds.specs.Claim.{Holds, together, Two-presses}
+use Rattle.rounds.specs.Claim.{Contains, together, Two-presses}
 use Rattle.calculus.proofs.RoundsLaws.{walked, rounds-add}
 use Rattle.rounds.proofs.Workspaces.{termAt-size, holds-termAt}
 use Rattle.rounds.proofs.PressLaws.{refused≢shown, shown-injective, concluded, holds-walk}
@@ -68,10 +68,10 @@ module _ {m : Memory} {c : Call} {t u : Term} (h : Passed m c t u) (d : Call) wh
   abbrev next : Memory
   next = conclude C (m .session) o .memory
 
-  holds-next : Holds C (o .left) (next .left) × Holds C (o .right) (next .right)
+  holds-next : Contains C (o .left) (next .left) × Contains C (o .right) (next .right)
   holds-next =
       holds-walk (holds-termAt (m .left) (c .leftLength) (h .left-term))
-      (subst (λ n. Holds n u (m .right)) (sized-right _ _ _ (h .size-passes)) (holds-termAt (m .right) (c .rightLength) (h .right-term)))
+      (subst (λ n. Contains n u (m .right)) (sized-right _ _ _ (h .size-passes)) (holds-termAt (m .right) (c .rightLength) (h .right-term)))
       (walked same C (c .budget) t u)
 
   module _ {a′ : Shown} (left-is : d .leftLength ≡ size (o .left)) (right-is : d .rightLength ≡ size (o .right))

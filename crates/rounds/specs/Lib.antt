@@ -9,5 +9,5 @@ pub mod Press
 pub mod Show
 pub mod Limits
 pub mod Types
-pub mod Runs
+pub mod Presses
 pub mod Claim
