@@ -24,7 +24,8 @@ use Rattle.calculus.proofs.Focus.{Focus, focus}
 use Rattle.step.specs.Held.{held}
 use Rattle.step.proofs.HeldLaws.{Start, termAt-start}
 use Rattle.rounds.specs.Compare.{Agrees}
-use Rattle.rounds.specs.Turn.{next, Plan, contract}
+use Rattle.calculus.specs.Rounds.{next}
+use Rattle.rounds.specs.Turn.{Plan, contract}
 use Rattle.rounds.specs.Resume.{agreeBoth, agreeAfter, Agreeing}
 use Rattle.rounds.proofs.TurnLaws.{Planned, is-normal, contracts, planned-tells, next-is, next-normal}
 
