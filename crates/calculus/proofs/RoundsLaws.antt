@@ -6,11 +6,11 @@ use mathlib.Core.Option.{Option, some, none, Option·map, Option·getD}
 use native.Mathlib.Nat.{zero-add, add-assoc, le-trans}
 use native.Mathlib.Omega.{arith}
 use lib.Dec.{ltb, eqb}
-use borrow.Author.Tests.{ltb-false, le-ltb, eqb-false, ne-eqb, eqb-true, eq-eqb}
+use borrow.Author.Tests.{ltb-false, le-ltb, eqb-false, ne-eqb}
 use Rattle.calculus.specs.Term.{Term}
 use Rattle.calculus.specs.Words.{size}
 use Rattle.calculus.specs.Leftmost.{leftmost}
-use Rattle.calculus.specs.Rounds.{Verdict, Same, Different, Budget, Full, Outcome, contractions, longest, Round, ends, goes, round, next, nextLength, Question, roundBy, ended, after, roundsIn, roundsBy}
+use Rattle.calculus.specs.Rounds.{Verdict, Different, Budget, Full, Outcome, contractions, longest, Round, ends, goes, round, next, nextLength, Question, roundBy, ended, after, roundsIn, roundsBy}
 
 pub ends≢goes : {v : Verdict} {p : ℕ} → ends v ≡ goes p → ⊥
 ends≢goes e = let z : _≡_ {A = ℕ} 0 1 = cc in omega arith

@@ -1,12 +1,12 @@
 -- The rounds without limit are the limit of those with C and a budget, and their verdicts are exact.
 use Prim.Native.Nat.{ℕ, zero, suc, _+_, _-_, _≤_, max}
-use mathlib.Core.Path.{_≡_, refl, sym, _∙_, ap, ap₂, subst}
+use mathlib.Core.Path.{_≡_, refl, sym, _∙_, ap, subst}
 use mathlib.Core.Bool.{Bool, true, false, cond}
-use mathlib.Core.Logic.{_⊎_, inl, inr, ite}
+use mathlib.Core.Logic.{inl, inr, ite}
 use mathlib.Core.Option.{Option, some, none, Option·map, Option·getD, Option·some-injective, Option·none-ne-some}
 use native.Mathlib.Omega.{arith}
 use lib.Dec.{ltb, eqb}
-use borrow.Author.Tests.{eqb-true, eq-eqb}
+use borrow.Author.Tests.{eqb-true}
 use Rattle.calculus.specs.Term.{Term}
 use Rattle.calculus.specs.Words.{size}
 use Rattle.calculus.specs.Relation.{stop, step, alone}
@@ -18,7 +18,7 @@ use Rattle.calculus.specs.Unlimited.{Unlimited, at-once, both-normal, on
 use Rattle.calculus.proofs.Rewriting.{chain-of-star, chain-append, chain-reverse, reducts-joined}
 use Rattle.calculus.proofs.ChurchRosser.{joined-normal-equal}
 use Rattle.calculus.proofs.LeftmostLaws.{leftmost-none, leftmost-contracts}
-use Rattle.calculus.proofs.RoundsLaws.{Goes, goes-on, goes-wider, resume, rounds-end, rounds-go}
+use Rattle.calculus.proofs.RoundsLaws.{Goes, goes-on, resume, rounds-end, rounds-go}
 
 pub budget-undecided : Decided Budget → ⊥
 budget-undecided (inl e) = let z : _≡_ {A = ℕ} 0 1 = cc in omega arith

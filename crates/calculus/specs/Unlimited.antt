@@ -1,7 +1,6 @@
 -- The rounds without limit of budget or length, and what a verdict says of the two terms. What they are asked first is a parameter throughout.
 use Prim.Native.Nat.{ℕ, _+_, _≤_, max}
 use mathlib.Core.Path.{_≡_}
-use mathlib.Core.Logic.{_↔_}
 use mathlib.Core.Option.{some, none}
 use Rattle.calculus.specs.Term.{Term}
 use Rattle.calculus.specs.Leftmost.{leftmost}

@@ -1,5 +1,4 @@
 -- The edges of what a press passes, and a fresh session field by field.
-use Prim.Native.Nat.{ℕ}
 use mathlib.Core.Path.{_≡_}
 use mathlib.Core.Bool.{true, false}
 use mathlib.Core.List.{[], _∷_}
