@@ -8,5 +8,4 @@ pub mod Accepts
 pub mod SoundMeans
 pub mod Hanging
 pub mod ReadingLaws
-pub mod Turns
 pub mod ReadingMeaning
