@@ -17,7 +17,7 @@ use unit::repository;
 const USAGE: &str = "\
 usage: cargo bench --manifest-path tools/Cargo.toml --package bench [-- OPTION...]
   --program PATH  the unit's program: unless given, target/bin/verdict in the repository, built
-                  from its sources
+                  from its sources; the stack of the calls alone is measured only there
   --untimed       takes no times, which need an idle machine; all else is the same in every run
 Prints docs/BENCHMARKS.md and writes docs/growth.svg. A relative PATH starts from tools/bench.";
 
@@ -56,9 +56,12 @@ fn run() -> Result<String, String> {
     }
     let here = env::current_dir().map_err(|error| error.to_string())?;
     let root = repository::find(&here).ok_or("no repository is here or above")?;
-    let verdict = match program {
-        Some(path) => path,
-        None => repository::program(&root, &mut |line| eprintln!("bench: {line}"))?,
+    let (verdict, probe) = match program {
+        Some(path) => (path, None),
+        None => {
+            let program = repository::program(&root, &mut |line| eprintln!("bench: {line}"))?;
+            (program, Some(Probe::build(&root)?))
+        }
     };
     let flat = PathBuf::from(env!("CARGO_BIN_EXE_flat"));
     let graph = PathBuf::from(env!("CARGO_BIN_EXE_graph"));
@@ -66,7 +69,7 @@ fn run() -> Result<String, String> {
     let bench = Bench {
         counter: Counter::find(&flat, &empty),
         programs: [verdict, flat, graph],
-        probe: Some(Probe::build(&root)?),
+        probe,
         is_timed,
     };
     report(&bench, &root)
