@@ -1,4 +1,3 @@
--- What the program prints for a script.
+-- What a script asks, and what its operations do and tell.
 pub mod Script
-pub mod Text
 pub mod Replay
