@@ -2,23 +2,25 @@
 --
 -- A law here has the numbers of binders around the expression before (d) and after (d′) as variables, with inequalities between them, so that it
 -- applies again under a binder.
-use Prim.Native.Nat.{ℕ, zero, suc, _+_, _-_, _≤_}
+use Prim.Native.Nat.{ℕ, suc, _+_, _-_, _≤_}
 use mathlib.Core.Path.{_≡_, refl}
 use mathlib.Core.Bool.{Bool, true, false, cond}
 use mathlib.Core.Option.{Option, some, none}
 use lib.Dec.{ltb, eqb}
-use lib.IntN.{pos, negℤ}
+use lib.IntN.{pos}
 use borrow.Author.Tests.{ltb-true, eqb-true}
 use native.Mathlib.Omega.{arith}
-use Rattle.calculus.specs.Term.{Sort, Exp, var, lam, app, con, case, nil, cons, end, branch, Term, Terms, Branches, count}
-use Rattle.calculus.specs.Accepted.{freeLimit, Accepted}
-use Rattle.calculus.specs.Shift.{move, shift}
-use Rattle.calculus.specs.Substitution.{argument, replaced, subst}
+use Rattle.calculus.specs.Term.{Sort, Exp, nil, cons, end, branch, Term, Terms, Branches, count}
+use Rattle.calculus.specs.Accepted.{freeLimit, InScope, acceptance, Accepted}
+use Rattle.calculus.specs.Shift.{moving, shift}
+use Rattle.calculus.specs.Substitution.{argument, replaced, replacing, subst}
 use Rattle.calculus.specs.Contraction.{Rule, select, Contracts, at-beta, at-case, in-body, in-function, in-argument}
 use Rattle.calculus.specs.Contraction.{in-arguments, in-subject, in-branches, in-first, in-later, in-branch, in-later-branch}
 use Rattle.calculus.specs.Leftmost.{leftmost}
 use Rattle.calculus.specs.Theorems.{Contraction-keeps-accepted}
-use Rattle.calculus.proofs.Spine.{spine-shift, spine-subst, spine-contraction, count-kept, rising-kept}
+use Rattle.calculus.proofs.Move.{move-down}
+use Rattle.calculus.proofs.Spine.{spine-contraction, count-kept, rising-kept}
+use Rattle.calculus.proofs.EverywhereLaws.{Implies, everywhere-traverse}
 use Rattle.calculus.proofs.LeftmostLaws.{leftmost-contracts}
 
 -- What a test chooses has a property that both choices have; the first may use that the test holds.
@@ -26,28 +28,22 @@ chosen : {A : Type 0} (P : A → Type 0) (b : Bool) {x y : A} → (b ≡ true �
 chosen P true f k = f refl
 chosen P false f k = k
 
+-- Of other words than variables acceptance asks what stays: tags and counts.
+acceptance-kept : Implies acceptance acceptance
+acceptance-kept =
+    record {
+      constructors = λ t n h. h;
+      cases = λ bs cs same h. (count-kept bs cs same (h .0), rising-kept bs cs same (h .1));
+      branches = λ t n h. h;
+    }
+
 -- Shifted up by k, an expression is accepted under k binders more.
 pub accepted-shift : {s : Sort} (k cutoff d d′ : ℕ) → d + k ≤ d′ → (e : Exp s) → Accepted d e → Accepted d′ (shift (pos k) cutoff e)
-accepted-shift k cutoff d d′ le (var i) h =
-    chosen (λ j. j ≤ d′ + freeLimit) (ltb i cutoff) (λ q. omega arith) (omega arith)
-accepted-shift k cutoff d d′ le (lam b) h = accepted-shift k (suc cutoff) (suc d) (suc d′) (omega arith) b h
-accepted-shift k cutoff d d′ le (app f a) h = (accepted-shift k cutoff d d′ le f (h .0), accepted-shift k cutoff d d′ le a (h .1))
-accepted-shift k cutoff d d′ le (con t xs) h =
-    let same = spine-shift (pos k) cutoff xs in
-    (h .0, count-kept xs (shift (pos k) cutoff xs) same (h .1), accepted-shift k cutoff d d′ le xs (h .2))
-accepted-shift k cutoff d d′ le (case e bs) h =
-    let cs = shift (pos k) cutoff bs in
-    let same = spine-shift (pos k) cutoff bs in (
-      accepted-shift k cutoff d d′ le e (h .0),
-      count-kept bs cs same (h .1),
-      rising-kept bs cs same (h .2),
-      accepted-shift k cutoff d d′ le bs (h .3),
-    )
-accepted-shift k cutoff d d′ le nil h = tt
-accepted-shift k cutoff d d′ le (cons a xs) h = (accepted-shift k cutoff d d′ le a (h .0), accepted-shift k cutoff d d′ le xs (h .1))
-accepted-shift k cutoff d d′ le end h = tt
-accepted-shift k cutoff d d′ le (branch t n b bs) h =
-    (h .0, h .1, accepted-shift k (cutoff + n) (d + n) (d′ + n) (omega arith) b (h .2), accepted-shift k cutoff d d′ le bs (h .3))
+accepted-shift k cutoff d d′ le e h =
+    everywhere-traverse {R = λ d d′ c. d + k ≤ d′} (moving (pos k)) acceptance-kept
+    (record { abstractions = λ d d′ c r. omega arith; bodies = λ d d′ c n r. omega arith })
+    (λ d d′ c i r g. chosen (λ j. InScope d′ j) (ltb i c) (λ q. omega arith) (omega arith))
+    d d′ cutoff le e h
 
 -- The value, if there is one, has the property.
 abbrev pub Every : {A : Type 0} → (A → Type 0) → Option A → Type 0
@@ -59,10 +55,6 @@ accepted-argument d nil k h = tt
 accepted-argument d (cons a xs) k h =
     chosen (Every (Accepted d)) (eqb k (count xs)) (λ q. h .0) (accepted-argument d xs k (h .1))
 
-move-down : (n i : ℕ) → move (negℤ (pos n)) i ≡ i - n
-move-down zero i = omega arith
-move-down (suc n) i = refl
-
 -- With arguments that are accepted under d₀ binders put for its indices, an expression is accepted under as many binders fewer.
 module _ (xs : Terms) (d₀ : ℕ) (h₀ : Accepted d₀ xs) where
   accepted-replaced : (depth i d′ : ℕ) → depth + d₀ ≤ d′ → i ≤ d′ + count xs + freeLimit → (o : Option Term) → Every (Accepted d₀) o
@@ -72,62 +64,42 @@ module _ (xs : Terms) (d₀ : ℕ) (h₀ : Accepted d₀ xs) where
 
   pub accepted-subst : {s : Sort} (depth d d′ : ℕ) → depth + d₀ ≤ d′ → d ≤ d′ + count xs → (e : Exp s) → Accepted d e
       → Accepted d′ (subst xs depth e)
-  accepted-subst depth d d′ le fits (var i) h =
+  accepted-subst depth d d′ le fits e h =
+      everywhere-traverse {R = λ d d′ depth. (depth + d₀ ≤ d′) × (d ≤ d′ + count xs)} (replacing xs) acceptance-kept
+      (record { abstractions = λ d d′ c r. (omega arith, omega arith); bodies = λ d d′ c n r. (omega arith, omega arith) })
+      (λ d d′ depth i r g.
       chosen (Accepted d′) (ltb i depth) (λ q. omega (arith, ltb-true i depth q))
-      (accepted-replaced depth i d′ le (omega arith) (argument xs (i - depth)) (accepted-argument d₀ xs (i - depth) h₀))
-  accepted-subst depth d d′ le fits (lam b) h = accepted-subst (suc depth) (suc d) (suc d′) (omega arith) (omega arith) b h
-  accepted-subst depth d d′ le fits (app f a) h =
-      (accepted-subst depth d d′ le fits f (h .0), accepted-subst depth d d′ le fits a (h .1))
-  accepted-subst depth d d′ le fits (con t ys) h =
-      let same = spine-subst xs depth ys in
-      (h .0, count-kept ys (subst xs depth ys) same (h .1), accepted-subst depth d d′ le fits ys (h .2))
-  accepted-subst depth d d′ le fits (case e bs) h =
-      let cs = subst xs depth bs in
-      let same = spine-subst xs depth bs in (
-        accepted-subst depth d d′ le fits e (h .0),
-        count-kept bs cs same (h .1),
-        rising-kept bs cs same (h .2),
-        accepted-subst depth d d′ le fits bs (h .3),
-      )
-  accepted-subst depth d d′ le fits nil h = tt
-  accepted-subst depth d d′ le fits (cons a ys) h =
-      (accepted-subst depth d d′ le fits a (h .0), accepted-subst depth d d′ le fits ys (h .1))
-  accepted-subst depth d d′ le fits end h = tt
-  accepted-subst depth d d′ le fits (branch t n b bs) h = (
-    h .0,
-    h .1,
-    accepted-subst (depth + n) (d + n) (d′ + n) (omega arith) (omega arith) b (h .2),
-    accepted-subst depth d d′ le fits bs (h .3),
-  )
+      (accepted-replaced depth i d′ (r .0) (omega arith) (argument xs (i - depth)) (accepted-argument d₀ xs (i - depth) h₀)))
+      d d′ depth (le, fits) e h
 
 pub accepted-select : (d t : ℕ) (xs : Terms) → Accepted d xs → (bs : Branches) → Accepted d bs → Every (Accepted d) (select t xs bs)
 accepted-select d t xs k end h = tt
 accepted-select d t xs k (branch u n b bs) h =
-    chosen (Every (Accepted d)) (eqb t u) (λ q. body) (accepted-select d t xs k bs (h .3))
+    chosen (Every (Accepted d)) (eqb t u) (λ q. body) (accepted-select d t xs k bs (h .2))
   where
     body : Every (Accepted d) (cond (eqb (count xs) n) (some (subst xs 0 b)) none)
     body =
         chosen (Every (Accepted d)) (eqb (count xs) n)
-        (λ q. accepted-subst xs d k 0 (d + n) d (omega arith) (omega (arith, eqb-true (count xs) n q)) b (h .2))
+        (λ q. accepted-subst xs d k 0 (d + n) d (omega arith) (omega (arith, eqb-true (count xs) n q)) b (h .1))
         tt
 
 -- Contraction at every sort.
 pub contraction-accepted : {s : Sort} {p : ℕ} {r : Rule} {e g : Exp s} (d : ℕ) → Contracts s p r e g → Accepted d e → Accepted d g
 contraction-accepted d (at-beta {b = b} {a = a}) h =
     accepted-subst (cons a nil) d (h .1, tt) 0 (suc d) d (omega arith) (omega arith) b (h .0)
-contraction-accepted d (at-case {t = t} {xs = xs} {bs = bs} c) h = rw c at (accepted-select d t xs (h .0 .2) bs (h .3))
+contraction-accepted d (at-case {t = t} {xs = xs} {bs = bs} c) h = rw c at (accepted-select d t xs (h .1 .1) bs (h .2))
 contraction-accepted d (in-body c) h = contraction-accepted (suc d) c h
 contraction-accepted d (in-function c) h = (contraction-accepted d c (h .0), h .1)
 contraction-accepted d (in-argument c) h = (h .0, contraction-accepted d c (h .1))
 contraction-accepted d (in-arguments {xs = xs} {xs′ = xs′} c) h =
-    (h .0, count-kept xs xs′ (spine-contraction c) (h .1), contraction-accepted d c (h .2))
-contraction-accepted d (in-subject c) h = (contraction-accepted d c (h .0), h .1, h .2, h .3)
+    ((h .0 .0, count-kept xs xs′ (spine-contraction c) (h .0 .1)), contraction-accepted d c (h .1))
+contraction-accepted d (in-subject c) h = (h .0, contraction-accepted d c (h .1), h .2)
 contraction-accepted d (in-branches {bs = bs} {bs′ = bs′} c) h =
-    (h .0, count-kept bs bs′ (spine-contraction c) (h .1), rising-kept bs bs′ (spine-contraction c) (h .2), contraction-accepted d c (h .3))
+    (acceptance-kept .cases bs bs′ (spine-contraction c) (h .0), h .1, contraction-accepted d c (h .2))
 contraction-accepted d (in-first c) h = (contraction-accepted d c (h .0), h .1)
 contraction-accepted d (in-later c) h = (h .0, contraction-accepted d c (h .1))
-contraction-accepted d (in-branch {n = n} c) h = (h .0, h .1, contraction-accepted (d + n) c (h .2), h .3)
-contraction-accepted d (in-later-branch c) h = (h .0, h .1, h .2, contraction-accepted d c (h .3))
+contraction-accepted d (in-branch {n = n} c) h = (h .0, contraction-accepted (d + n) c (h .1), h .2)
+contraction-accepted d (in-later-branch c) h = (h .0, h .1, contraction-accepted d c (h .2))
 
 pub contraction-keeps-accepted : Contraction-keeps-accepted
 contraction-keeps-accepted d p r t u c h = contraction-accepted d c h

@@ -3,8 +3,9 @@ use mathlib.Core.Path.{refl}
 use mathlib.Core.Logic.{Dec·and}
 use mathlib.Core.Option.{bind, orElse}
 use native.Mathlib.Decide.{ℕ-discrete, decLe, decLt}
-use Rattle.calculus.specs.Decide.{both₃, both₄, isTag?, startsAbove?, rising?, accepted?}
+use Rattle.calculus.specs.Decide.{both₃, isTag?, startsAbove?, rising?, everywhere?, tagged?, accepted?}
 use Rattle.calculus.specs.Read.{takeTerm, takeTerms, takeBranches, readLam, readApp, readCon, readCase, readBranch, item, items, oneTerm, read}
+use Rattle.calculus.specs.Step.{firstStep}
 use Rattle.calculus.specs.Leftmost.{leftmost}
 use Rattle.calculus.specs.Equality.{tree, from-trees, equal?}
 use Rattle.calculus.specs.Rounds.{round, rounds}
@@ -12,7 +13,7 @@ use Rattle.calculus.specs.Bench.{Starred, contracted, judged}
 use Rattle.calculus.specs.Boundaries.{Boundaries}
 
 pub starred : Starred
-unfolding contracted judged read items item takeTerm takeTerms takeBranches readLam readApp readCon readCase readBranch oneTerm accepted? both₃ both₄ isTag? startsAbove? rising? Dec·and decLe decLt bind orElse leftmost tree from-trees equal? ℕ-discrete round rounds
+unfolding contracted judged read items item takeTerm takeTerms takeBranches readLam readApp readCon readCase readBranch oneTerm accepted? everywhere? tagged? both₃ isTag? startsAbove? rising? Dec·and decLe decLt bind orElse firstStep leftmost tree from-trees equal? ℕ-discrete round rounds
 starred =
     record {
       one-contraction = refl;
@@ -32,7 +33,7 @@ starred =
     }
 
 pub boundaries : Boundaries
-unfolding contracted judged read items item takeTerm takeTerms takeBranches readLam readApp readCon readCase readBranch oneTerm accepted? both₃ both₄ isTag? startsAbove? rising? Dec·and decLe decLt bind orElse leftmost tree from-trees equal? ℕ-discrete round rounds
+unfolding contracted judged read items item takeTerm takeTerms takeBranches readLam readApp readCon readCase readBranch oneTerm accepted? everywhere? tagged? both₃ isTag? startsAbove? rising? Dec·and decLe decLt bind orElse firstStep leftmost tree from-trees equal? ℕ-discrete round rounds
 boundaries =
     record {
       both-move-within-budget = refl;
@@ -60,4 +61,18 @@ boundaries =
       branches-15 = refl;
       branches-16 = refl;
       tags-equal = refl;
+      tags-rising = refl;
+      tags-fall-after-rise = refl;
+      abstraction-free-255 = refl;
+      abstraction-free-256 = refl;
+      branch-in-abstraction-free-255 = refl;
+      branch-in-abstraction-free-256 = refl;
+      tag-selects = refl;
+      tag-missing = refl;
+      case-argument-raised = refl;
+      case-index-lowered = refl;
+      constructor-applied = refl;
+      redex-in-later-argument = refl;
+      redex-in-subject = refl;
+      redex-in-later-branch = refl;
     }

@@ -6,8 +6,8 @@ use Rattle.calculus.specs.Words.{size}
 use Rattle.calculus.specs.Contraction.{Rule, by-beta, by-case, Contracts, at-beta, at-case, in-body, in-function, in-argument, in-arguments, in-subject, in-branches, in-first, in-later, in-branch, in-later-branch}
 use Rattle.calculus.specs.Relation.{Star, stop, step}
 use Rattle.calculus.specs.Conversion.{Contracts₁}
-use Rattle.calculus.specs.Theorems.{Church-Rosser, Joined-normal-equal}
-use Rattle.calculus.proofs.Rewriting.{star-append, star-map, meeting-normal-equal, joined-meet}
+use Rattle.calculus.specs.Theorems.{Church-Rosser, Joined-normal-equal, Reaches-exact, Joined-exact, Contraction-reaches, Reaching-joins, Normal-reaches-itself}
+use Rattle.calculus.proofs.Rewriting.{star-append, star-map, chain-of-star, star-along, along-star, chain-along, along-chain, normal-stays, meet-joined, meeting-normal-equal, joined-meet}
 use Rattle.calculus.proofs.Parallel.{Par, par-var, par-lam, par-app, par-beta, par-con, par-case, par-inspect, par-nil, par-cons, par-end, par-branch, par-refl, develop, triangle}
 
 -- A contraction is a parallel reduction.
@@ -66,7 +66,23 @@ sequential (par-branch {t = t} {n = n} {b′ = b} {bs = bs} p q) =
     (star-map (branch t n b) (λ _ _ (p, r, c). (suc (size b + p), r, in-later-branch c)) (sequential q))
 
 pub church-rosser : Church-Rosser
-church-rosser t u = joined-meet Contracts₁ (Par term) develop (λ _ _ (p, r, c). parallel c) (λ _ _. sequential) (λ _ _. triangle)
+church-rosser t u =
+    (joined-meet Contracts₁ (Par term) develop (λ _ _ (p, r, c). parallel c) (λ _ _. sequential) (λ _ _. triangle), meet-joined)
 
 pub joined-normal-equal : Joined-normal-equal
-joined-normal-equal t u j = meeting-normal-equal (church-rosser t u j)
+joined-normal-equal t u j = meeting-normal-equal (church-rosser t u .0 j)
+
+pub reaches-exact : Reaches-exact
+reaches-exact t u = (star-along, λ (vs, h). along-star t vs h)
+
+pub joined-exact : Joined-exact
+joined-exact t u = (chain-along, λ (vs, h). along-chain t vs h)
+
+pub contraction-reaches : Contraction-reaches
+contraction-reaches t u c = step c stop
+
+pub reaching-joins : Reaching-joins
+reaching-joins t u r = chain-of-star r
+
+pub normal-reaches-itself : Normal-reaches-itself
+normal-reaches-itself t u n r = normal-stays n r

@@ -13,10 +13,10 @@ indices-within d limit (lam b) h m = indices-within (suc d) limit b h (omega ari
 indices-within d limit (app f a) h m =
     let l = length-append (words f) (words a) in
     (indices-within d limit f (h .0) (omega arith), indices-within d limit a (h .1) (omega arith))
-indices-within d limit (con t xs) h m = indices-within d limit xs (h .2) (omega arith)
+indices-within d limit (con t xs) h m = (tt, indices-within d limit xs (h .1) (omega arith))
 indices-within d limit (case e bs) h m =
     let l = length-append (words e) (words bs) in
-    (indices-within d limit e (h .0) (omega arith), indices-within d limit bs (h .3) (omega arith))
+    (tt, indices-within d limit e (h .1) (omega arith), indices-within d limit bs (h .2) (omega arith))
 indices-within d limit nil h m = tt
 indices-within d limit (cons a xs) h m =
     let l = length-append (words a) (words xs) in
@@ -24,7 +24,7 @@ indices-within d limit (cons a xs) h m =
 indices-within d limit end h m = tt
 indices-within d limit (branch t n b bs) h m =
     let l = length-append (words b) (words bs) in
-    (indices-within (d + n) limit b (h .2) (omega arith), indices-within d limit bs (h .3) (omega arith))
+    (tt, indices-within (d + n) limit b (h .1) (omega arith), indices-within d limit bs (h .2) (omega arith))
 
 pub indices-bounded : Indices-bounded
 indices-bounded t h m = indices-within 0 indexLimit t h (omega arith)

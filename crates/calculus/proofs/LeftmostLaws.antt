@@ -1,57 +1,58 @@
--- The leftmost contraction: `leftmost` gives what the first redex gives, and none exactly in a normal term. The position of a redex decides the
--- rule and the result.
-use Prim.Native.Nat.{ℕ, _<_}
-use mathlib.Core.Path.{_≡_, sym}
-use mathlib.Core.Option.{some, orElse}
-use lib.ListN.{length-append}
+-- The leftmost contraction: `leftmost` gives what the first redex gives, and none exactly in a normal term.
+use Prim.Native.Nat.{ℕ, _≤_, _<_}
+use mathlib.Core.Path.{_≡_, sym, _∙_, ap, subst}
+use mathlib.Core.Logic.{_↔_}
+use mathlib.Core.Option.{Option, some, none, Option·map, map-eq-none-iff, Option·some-injective, Option·none-ne-some}
 use native.Mathlib.Omega.{arith}
-use Rattle.calculus.specs.Term.{Sort, Exp, var, lam, app, con, case, nil, cons, end, branch, Term}
-use Rattle.calculus.specs.Words.{words, size}
-use Rattle.calculus.specs.Contraction.{Rule, by-beta, by-case, Contracts}
+use Rattle.calculus.specs.Term.{Sort, Exp, Term}
+use Rattle.calculus.specs.Contraction.{Rule, Contracts}
 use Rattle.calculus.specs.Conversion.{Contracts₁}
-use Rattle.calculus.specs.Leftmost.{beta, inspect, leftmost}
-use Rattle.calculus.specs.Theorems.{Leftmost-step, Leftmost-none, Contraction-deterministic}
-use Rattle.calculus.proofs.Scan.{Scanned, scanned-resize, scanned-nowhere, scanned-here, scanned-through, scanned-followed}
-use Rattle.calculus.proofs.Scan.{scanned-same, first-some, first-none}
-use Rattle.calculus.proofs.Inversion.{contractions, invert, contracts}
+use Rattle.calculus.specs.Step.{Step, firstStep}
+use Rattle.calculus.specs.Leftmost.{leftmost}
+use Rattle.calculus.specs.Position.{stepAt}
+use Rattle.calculus.specs.Theorems.{Leftmost-step, Leftmost-none}
+use Rattle.calculus.proofs.Earliest.{Earliest, never, first}
+use Rattle.calculus.proofs.PositionLaws.{stepAt-exact, contracts-stepAt, contracts-unique, earliest-step, firstStep-none}
 
--- A walk along the words of an expression meets its redexes in the order of their positions, and `leftmost` takes the first.
-walk : {s : Sort} (e : Exp s) → Scanned (size e) (leftmost e) (contractions e)
-unfolding leftmost orElse
-walk (var i) = scanned-nowhere 1
-walk (lam b) = scanned-resize (omega arith) (scanned-followed (scanned-nowhere 1) (scanned-through lam (walk b)))
-walk (app f a) =
-    let parts = scanned-followed (scanned-through (λ f′. app f′ a) (walk f)) (scanned-through (app f) (walk a)) in
-    scanned-resize (omega (arith, length-append (words f) (words a))) (scanned-followed (scanned-here by-beta (beta f a)) parts)
-walk (con t xs) = scanned-resize (omega arith) (scanned-followed (scanned-nowhere 1) (scanned-through (con t) (walk xs)))
-walk (case e bs) =
-    let parts = scanned-followed (scanned-through (λ e′. case e′ bs) (walk e)) (scanned-through (case e) (walk bs)) in
-    scanned-resize (omega (arith, length-append (words e) (words bs))) (scanned-followed (scanned-here by-case (inspect e bs)) parts)
-walk nil = scanned-nowhere 0
-walk (cons a xs) =
-    let parts = scanned-followed (scanned-through (λ a′. cons a′ xs) (walk a)) (scanned-through (cons a) (walk xs)) in
-    scanned-resize (sym (length-append (words a) (words xs))) parts
-walk end = scanned-nowhere 0
-walk (branch t n b bs) =
-    let parts = scanned-followed (scanned-through (λ b′. branch t n b′ bs) (walk b)) (scanned-through (branch t n b) (walk bs)) in
-    scanned-resize (omega (arith, length-append (words b) (words bs))) (scanned-followed (scanned-nowhere 1) parts)
+-- A contraction of e to g whose redex starts first, at every sort.
+abbrev pub First : (s : Sort) → Exp s → Exp s → Type 0
+First s e g = (p : ℕ) × (r : Rule) × Contracts s p r e g × ((q : ℕ) (r′ : Rule) (h : Exp s) → Contracts s q r′ e h → p ≤ q)
 
--- At every sort: a redex starts below the size, its position decides the rule and the result, and `leftmost` gives what the first redex gives.
-pub scanned : {s : Sort} (e : Exp s) → Scanned (size e) (leftmost e) (λ p r g. Contracts s p r e g)
-scanned e = scanned-same (λ p r g. (contracts e, invert)) (walk e)
+first-unique : {s : Sort} {e g h : Exp s} → First s e g → First s e h → g ≡ h
+first-unique {s} {e} {g} {h} (p, r, c, l) (q, r′, d, m) =
+    let same : q ≡ p = omega (arith, l q r′ h d, m p r g c) in
+    contracts-unique c (subst (λ q. Contracts s q r′ e h) same d) .1
 
-pub contraction-within : {s : Sort} {p : ℕ} {r : Rule} {e g : Exp s} → Contracts s p r e g → p < size e
-contraction-within {p = p} {r} {e} {g} c = scanned e .within p r g c
+pub leftmost-exact : {s : Sort} (e g : Exp s) → (leftmost e ≡ some g) ↔ First s e g
+unfolding leftmost
+leftmost-exact {s} e g = go (earliest-step e)
+  where
+    go : {o : Option (Step (Exp s))} → Earliest (λ p. stepAt p e) o → (Option·map (λ c. c .result) o ≡ some g) ↔ First s e g
+    go (never h) = (λ q. absurd (Option·none-ne-some g q), λ (p, r, c, l). absurd (Option·none-ne-some (r, g) (sym (h p) ∙ contracts-stepAt c)))
+    go (first {c = c} d h) = (λ q. subst (First s e) (Option·some-injective (c .result) g q) here, λ k. ap some (first-unique here k))
+      where
+        before : (q : ℕ) (r : Rule) (k : Exp s) → Contracts s q r e k → c .position ≤ q
+        before q r k b =
+            let none-earlier : ¬ (q < c .position) = λ l. Option·none-ne-some (r, k) (sym (h q l) ∙ contracts-stepAt b) in
+            omega arith
 
-pub contraction-deterministic : Contraction-deterministic
-contraction-deterministic p r r′ t u v = scanned t .unique p r r′ u v
+        here : First s e (c .result)
+        here = (c .position, c .rule, stepAt-exact (c .position) (c .rule) e (c .result) .0 d, before)
 
 pub leftmost-step : Leftmost-step
-leftmost-step t u = first-some (scanned t .unique) (scanned t .first) u
+leftmost-step t u = leftmost-exact t u
+
+-- At every sort `leftmost` gives none exactly where there is no contraction.
+pub leftmost-normal : {s : Sort} (e : Exp s) → (leftmost e ≡ none) ↔ ((p : ℕ) (r : Rule) (g : Exp s) → Contracts s p r e g → ⊥)
+unfolding leftmost
+leftmost-normal e =
+    let same = map-eq-none-iff (λ c. c .result) (firstStep e) in
+    let h = firstStep-none e in
+    (λ q. h .0 (same .0 q), λ k. same .1 (h .1 k))
 
 pub leftmost-none : Leftmost-none
 leftmost-none t =
-    let h = first-none (scanned t .first) in
+    let h = leftmost-normal t in
     (λ e u c. h .0 e (c .0) (c .1) u (c .2), λ n. h .1 (λ p r u c. n u (p, r, c)))
 
 pub leftmost-contracts : (t u : Term) → leftmost t ≡ some u → Contracts₁ t u

@@ -7,13 +7,16 @@ use mathlib.Core.Bool.{Bool, true, false, cond}
 use mathlib.Core.Option.{Option, some, none, Option·map, Option·getD}
 use native.Mathlib.Numerals.{add-one}
 use lib.Dec.{eqb}
+use lib.IntN.{pos}
 use borrow.Author.Tests.{eqb-true}
 use Rattle.calculus.specs.Term.{Sort, term, terms, branches, Exp, var, lam, app, con, case, nil, cons, end, branch, Term, Terms, Branches, count}
+use Rattle.calculus.specs.Shift.{shift}
 use Rattle.calculus.specs.Substitution.{argument, subst}
-use Rattle.calculus.specs.Contraction.{select}
-use Rattle.calculus.specs.Leftmost.{beta, inspect}
-use Rattle.calculus.proofs.Traversal.{traverse, raise, lift, sub, below-or-above, lift-below, lift-above, raise-is-sub}
-use Rattle.calculus.proofs.Substitution.{put, count-traverse, subst-is-sub, sub-subst}
+use Rattle.calculus.specs.Contraction.{Rule, by-case, select}
+use Rattle.calculus.specs.Step.{contractum}
+use Rattle.calculus.proofs.Spine.{count-traverse}
+use Rattle.calculus.proofs.Traversal.{below-or-above}
+use Rattle.calculus.proofs.Substitution.{lift, sub, lift-below, lift-above, shift-is-sub, put, subst-is-sub, sub-subst}
 
 pub data Par : (s : Sort) → Exp s → Exp s → Type 0 where
   par-var : {i : ℕ} → Par term (var i) (var i)
@@ -42,7 +45,6 @@ par-refl (branch t n b bs) = par-branch (par-refl b) (par-refl bs)
 
 -- The case rule commutes with substitution.
 select-sub : (σ : ℕ → Term) (d t : ℕ) (xs : Terms) (bs : Branches) → select t (sub σ d xs) (sub σ d bs) ≡ Option·map (sub σ d) (select t xs bs)
-unfolding traverse
 select-sub σ d t xs end = refl
 select-sub σ d t xs (branch u n b bs) = rw (count-traverse (lift σ) d xs, select-sub σ d t xs bs) (by (eqb t u) (eqb (count xs) n) refl)
   where
@@ -56,7 +58,6 @@ select-sub σ d t xs (branch u n b bs) = rw (count-traverse (lift σ) d xs, sele
 -- If the terms of σ reduce to those of τ, under any number of binders, then so does what σ makes of an expression to what τ makes of its reducts.
 module _ (σ τ : ℕ → Term) (variable : (d i : ℕ) → Par term (lift σ d i) (lift τ d i)) where
   par-traverse : {s : Sort} {e e′ : Exp s} (d : ℕ) → Par s e e′ → Par s (sub σ d e) (sub τ d e′)
-  unfolding traverse
   par-traverse d (par-var {i = i}) = variable d i
   par-traverse d (par-lam p) = par-lam (par-traverse (suc d) p)
   par-traverse d (par-app p q) = par-app (par-traverse d p) (par-traverse d q)
@@ -70,9 +71,9 @@ module _ (σ τ : ℕ → Term) (variable : (d i : ℕ) → Par term (lift σ d 
   par-traverse d par-end = par-end
   par-traverse d (par-branch {n = n} p q) = par-branch (par-traverse (d + n) p) (par-traverse d q)
 
-par-raise : {s : Sort} {e e′ : Exp s} (n d : ℕ) → Par s e e′ → Par s (raise n d e) (raise n d e′)
-par-raise {e = e} {e′ = e′} n d p =
-    rw (raise-is-sub n d e, raise-is-sub n d e′) (par-traverse up up (λ d i. par-refl (lift up d i)) d p)
+par-shift : {s : Sort} {e e′ : Exp s} (n d : ℕ) → Par s e e′ → Par s (shift (pos n) d e) (shift (pos n) d e′)
+par-shift {e = e} {e′ = e′} n d p =
+    rw (shift-is-sub n d e, shift-is-sub n d e′) (par-traverse up up (λ d i. par-refl (lift up d i)) d p)
   where
     up : ℕ → Term
     up i = var (i + n)
@@ -84,7 +85,7 @@ par-sub σ τ h d p = par-traverse σ τ variable d p
     variable d i =
         below-or-above i d
         (λ l. rw (lift-below σ d i l, lift-below τ d i l) par-var)
-        (λ l. rw (lift-above σ d i l, lift-above τ d i l) (par-raise d 0 (h (i - d))))
+        (λ l. rw (lift-above σ d i l, lift-above τ d i l) (par-shift d 0 (h (i - d))))
 
 -- Both are none, or the one term reduces to the other.
 abbrev ParOption : Option Term → Option Term → Type 0
@@ -134,72 +135,82 @@ par-select {xs} {xs′} t p (par-branch {t = u} {n = n} {b = b} {b′ = b′} {b
     by true false h = tt
     by false arity h = h
 
--- An application, and a case, contracted if it is a redex.
-abbrev applied : Term → Term → Term
-applied f a = Option·getD (beta f a) (app f a)
+-- A term contracted if it is itself a redex, by what the rule function gives.
+abbrev result : Option (Rule × Term) → Option Term
+result o = Option·map (λ c. c .1) o
 
-abbrev inspected : Term → Branches → Term
-inspected e bs = Option·getD (inspect e bs) (case e bs)
+abbrev fired : Term → Term
+fired t = Option·getD (result (contractum t)) t
+
+-- What the case rule gives.
+abbrev selected : Option Term → Option Term
+selected o = result (Option·map (λ u. (by-case, u)) o)
 
 -- The complete development: the parts developed, then the whole contracted if it is a redex.
 unfoldable pub develop : {s : Sort} → Exp s → Exp s
 develop (var i) = var i
 develop (lam b) = lam (develop b)
-develop (app f a) = applied (develop f) (develop a)
+develop (app f a) = fired (app (develop f) (develop a))
 develop (con t xs) = con t (develop xs)
-develop (case e bs) = inspected (develop e) (develop bs)
+develop (case e bs) = fired (case (develop e) (develop bs))
 develop nil = nil
 develop (cons a xs) = cons (develop a) (develop xs)
 develop end = end
 develop (branch t n b bs) = branch t n (develop b) (develop bs)
 
-app-to-applied : {f f′ a a′ : Term} → Par term f f′ → Par term a a′ → Par term (app f a) (applied f′ a′)
-app-to-applied {f′ = var i} p q = par-app p q
-app-to-applied {f′ = lam b} p q = par-beta p q
-app-to-applied {f′ = app g c} p q = par-app p q
-app-to-applied {f′ = con t xs} p q = par-app p q
-app-to-applied {f′ = case e bs} p q = par-app p q
+app-to-fired : {f f′ a a′ : Term} → Par term f f′ → Par term a a′ → Par term (app f a) (fired (app f′ a′))
+app-to-fired {f′ = var i} p q = par-app p q
+app-to-fired {f′ = lam b} p q = par-beta p q
+app-to-fired {f′ = app g c} p q = par-app p q
+app-to-fired {f′ = con t xs} p q = par-app p q
+app-to-fired {f′ = case e bs} p q = par-app p q
 
-par-applied : {f f′ a a′ : Term} → Par term f f′ → Par term a a′ → Par term (applied f a) (applied f′ a′)
-par-applied par-var r = app-to-applied par-var r
-par-applied (par-lam p) r = par-subst 0 (par-cons r par-nil) p
-par-applied (par-app p q) r = app-to-applied (par-app p q) r
-par-applied (par-beta p q) r = app-to-applied (par-beta p q) r
-par-applied (par-con p) r = app-to-applied (par-con p) r
-par-applied (par-case p q) r = app-to-applied (par-case p q) r
-par-applied (par-inspect p q h) r = app-to-applied (par-inspect p q h) r
+par-fired-app : {f f′ a a′ : Term} → Par term f f′ → Par term a a′ → Par term (fired (app f a)) (fired (app f′ a′))
+par-fired-app par-var r = app-to-fired par-var r
+par-fired-app (par-lam p) r = par-subst 0 (par-cons r par-nil) p
+par-fired-app (par-app p q) r = app-to-fired (par-app p q) r
+par-fired-app (par-beta p q) r = app-to-fired (par-beta p q) r
+par-fired-app (par-con p) r = app-to-fired (par-con p) r
+par-fired-app (par-case p q) r = app-to-fired (par-case p q) r
+par-fired-app (par-inspect p q h) r = app-to-fired (par-inspect p q h) r
 
-case-to-inspected : {e e′ : Term} {bs bs′ : Branches} → Par term e e′ → Par branches bs bs′ → Par term (case e bs) (inspected e′ bs′)
-case-to-inspected {e′ = var i} p q = par-case p q
-case-to-inspected {e′ = lam b} p q = par-case p q
-case-to-inspected {e′ = app f a} p q = par-case p q
-case-to-inspected {e} {e′ = con t xs} {bs} {bs′} p q = by (select t xs bs′) refl
+case-to-fired : {e e′ : Term} {bs bs′ : Branches} → Par term e e′ → Par branches bs bs′ → Par term (case e bs) (fired (case e′ bs′))
+case-to-fired {e′ = var i} p q = par-case p q
+case-to-fired {e′ = lam b} p q = par-case p q
+case-to-fired {e′ = app f a} p q = par-case p q
+case-to-fired {e} {e′ = con t xs} {bs} {bs′} p q = by (select t xs bs′) refl
   where
-    by : (o : Option Term) → select t xs bs′ ≡ o → Par term (case e bs) (Option·getD o (case (con t xs) bs′))
+    by : (o : Option Term) → select t xs bs′ ≡ o → Par term (case e bs) (Option·getD (selected o) (case (con t xs) bs′))
     by none h = par-case p q
     by (some u) h = par-inspect p q h
-case-to-inspected {e′ = case e cs} p q = par-case p q
+case-to-fired {e′ = case e cs} p q = par-case p q
 
-par-inspected : {e e′ : Term} {bs bs′ : Branches} → Par term e e′ → Par branches bs bs′ → Par term (inspected e bs) (inspected e′ bs′)
-par-inspected par-var r = case-to-inspected par-var r
-par-inspected (par-lam p) r = case-to-inspected (par-lam p) r
-par-inspected (par-app p q) r = case-to-inspected (par-app p q) r
-par-inspected (par-beta p q) r = case-to-inspected (par-beta p q) r
-par-inspected {bs = bs} {bs′ = bs′} (par-con {t = t} {xs = xs} {xs′ = xs′} p) r =
-    par-getD (select t xs bs) (select t xs′ bs′) (par-select t p r) (par-case (par-con p) r)
-par-inspected (par-case p q) r = case-to-inspected (par-case p q) r
-par-inspected (par-inspect p q h) r = case-to-inspected (par-inspect p q h) r
+par-fired-case : {e e′ : Term} {bs bs′ : Branches} → Par term e e′ → Par branches bs bs′ → Par term (fired (case e bs)) (fired (case e′ bs′))
+par-fired-case par-var r = case-to-fired par-var r
+par-fired-case (par-lam p) r = case-to-fired (par-lam p) r
+par-fired-case (par-app p q) r = case-to-fired (par-app p q) r
+par-fired-case (par-beta p q) r = case-to-fired (par-beta p q) r
+par-fired-case {bs = bs} {bs′ = bs′} (par-con {t = t} {xs = xs} {xs′ = xs′} p) r =
+    by (select t xs bs) (select t xs′ bs′) (par-select t p r)
+  where
+    by : (o o′ : Option Term) → ParOption o o′ → Par term (Option·getD (selected o) (case (con t xs) bs)) (Option·getD (selected o′) (case (con t xs′) bs′))
+    by none none h = par-case (par-con p) r
+    by none (some v) h = absurd h
+    by (some u) none h = absurd h
+    by (some u) (some v) h = h
+par-fired-case (par-case p q) r = case-to-fired (par-case p q) r
+par-fired-case (par-inspect p q h) r = case-to-fired (par-inspect p q h) r
 
 -- Whatever is contracted at once, the rest of the development can follow at once.
 pub triangle : {s : Sort} {e g : Exp s} → Par s e g → Par s g (develop e)
 unfolding develop
 triangle par-var = par-var
 triangle (par-lam p) = par-lam (triangle p)
-triangle (par-app p q) = app-to-applied (triangle p) (triangle q)
-triangle (par-beta p q) = par-applied (triangle p) (triangle q)
+triangle (par-app p q) = app-to-fired (triangle p) (triangle q)
+triangle (par-beta p q) = par-fired-app (triangle p) (triangle q)
 triangle (par-con p) = par-con (triangle p)
-triangle (par-case p q) = case-to-inspected (triangle p) (triangle q)
-triangle (par-inspect p q h) = rw h at (par-inspected (triangle p) (triangle q))
+triangle (par-case p q) = case-to-fired (triangle p) (triangle q)
+triangle (par-inspect p q h) = rw h at (par-fired-case (triangle p) (triangle q))
 triangle par-nil = par-nil
 triangle (par-cons p q) = par-cons (triangle p) (triangle q)
 triangle par-end = par-end

@@ -47,7 +47,7 @@ items-words (con t xs) ws {is} h q =
     items-word constructorKind (pack t (count xs)) _ (omega arith) (items-words xs ws (h .1) q)
     (rw (tagOf-pack t (count xs) (h .0), countOf-pack t (count xs) (h .0), takeTerms-onto xs is))
 items-words (case e bs) ws {is} h q =
-    rw append-assoc (items-word caseKind (count bs) _ (omega arith) (items-words e _ (h .0) (items-words bs ws (h .1) q)) (rw (takeBranches-onto bs is)))
+    rw append-assoc (items-word caseKind (count bs) _ (omega arith) (items-words e _ (h .1) (items-words bs ws (h .2) q)) (rw (takeBranches-onto bs is)))
 items-words nil ws h q = q
 items-words (cons a xs) ws h q = rw append-assoc (items-words a _ (h .0) (items-words xs ws (h .1) q))
 items-words end ws h q = q

@@ -11,7 +11,7 @@ use Rattle.calculus.specs.Words.{kindOf, words, size}
 use Rattle.calculus.specs.Contraction.{Rule, Contracts, at-beta, at-case, in-body, in-function, in-argument}
 use Rattle.calculus.specs.Contraction.{in-arguments, in-subject, in-branches, in-first, in-later, in-branch, in-later-branch}
 use Rattle.calculus.specs.Theorems.{redexKind, Contraction-position}
-use Rattle.calculus.proofs.LeftmostLaws.{contraction-within}
+use Rattle.calculus.proofs.PositionLaws.{contraction-within}
 
 abbrev kindAt : List ℕ → ℕ → ℕ
 kindAt ws p = kindOf (getD ws p 0)

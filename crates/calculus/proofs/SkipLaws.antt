@@ -64,7 +64,7 @@ passes-words (lam b) k h = passes-word (omega arith) (passes-words b k h)
 passes-words (app f a) k h = passes-word (omega arith) (passes-append (passes-words f (suc k) (h .0)) (passes-words a k (h .1)))
 passes-words (con t xs) k h = passes-word (omega (arith, arity-constructor t (count xs) (h .0))) (passes-words xs k (h .1))
 passes-words (case e bs) k h =
-    passes-word (omega (arith, arity-case (count bs))) (passes-append (passes-words e (count bs + k) (h .0)) (passes-words bs k (h .1)))
+    passes-word (omega (arith, arity-case (count bs))) (passes-append (passes-words e (count bs + k) (h .1)) (passes-words bs k (h .2)))
 passes-words nil k h = passes-none (zero-add k)
 passes-words (cons a xs) k h =
     passes-from (suc-add (count xs) k) (passes-append (passes-words a (count xs + k) (h .0)) (passes-words xs k (h .1)))

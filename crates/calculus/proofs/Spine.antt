@@ -1,14 +1,13 @@
--- The spine of a list of arguments or branches: how many members it has and, of branches, their tags. Shifting, substitution and contraction
--- leave it as it is; the limits on counts and the rise of tags (`Accepted`) are read from it.
+-- The spine of a list of arguments or branches: how many members it has and, of branches, their tags. Traversals and contraction leave it as
+-- it is; the limits on counts and the rise of tags (`Accepted`) are read from it.
 use Prim.Native.Nat.{ℕ, suc, _≤_, _<_}
 use mathlib.Core.Path.{_≡_, refl, sym, _∙_, ap, transport}
 use mathlib.Core.List.{List, [], _∷_}
-use lib.IntN.{ℤ}
 use lib.ListN.{length}
 use native.Mathlib.Omega.{arith}
-use Rattle.calculus.specs.Term.{Sort, Exp, var, lam, app, con, case, nil, cons, end, branch, Term, Terms, Branches, count}
+use Rattle.calculus.specs.Term.{Sort, Exp, var, lam, app, con, case, nil, cons, end, branch, Term, Branches, count}
 use Rattle.calculus.specs.Accepted.{StartsAbove, Rising}
-use Rattle.calculus.specs.Shift.{shift}
+use Rattle.calculus.specs.Traverse.{traverse}
 use Rattle.calculus.specs.Substitution.{subst}
 use Rattle.calculus.specs.Contraction.{Rule, Contracts, at-beta, at-case, in-body, in-function, in-argument}
 use Rattle.calculus.specs.Contraction.{in-arguments, in-subject, in-branches, in-first, in-later, in-branch, in-later-branch}
@@ -35,27 +34,16 @@ spine-term t u = empty t ∙ sym (empty u)
     empty (con t xs) = refl
     empty (case e bs) = refl
 
-pub spine-shift : {s : Sort} (z : ℤ) (cutoff : ℕ) (e : Exp s) → spine e ≡ spine (shift z cutoff e)
-spine-shift z cutoff (var i) = refl
-spine-shift z cutoff (lam b) = refl
-spine-shift z cutoff (app f a) = refl
-spine-shift z cutoff (con t xs) = refl
-spine-shift z cutoff (case e bs) = refl
-spine-shift z cutoff nil = refl
-spine-shift z cutoff (cons a xs) = ap (_∷_ 0) (spine-shift z cutoff xs)
-spine-shift z cutoff end = refl
-spine-shift z cutoff (branch t n b bs) = ap (_∷_ t) (spine-shift z cutoff bs)
-
-pub spine-subst : {s : Sort} (xs : Terms) (depth : ℕ) (e : Exp s) → spine e ≡ spine (subst xs depth e)
-spine-subst xs depth (var i) = spine-term (var i) (subst xs depth (var i))
-spine-subst xs depth (lam b) = refl
-spine-subst xs depth (app f a) = refl
-spine-subst xs depth (con t ys) = refl
-spine-subst xs depth (case e bs) = refl
-spine-subst xs depth nil = refl
-spine-subst xs depth (cons a ys) = ap (_∷_ 0) (spine-subst xs depth ys)
-spine-subst xs depth end = refl
-spine-subst xs depth (branch t n b bs) = ap (_∷_ t) (spine-subst xs depth bs)
+pub spine-traverse : {s : Sort} (f : ℕ → ℕ → Term) (d : ℕ) (e : Exp s) → spine e ≡ spine (traverse f d e)
+spine-traverse f d (var i) = spine-term (var i) (f d i)
+spine-traverse f d (lam b) = refl
+spine-traverse f d (app g a) = refl
+spine-traverse f d (con t xs) = refl
+spine-traverse f d (case e bs) = refl
+spine-traverse f d nil = refl
+spine-traverse f d (cons a xs) = ap (_∷_ 0) (spine-traverse f d xs)
+spine-traverse f d end = refl
+spine-traverse f d (branch t n b bs) = ap (_∷_ t) (spine-traverse f d bs)
 
 pub spine-contraction : {s : Sort} {p : ℕ} {r : Rule} {e g : Exp s} → Contracts s p r e g → spine e ≡ spine g
 spine-contraction (at-beta {b = b} {a = a}) = spine-term (app (lam b) a) (subst (cons a nil) 0 b)
@@ -84,6 +72,9 @@ count-spine (branch t n b bs) = ap suc (count-spine bs)
 
 pub count-kept : {s : Sort} {n : ℕ} (e g : Exp s) → spine e ≡ spine g → count e ≤ n → count g ≤ n
 count-kept e g h le = omega (arith, count-spine e, count-spine g, ap length h)
+
+pub count-traverse : {s : Sort} (f : ℕ → ℕ → Term) (d : ℕ) (e : Exp s) → count (traverse f d e) ≡ count e
+count-traverse f d e = count-spine (traverse f d e) ∙ ap length (sym (spine-traverse f d e)) ∙ sym (count-spine e)
 
 pub count-contraction : {s : Sort} {p : ℕ} {r : Rule} {e g : Exp s} → Contracts s p r e g → count e ≡ count g
 count-contraction {e = e} {g} c = count-spine e ∙ ap length (spine-contraction c) ∙ sym (count-spine g)

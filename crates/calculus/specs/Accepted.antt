@@ -2,8 +2,9 @@
 -- rise strictly within a case, and free numbers (indices of free variables) run from 0 to 255. Each limit stands once.
 --
 -- `Accepted d e` says it of e under d binders: an index below d is bound; any other has the free number index minus d.
-use Prim.Native.Nat.{ℕ, suc, _+_, _≤_, _<_}
-use Rattle.calculus.specs.Term.{Sort, Exp, var, lam, app, con, case, nil, cons, end, branch, Branches, count}
+use Prim.Native.Nat.{ℕ, _+_, _≤_, _<_}
+use Rattle.calculus.specs.Term.{Sort, Exp, end, branch, Branches, count}
+use Rattle.calculus.specs.Everywhere.{binders, Asked, Everywhere}
 
 -- The largest tag.
 abbrev pub tagLimit : ℕ
@@ -38,13 +39,23 @@ abbrev pub Rising : Branches → Type 0
 Rising end = Unit {0}
 Rising (branch t n b bs) = StartsAbove t bs × Rising bs
 
+-- A constructor's tag and number of arguments, and so a branch's tag and bound count.
+abbrev pub Tagged : (t n : ℕ) → Type 0
+Tagged t n = IsTag t × (n ≤ argumentLimit)
+
+-- Under d binders the index is bound, or its free number is in range.
+abbrev pub InScope : (d i : ℕ) → Type 0
+InScope d i = i ≤ d + freeLimit
+
+abbrev pub acceptance : Asked ℕ
+acceptance =
+    record {
+      places = binders;
+      of-variable = InScope;
+      of-constructor = Tagged;
+      of-case = λ bs. (count bs ≤ branchLimit) × Rising bs;
+      of-branch = Tagged;
+    }
+
 abbrev pub Accepted : {s : Sort} → ℕ → Exp s → Type 0
-Accepted d (var i) = i ≤ d + freeLimit
-Accepted d (lam b) = Accepted (suc d) b
-Accepted d (app f a) = Accepted d f × Accepted d a
-Accepted d (con t xs) = IsTag t × (count xs ≤ argumentLimit) × Accepted d xs
-Accepted d (case e bs) = Accepted d e × (count bs ≤ branchLimit) × Rising bs × Accepted d bs
-Accepted d nil = Unit {0}
-Accepted d (cons a xs) = Accepted d a × Accepted d xs
-Accepted d end = Unit {0}
-Accepted d (branch t n b bs) = IsTag t × (n ≤ argumentLimit) × Accepted (d + n) b × Accepted d bs
+Accepted d e = Everywhere acceptance d e

@@ -6,7 +6,7 @@ use mathlib.Core.Option.{some, none, Option·map}
 use Rattle.calculus.specs.Words.{words}
 use Rattle.calculus.specs.Read.{read}
 use Rattle.calculus.specs.Rounds.{Different, Budget, Full}
-use Rattle.calculus.specs.Bench.{judged, shown}
+use Rattle.calculus.specs.Bench.{contracted, judged, shown}
 
 -- The document's W W: 13 words, whose contractum has 20.
 abbrev pub ww : List ℕ
@@ -38,3 +38,17 @@ pub record Boundaries : Type 0 where
   pub branches-15 : Option·map words (read (124 ∷ 0 ∷ 133 ∷ 0 ∷ 261 ∷ 0 ∷ 389 ∷ 0 ∷ 517 ∷ 0 ∷ 645 ∷ 0 ∷ 773 ∷ 0 ∷ 901 ∷ 0 ∷ 1029 ∷ 0 ∷ 1157 ∷ 0 ∷ 1285 ∷ 0 ∷ 1413 ∷ 0 ∷ 1541 ∷ 0 ∷ 1669 ∷ 0 ∷ 1797 ∷ 0 ∷ 1925 ∷ 0 ∷ [])) ≡ some (124 ∷ 0 ∷ 133 ∷ 0 ∷ 261 ∷ 0 ∷ 389 ∷ 0 ∷ 517 ∷ 0 ∷ 645 ∷ 0 ∷ 773 ∷ 0 ∷ 901 ∷ 0 ∷ 1029 ∷ 0 ∷ 1157 ∷ 0 ∷ 1285 ∷ 0 ∷ 1413 ∷ 0 ∷ 1541 ∷ 0 ∷ 1669 ∷ 0 ∷ 1797 ∷ 0 ∷ 1925 ∷ 0 ∷ [])
   pub branches-16 : read (132 ∷ 0 ∷ 133 ∷ 0 ∷ 261 ∷ 0 ∷ 389 ∷ 0 ∷ 517 ∷ 0 ∷ 645 ∷ 0 ∷ 773 ∷ 0 ∷ 901 ∷ 0 ∷ 1029 ∷ 0 ∷ 1157 ∷ 0 ∷ 1285 ∷ 0 ∷ 1413 ∷ 0 ∷ 1541 ∷ 0 ∷ 1669 ∷ 0 ∷ 1797 ∷ 0 ∷ 1925 ∷ 0 ∷ 2053 ∷ 0 ∷ []) ≡ none
   pub tags-equal : read (20 ∷ 0 ∷ 133 ∷ 0 ∷ 133 ∷ 0 ∷ []) ≡ none
+  pub tags-rising : Option·map words (read (28 ∷ 0 ∷ 133 ∷ 0 ∷ 261 ∷ 0 ∷ 389 ∷ 0 ∷ [])) ≡ some (28 ∷ 0 ∷ 133 ∷ 0 ∷ 261 ∷ 0 ∷ 389 ∷ 0 ∷ [])
+  pub tags-fall-after-rise : read (28 ∷ 0 ∷ 133 ∷ 0 ∷ 389 ∷ 0 ∷ 261 ∷ 0 ∷ []) ≡ none
+  pub abstraction-free-255 : Option·map words (read (1 ∷ 2048 ∷ [])) ≡ some (1 ∷ 2048 ∷ [])
+  pub abstraction-free-256 : read (1 ∷ 2056 ∷ []) ≡ none
+  pub branch-in-abstraction-free-255 : Option·map words (read (1 ∷ 12 ∷ 0 ∷ 141 ∷ 2056 ∷ [])) ≡ some (1 ∷ 12 ∷ 0 ∷ 141 ∷ 2056 ∷ [])
+  pub branch-in-abstraction-free-256 : read (1 ∷ 12 ∷ 0 ∷ 141 ∷ 2064 ∷ []) ≡ none
+  pub tag-selects : contracted (20 ∷ 259 ∷ 133 ∷ 0 ∷ 261 ∷ 8 ∷ []) ≡ some (some (8 ∷ []))
+  pub tag-missing : contracted (12 ∷ 259 ∷ 133 ∷ 0 ∷ []) ≡ some none
+  pub case-argument-raised : contracted (12 ∷ 139 ∷ 0 ∷ 141 ∷ 1 ∷ 8 ∷ []) ≡ some (some (1 ∷ 8 ∷ []))
+  pub case-index-lowered : contracted (12 ∷ 147 ∷ 0 ∷ 8 ∷ 149 ∷ 32 ∷ []) ≡ some (some (16 ∷ []))
+  pub constructor-applied : contracted (2 ∷ 131 ∷ 0 ∷ []) ≡ some none
+  pub redex-in-later-argument : contracted (147 ∷ 8 ∷ 2 ∷ 1 ∷ 0 ∷ 0 ∷ []) ≡ some (some (147 ∷ 8 ∷ 0 ∷ []))
+  pub redex-in-subject : contracted (12 ∷ 2 ∷ 1 ∷ 0 ∷ 0 ∷ 133 ∷ 8 ∷ []) ≡ some (some (12 ∷ 0 ∷ 133 ∷ 8 ∷ []))
+  pub redex-in-later-branch : contracted (20 ∷ 0 ∷ 133 ∷ 8 ∷ 261 ∷ 2 ∷ 1 ∷ 0 ∷ 0 ∷ []) ≡ some (some (20 ∷ 0 ∷ 133 ∷ 8 ∷ 261 ∷ 0 ∷ []))

@@ -1,22 +1,17 @@
--- Acceptance is decidable, computed. The type says all that is decided; nothing else here needs to be read.
-use Prim.Native.Nat.{ℕ, suc, _+_}
+-- What is asked of every word of an expression is decidable if each question is, and so acceptance is, computed. The types say all that is decided;
+-- nothing else here needs to be read.
+use Prim.Native.Nat.{ℕ, _+_}
 use mathlib.Core.Logic.{Dec·and}
 use native.Mathlib.Decide.{decLe, decLt}
 use Rattle.calculus.specs.Term.{Sort, Exp, var, lam, app, con, case, nil, cons, end, branch, Branches, count}
-use Rattle.calculus.specs.Accepted.{tagLimit, argumentLimit, branchLimit, freeLimit, IsTag, StartsAbove, Rising, Accepted}
+use Rattle.calculus.specs.Everywhere.{Asked, Everywhere}
+use Rattle.calculus.specs.Accepted.{tagLimit, argumentLimit, branchLimit, freeLimit, IsTag, StartsAbove, Rising, Tagged, acceptance, Accepted}
 
 unfoldable pub both₃ : {A B C : Type 0} → Dec A → Dec B → Dec C → Dec (A × B × C)
 both₃ (yes a) (yes b) (yes c) = yes (a, b, c)
 both₃ (yes a) (yes b) (no c) = no (λ p. c (p .2))
 both₃ (yes a) (no b) c = no (λ p. b (p .1))
 both₃ (no a) b c = no (λ p. a (p .0))
-
-unfoldable pub both₄ : {A B C D : Type 0} → Dec A → Dec B → Dec C → Dec D → Dec (A × B × C × D)
-both₄ (yes a) (yes b) (yes c) (yes d) = yes (a, b, c, d)
-both₄ (yes a) (yes b) (yes c) (no d) = no (λ p. d (p .3))
-both₄ (yes a) (yes b) (no c) d = no (λ p. c (p .2))
-both₄ (yes a) (no b) c d = no (λ p. b (p .1))
-both₄ (no a) b c d = no (λ p. a (p .0))
 
 unfoldable pub isTag? : (t : ℕ) → Dec (IsTag t)
 unfolding Dec·and
@@ -30,13 +25,34 @@ unfoldable pub rising? : (bs : Branches) → Dec (Rising bs)
 rising? end = yes tt
 rising? (branch t n b bs) = Dec·and (startsAbove? t bs) (rising? bs)
 
+-- How each question of `P` is decided.
+pub record Decided {Place : Type 0} (P : Asked Place) : Type 0 where
+  pub of-variable? : (d : Place) (i : ℕ) → Dec (P .of-variable d i)
+  pub of-constructor? : (t n : ℕ) → Dec (P .of-constructor t n)
+  pub of-case? : (bs : Branches) → Dec (P .of-case bs)
+  pub of-branch? : (t n : ℕ) → Dec (P .of-branch t n)
+
+unfoldable pub everywhere? : {Place : Type 0} {P : Asked Place} {s : Sort} → Decided P → (d : Place) (e : Exp s) → Dec (Everywhere P d e)
+everywhere? D d (var i) = D .of-variable? d i
+everywhere? {P = P} D d (lam b) = everywhere? D (P .places .under-abstraction d) b
+everywhere? D d (app f a) = Dec·and (everywhere? D d f) (everywhere? D d a)
+everywhere? D d (con t xs) = Dec·and (D .of-constructor? t (count xs)) (everywhere? D d xs)
+everywhere? D d (case e bs) = both₃ (D .of-case? bs) (everywhere? D d e) (everywhere? D d bs)
+everywhere? D d nil = yes tt
+everywhere? D d (cons a xs) = Dec·and (everywhere? D d a) (everywhere? D d xs)
+everywhere? D d end = yes tt
+everywhere? {P = P} D d (branch t n b bs) = both₃ (D .of-branch? t n) (everywhere? D (P .places .under-branch d n) b) (everywhere? D d bs)
+
+unfoldable pub tagged? : (t n : ℕ) → Dec (Tagged t n)
+tagged? t n = Dec·and (isTag? t) (decLe n argumentLimit)
+
 unfoldable pub accepted? : {s : Sort} (d : ℕ) (e : Exp s) → Dec (Accepted d e)
-accepted? d (var i) = decLe i (d + freeLimit)
-accepted? d (lam b) = accepted? (suc d) b
-accepted? d (app f a) = Dec·and (accepted? d f) (accepted? d a)
-accepted? d (con t xs) = both₃ (isTag? t) (decLe (count xs) argumentLimit) (accepted? d xs)
-accepted? d (case e bs) = both₄ (accepted? d e) (decLe (count bs) branchLimit) (rising? bs) (accepted? d bs)
-accepted? d nil = yes tt
-accepted? d (cons a xs) = Dec·and (accepted? d a) (accepted? d xs)
-accepted? d end = yes tt
-accepted? d (branch t n b bs) = both₄ (isTag? t) (decLe n argumentLimit) (accepted? (d + n) b) (accepted? d bs)
+accepted? d e =
+    everywhere? {P = acceptance}
+    (record {
+      of-variable? = λ d i. decLe i (d + freeLimit);
+      of-constructor? = tagged?;
+      of-case? = λ bs. Dec·and (decLe (count bs) branchLimit) (rising? bs);
+      of-branch? = tagged?;
+    })
+    d e

@@ -1,6 +1,7 @@
 -- The calculus of document 01, one file a concept. `Decide` and `Equality` are decided by their types alone and need not be read.
 pub mod Term
 pub mod Words
+pub mod Everywhere
 pub mod Accepted
 pub mod Decide
 pub mod Read
@@ -8,11 +9,13 @@ pub mod Skip
 pub mod First
 pub mod Workspace
 pub mod Refusal
+pub mod Traverse
 pub mod Shift
 pub mod Substitution
 pub mod Contraction
 pub mod Relation
 pub mod Conversion
+pub mod Step
 pub mod Leftmost
 pub mod Position
 pub mod Equality
@@ -20,3 +23,4 @@ pub mod Rounds
 pub mod Bench
 pub mod Boundaries
 pub mod Theorems
+pub mod Instances

@@ -1,5 +1,22 @@
--- The numbers for refused calls ("Numbers for refused calls"), each under the name by which the definitions of the calls cite it.
+-- The refusals of the unit's calls and their numbers ("Numbers for refused calls").
 use Prim.Native.Nat.{ℕ}
+
+-- Each is named by what is wrong: of a table its length, its header, a value, a link, the children of a record or a free number; the lengths of
+-- workspaces and scratch; a term too long for its workspace; the budget, alone or with the total; words that are no whole term.
+pub data Refusal : Type 0 where
+  WrongLength WrongHeader WrongValue WrongLink WrongChildren WrongFree WrongWorkspace TooLong OverBudget NoTerm : Refusal
+
+abbrev pub number : Refusal → ℕ
+number WrongLength = 1
+number WrongHeader = 2
+number WrongValue = 3
+number WrongLink = 4
+number WrongChildren = 5
+number WrongFree = 6
+number WrongWorkspace = 7
+number TooLong = 8
+number OverBudget = 9
+number NoTerm = 10
 
 -- The table's length, its header, a value, a link, the children of a record, a free number.
 abbrev pub wrongLengthNumber : ℕ

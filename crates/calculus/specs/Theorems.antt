@@ -1,18 +1,19 @@
 -- What is owed about the calculus: each statement is a type with a name, and its proof in proofs/ has that type.
-use Prim.Native.Nat.{ℕ, _≤_, _<_}
+use Prim.Native.Nat.{ℕ, _+_, _≤_, _<_}
 use mathlib.Core.Path.{_≡_}
-use mathlib.Core.List.{List, _++_}
-use mathlib.Core.Logic.{_↔_}
+use mathlib.Core.List.{List, [], _∷_, _++_}
+use mathlib.Core.Logic.{_↔_, _⊎_}
 use mathlib.Core.Option.{some, none, bind}
 use lib.IntN.{ℤ, pos, _+ℤ_}
 use lib.ListN.{getD}
-use Rattle.calculus.specs.Term.{Sort, term, Exp, var, lam, app, con, case, nil, cons, end, branch, Term, count}
+use Rattle.calculus.specs.Term.{Sort, term, Exp, Term}
 use Rattle.calculus.specs.Words.{applicationKind, caseKind, kindOf, countBase, words, size, workspaceMost}
+use Rattle.calculus.specs.Everywhere.{anywhere, Asked, variables, Everywhere}
 use Rattle.calculus.specs.Accepted.{Accepted, indexLimit}
 use Rattle.calculus.specs.Read.{read}
 use Rattle.calculus.specs.Shift.{move}
 use Rattle.calculus.specs.Contraction.{Rule, by-beta, by-case, Contracts}
-use Rattle.calculus.specs.Conversion.{Reaches, Joined, Normal}
+use Rattle.calculus.specs.Conversion.{Contracts₁, Reaches, Joined, Normal}
 use Rattle.calculus.specs.Leftmost.{Contracts-leftmost, leftmost}
 use Rattle.calculus.specs.Position.{contractAt, redexAt}
 
@@ -21,16 +22,18 @@ abbrev pub Read-exact : Type 0
 Read-exact = (ws : List ℕ) (t : Term) → (read ws ≡ some t) ↔ ((words t ≡ ws) × Accepted 0 t)
 
 -- Argument and bound counts are below 16, so that a payload holds them beside the tag.
+abbrev pub counted : Asked (Unit {0})
+counted =
+    record {
+      places = anywhere;
+      of-variable = λ d i. Unit {0};
+      of-constructor = λ t n. n < countBase;
+      of-case = λ bs. Unit {0};
+      of-branch = λ t n. n < countBase;
+    }
+
 abbrev pub Packable : {s : Sort} → Exp s → Type 0
-Packable (var i) = Unit {0}
-Packable (lam b) = Packable b
-Packable (app f a) = Packable f × Packable a
-Packable (con t xs) = (count xs < countBase) × Packable xs
-Packable (case e bs) = Packable e × Packable bs
-Packable nil = Unit {0}
-Packable (cons a xs) = Packable a × Packable xs
-Packable end = Unit {0}
-Packable (branch t n b bs) = (n < countBase) × Packable b × Packable bs
+Packable e = Everywhere counted tt e
 
 -- The words of a term are never the start of another's. Without the bound on counts this is false: tag 1 with 16 arguments and tag 2 with none
 -- share a word.
@@ -79,13 +82,40 @@ abbrev pub Contraction-deterministic : Type 0
 Contraction-deterministic =
     (p : ℕ) (r r′ : Rule) (t u v : Term) → Contracts term p r t u → Contracts term p r′ t v → (r ≡ r′) × (u ≡ v)
 
+-- A contraction neither makes nor unmakes a redex that starts more than one word before it.
+abbrev pub Redexes-before-kept : Type 0
+Redexes-before-kept =
+    (p q : ℕ) (r : Rule) (t u : Term) → Contracts term p r t u → q + 1 < p → (contractAt q t ≡ none) ↔ (contractAt q u ≡ none)
+
 abbrev pub Contraction-keeps-accepted : Type 0
 Contraction-keeps-accepted =
     (d p : ℕ) (r : Rule) (t u : Term) → Contracts term p r t u → Accepted d t → Accepted d u
 
--- Two terms joined by a chain have a common reduct.
+-- The terms after the first, each one step of the relation from the term before it, and b last.
+abbrev pub Along : {A : Type 0} → (A → A → Type 0) → A → List A → A → Type 0
+Along R a [] b = a ≡ b
+Along R a (c ∷ cs) b = R a c × Along R c cs b
+
+-- Reaching is a finite list of contractions one after the other; a chain is a finite list of terms with any two neighbours one contraction apart,
+-- in either direction.
+abbrev pub Reaches-exact : Type 0
+Reaches-exact = (t u : Term) → Reaches t u ↔ ((vs : List Term) × Along Contracts₁ t vs u)
+
+abbrev pub Joined-exact : Type 0
+Joined-exact = (t u : Term) → Joined t u ↔ ((vs : List Term) × Along (λ v w. Contracts₁ v w ⊎ Contracts₁ w v) t vs u)
+
+abbrev pub Contraction-reaches : Type 0
+Contraction-reaches = (t u : Term) → Contracts₁ t u → Reaches t u
+
+abbrev pub Reaching-joins : Type 0
+Reaching-joins = (t u : Term) → Reaches t u → Joined t u
+
+abbrev pub Normal-reaches-itself : Type 0
+Normal-reaches-itself = (t u : Term) → Normal t → Reaches t u → t ≡ u
+
+-- Two terms are joined by a chain exactly if they have a common reduct.
 abbrev pub Church-Rosser : Type 0
-Church-Rosser = (t u : Term) → Joined t u → (v : Term) × Reaches t v × Reaches u v
+Church-Rosser = (t u : Term) → Joined t u ↔ ((v : Term) × Reaches t v × Reaches u v)
 
 abbrev pub Joined-normal-equal : Type 0
 Joined-normal-equal = (t u : Term) → Joined t u → Normal t → Normal u → t ≡ u
@@ -98,15 +128,7 @@ Normality-decidable = (t : Term) → Dec (Normal t)
 
 -- No index of the expression is above the limit.
 abbrev pub IndicesWithin : {s : Sort} → ℕ → Exp s → Type 0
-IndicesWithin limit (var i) = i ≤ limit
-IndicesWithin limit (lam b) = IndicesWithin limit b
-IndicesWithin limit (app f a) = IndicesWithin limit f × IndicesWithin limit a
-IndicesWithin limit (con t xs) = IndicesWithin limit xs
-IndicesWithin limit (case e bs) = IndicesWithin limit e × IndicesWithin limit bs
-IndicesWithin limit nil = Unit {0}
-IndicesWithin limit (cons a xs) = IndicesWithin limit a × IndicesWithin limit xs
-IndicesWithin limit end = Unit {0}
-IndicesWithin limit (branch t n b bs) = IndicesWithin limit b × IndicesWithin limit bs
+IndicesWithin limit e = Everywhere (variables anywhere (λ d i. i ≤ limit)) tt e
 
 abbrev pub Indices-bounded : Type 0
 Indices-bounded = (t : Term) → Accepted 0 t → size t ≤ workspaceMost → IndicesWithin indexLimit t

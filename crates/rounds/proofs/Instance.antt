@@ -9,8 +9,9 @@ use native.Mathlib.Decide.{ℕ-discrete, decLe, decLt}
 use native.Mathlib.Omega.{arith}
 use lib.ListN.{take, replicate}
 use Rattle.calculus.specs.Term.{Term, var, lam, app}
-use Rattle.calculus.specs.Decide.{both₃, both₄, isTag?, startsAbove?, rising?, accepted?}
+use Rattle.calculus.specs.Decide.{both₃, isTag?, startsAbove?, rising?, everywhere?, tagged?, accepted?}
 use Rattle.calculus.specs.Read.{takeTerm, takeTerms, takeBranches, readLam, readApp, readCon, readCase, readBranch, item, items, oneTerm, read}
+use Rattle.calculus.specs.Step.{firstStep}
 use Rattle.calculus.specs.Leftmost.{leftmost}
 use Rattle.calculus.specs.Equality.{tree, from-trees, equal?}
 use Rattle.calculus.specs.Workspace.{termAt}
@@ -67,7 +68,7 @@ pub record Computed : Type 0 where
   pub ended : Ended start calls Same 1 1
 
 pub computed : Computed
-unfolding press termAt read items item takeTerm takeTerms takeBranches readLam readApp readCon readCase readBranch oneTerm accepted? both₃ both₄ isTag? startsAbove? rising? Dec·and decLe decLt bind orElse leftmost tree from-trees equal? ℕ-discrete round rounds
+unfolding press termAt read items item takeTerm takeTerms takeBranches readLam readApp readCon readCase readBranch oneTerm accepted? everywhere? tagged? both₃ isTag? startsAbove? rising? Dec·and decLe decLt bind orElse firstStep leftmost tree from-trees equal? ℕ-discrete round rounds
 computed = record { answers = refl; after-two-calls = refl; after-all = refl; budget-in-one-go = refl; spent = refl; ended = (1, refl) }
 
 pub left-holds : Holds 16 leftTerm (start .left)

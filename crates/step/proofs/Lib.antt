@@ -1,5 +1,4 @@
 pub mod HeldLaws
-pub mod CopyLaws
 pub mod PartsTurns
 pub mod RedexLaws
 pub mod SearchLaws

@@ -4,7 +4,7 @@ use Prim.Native.Nat.{ℕ, _+_, _<_}
 use mathlib.Core.Path.{_≡_, refl, sym, _∙_, ap}
 use mathlib.Core.Bool.{Bool, true, false, cond}
 use mathlib.Core.List.{List, [], _∷_, _++_, append-assoc, append-nil}
-use mathlib.Core.Option.{Option, some, none}
+use mathlib.Core.Option.{Option, some, none, Option·map}
 use native.Mathlib.Omega.{arith}
 use lib.Dec.{eqb}
 use lib.ListN.{length, drop}
@@ -14,9 +14,8 @@ use Rattle.calculus.specs.Term.{Sort, Exp, Term, Terms, Branches, var, lam, app
 use Rattle.calculus.specs.Words.{variableKind, abstractionKind, applicationKind, constructorKind, caseKind, branchKind, kindBase, word, countBase, pack, words, size}
 use Rattle.calculus.specs.Skip.{skip}
 use Rattle.calculus.specs.Substitution.{subst as substitution}
-use Rattle.calculus.specs.Contraction.{select}
-use Rattle.calculus.specs.Leftmost.{beta, inspect}
-use Rattle.calculus.specs.Position.{contractAt}
+use Rattle.calculus.specs.Contraction.{Rule, by-case, select}
+use Rattle.calculus.specs.Position.{stepAt, contractAt}
 use Rattle.calculus.specs.Theorems.{Packable, IndicesWithin}
 use Rattle.calculus.proofs.WordLaws.{kindOf-word, payloadOf-word, tagOf-pack, countOf-pack}
 use Rattle.calculus.proofs.SkipLaws.{skip-words, skip-zero}
@@ -98,8 +97,8 @@ other-subject : (n k p at : ℕ) (ws : List ℕ) → k < kindBase → (k ≡ con
 unfolding parts
 other-subject n k p at ws l a = rw (kindOf-word caseKind n (omega arith), kindOf-word k p l, ne-eqb _ _ a)
 
-at-function : {W : List ℕ} (f a : Term) {at : ℕ} (vs : List ℕ) → Packable (app f a) → From W at (words (app f a) ++ vs) → Root W (app f a) (beta f a) (parts at (words (app f a) ++ vs))
-unfolding parts
+at-function : {W : List ℕ} (f a : Term) {at : ℕ} (vs : List ℕ) → Packable (app f a) → From W at (words (app f a) ++ vs) → Root W (app f a) (contractAt 0 (app f a)) (parts at (words (app f a) ++ vs))
+unfolding parts contractAt stepAt
 at-function (var i) a vs h s = rw (other-function variableKind i _ _ (omega arith) (λ e. omega arith)) stuck
 at-function (lam b) a {at} vs h s =
     let two : at + 1 + 1 ≡ at + 2 = omega arith in
@@ -110,8 +109,13 @@ at-function (app f g) a vs h s = stuck
 at-function (con t xs) a vs h s = rw (other-function constructorKind (pack t (count xs)) _ _ (omega arith) (λ e. omega arith)) stuck
 at-function (case e bs) a vs h s = rw (other-function caseKind (count bs) _ _ (omega arith) (λ e. omega arith)) stuck
 
+-- The results of a rule, without its name.
+abbrev results : Option (Rule × Term) → Option Term
+results o = Option·map (λ c. c .1) o
+
 root-selected : {W : List ℕ} {t : Term} {xs : Terms} {a : ℕ} {o : Option Term} {r : Found} → Selected W xs o r → Stands W a xs → count xs < countBase
-    → ((limit : ℕ) → IndicesWithin limit t → IndicesWithin limit xs) → Root W t o (withBody a (count xs) r)
+    → ((limit : ℕ) → IndicesWithin limit t → IndicesWithin limit xs)
+    → Root W t (results (Option·map (λ u. (by-case, u)) o)) (withBody a (count xs) r)
 root-selected nowhere s l i = stuck
 root-selected (body b) s l i = contracts b s l i
 
@@ -134,19 +138,20 @@ caseParts-words n t xs at vs h =
       countOf-pack t (count xs) (h .0),
     )
 
-at-subject : {W : List ℕ} (e : Term) (bs : Branches) {at : ℕ} (vs : List ℕ) → Packable (case e bs) → From W at (words (case e bs) ++ vs) → Root W (case e bs) (inspect e bs) (parts at (words (case e bs) ++ vs))
+at-subject : {W : List ℕ} (e : Term) (bs : Branches) {at : ℕ} (vs : List ℕ) → Packable (case e bs) → From W at (words (case e bs) ++ vs) → Root W (case e bs) (contractAt 0 (case e bs)) (parts at (words (case e bs) ++ vs))
+unfolding contractAt stepAt
 at-subject (var i) bs vs h s = rw (other-subject (count bs) variableKind i _ _ (omega arith) (λ e. omega arith)) stuck
 at-subject (lam b) bs vs h s = rw (other-subject (count bs) abstractionKind 0 _ _ (omega arith) (λ e. omega arith)) stuck
 at-subject (app f g) bs vs h s = rw (other-subject (count bs) applicationKind 0 _ _ (omega arith) (λ e. omega arith)) stuck
 at-subject (con t xs) bs {at} vs h s =
     let two : at + 1 + 1 ≡ at + 2 = omega arith in
     let s′ = rw (append-assoc (words (con t xs)) (words bs) vs) at (behind-word s) in
-    rw (append-assoc (words (con t xs)) (words bs) vs, parts-constructor (count bs) (pack t (count xs)) at (words xs ++ (words bs ++ vs)), caseParts-words (count bs) t xs at (words bs ++ vs) (h .0))
-    (root-selected (selected t xs bs vs (h .1) (behind (words (con t xs)) s′)) (stands xs (words bs ++ vs) (rw two at (behind-word s′)) (h .0 .1)) (h .0 .0) (λ limit i. i .0))
+    rw (append-assoc (words (con t xs)) (words bs) vs, parts-constructor (count bs) (pack t (count xs)) at (words xs ++ (words bs ++ vs)), caseParts-words (count bs) t xs at (words bs ++ vs) (h .1))
+    (root-selected (selected t xs bs vs (h .2) (behind (words (con t xs)) s′)) (stands xs (words bs ++ vs) (rw two at (behind-word s′)) (h .1 .1)) (h .1 .0) (λ limit i. i .1 .1))
 at-subject (case e cs) bs vs h s = rw (other-subject (count bs) caseKind (count cs) _ _ (omega arith) (λ e. omega arith)) stuck
 
 root-words : {W : List ℕ} (t : Term) {at : ℕ} (vs : List ℕ) → Packable t → From W at (words t ++ vs) → Root W t (contractAt 0 t) (parts at (words t ++ vs))
-unfolding contractAt
+unfolding contractAt stepAt
 root-words (var i) vs h s = rw (other-first variableKind i _ _ (omega arith) (λ e. omega arith) (λ e. omega arith)) stuck
 root-words (lam b) vs h s = rw (other-first abstractionKind 0 _ _ (omega arith) (λ e. omega arith) (λ e. omega arith)) stuck
 root-words (app f a) vs h s = at-function f a vs h s

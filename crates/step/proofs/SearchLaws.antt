@@ -11,7 +11,7 @@ use borrow.Author.Count.{below-more}
 use borrow.Author.Tests.{ltb-true, ltb-false}
 use Rattle.calculus.specs.Term.{Sort, Exp, Term, var, lam, app, con, case, nil, cons, end, branch}
 use Rattle.calculus.specs.Words.{branchKind, pack, words, size}
-use Rattle.calculus.specs.Position.{contractAt, redexAt}
+use Rattle.calculus.specs.Position.{through, stepAt, contractAt, redexAt}
 use Rattle.calculus.specs.Theorems.{Packable}
 use Rattle.step.specs.declared.redex.Redex.{Redex}
 use Rattle.step.specs.declared.redex.Redex.the-variants as redex
@@ -32,6 +32,10 @@ agrees-map : {A B : Type 0} (f : A → B) {o : Option A} {r : Redex} → Agrees 
 agrees-map f neither = neither
 agrees-map f both = both
 
+agrees-back : {A B : Type 0} (f : A → B) (o : Option A) {r : Redex} → Agrees (Option·map f o) r → Agrees o r
+agrees-back f none neither = neither
+agrees-back f (some a) both = both
+
 agrees-ltb : {A : Type 0} (m n : ℕ) {x y : Option A} {r : Redex} → (m < n → Agrees x r) → (n ≤ m → Agrees y r) → Agrees (cond (ltb m n) x y) r
 agrees-ltb m n {x} {y} {r} f g = go (ltb m n) refl
   where
@@ -51,36 +55,37 @@ agrees-none neither = refl
 
 -- The contractions at p of an expression, beside the parts found at the position q of a workspace.
 abbrev FoundAt : {s : Sort} → List ℕ → (q p : ℕ) → Exp s → Type 0
-FoundAt W q p e = Agrees (contractAt p e) (parts q (drop q W))
+FoundAt W q p e = Agrees (stepAt p e) (parts q (drop q W))
 
 found-root : (t : Term) {W : List ℕ} (at : ℕ) {q : ℕ} (vs : List ℕ) → Packable t → From W at (words t ++ vs) → at ≡ q → FoundAt W q 0 t
-found-root t {W} at vs h s e = subst (λ q. FoundAt W q 0 t) e (agrees-root (root (stands t vs s h)))
+unfolding contractAt
+found-root t {W} at vs h s e = subst (λ q. FoundAt W q 0 t) e (agrees-back (λ c. c .1) (stepAt 0 t) (agrees-root (root (stands t vs s h))))
 
 found-at : {s : Sort} (e : Exp s) {W : List ℕ} (at p : ℕ) {q : ℕ} (vs : List ℕ) → Packable e → From W at (words e ++ vs) → p < size e → at + p ≡ q → FoundAt W q p e
-unfolding contractAt
+unfolding stepAt
 found-at (var i) at p vs h s l e = found-root (var i) at vs h s (omega arith)
 found-at (lam b) at zero vs h s l e = found-root (lam b) at vs h s (omega arith)
-found-at (lam b) at (suc p) vs h s l e = agrees-map lam (found-at b (at + 1) p vs h (behind-word s) (omega arith) (omega arith))
+found-at (lam b) at (suc p) vs h s l e = agrees-map (through lam) (found-at b (at + 1) p vs h (behind-word s) (omega arith) (omega arith))
 found-at (app f a) at zero vs h s l e = found-root (app f a) at vs h s (omega arith)
 found-at (app f a) at (suc p) vs h s l e =
     let s′ = rw (append-assoc (words f) (words a) vs) at (behind-word s) in
     agrees-ltb p (size f)
-    (λ m. agrees-map (λ f′. app f′ a) (found-at f (at + 1) p (words a ++ vs) (h .0) s′ m (omega arith)))
-    (λ m. agrees-map (app f) (found-at a (at + 1 + size f) (p - size f) vs (h .1) (behind (words f) s′) (omega (arith, length-append (words f) (words a))) (omega arith)))
+    (λ m. agrees-map (through (λ f′. app f′ a)) (found-at f (at + 1) p (words a ++ vs) (h .0) s′ m (omega arith)))
+    (λ m. agrees-map (through (app f)) (found-at a (at + 1 + size f) (p - size f) vs (h .1) (behind (words f) s′) (omega (arith, length-append (words f) (words a))) (omega arith)))
 found-at (con t xs) at zero vs h s l e = found-root (con t xs) at vs h s (omega arith)
-found-at (con t xs) at (suc p) vs h s l e = agrees-map (con t) (found-at xs (at + 1) p vs (h .1) (behind-word s) (omega arith) (omega arith))
+found-at (con t xs) at (suc p) vs h s l e = agrees-map (through (con t)) (found-at xs (at + 1) p vs (h .1) (behind-word s) (omega arith) (omega arith))
 found-at (case c bs) at zero vs h s l e = found-root (case c bs) at vs h s (omega arith)
 found-at (case c bs) at (suc p) vs h s l e =
     let s′ = rw (append-assoc (words c) (words bs) vs) at (behind-word s) in
     agrees-ltb p (size c)
-    (λ m. agrees-map (λ c′. case c′ bs) (found-at c (at + 1) p (words bs ++ vs) (h .0) s′ m (omega arith)))
-    (λ m. agrees-map (case c) (found-at bs (at + 1 + size c) (p - size c) vs (h .1) (behind (words c) s′) (omega (arith, length-append (words c) (words bs))) (omega arith)))
+    (λ m. agrees-map (through (λ c′. case c′ bs)) (found-at c (at + 1) p (words bs ++ vs) (h .1) s′ m (omega arith)))
+    (λ m. agrees-map (through (case c)) (found-at bs (at + 1 + size c) (p - size c) vs (h .2) (behind (words c) s′) (omega (arith, length-append (words c) (words bs))) (omega arith)))
 found-at nil at p vs h s l e = absurd (omega arith)
 found-at (cons a xs) at p vs h s l e =
     let s′ = rw (append-assoc (words a) (words xs) vs) at s in
     agrees-ltb p (size a)
-    (λ m. agrees-map (λ a′. cons a′ xs) (found-at a at p (words xs ++ vs) (h .0) s′ m e))
-    (λ m. agrees-map (cons a) (found-at xs (at + size a) (p - size a) vs (h .1) (behind (words a) s′) (omega (arith, length-append (words a) (words xs))) (omega arith)))
+    (λ m. agrees-map (through (λ a′. cons a′ xs)) (found-at a at p (words xs ++ vs) (h .0) s′ m e))
+    (λ m. agrees-map (through (cons a)) (found-at xs (at + size a) (p - size a) vs (h .1) (behind (words a) s′) (omega (arith, length-append (words a) (words xs))) (omega arith)))
 found-at end at p vs h s l e = absurd (omega arith)
 found-at (branch t n b bs) at zero {q} vs h s l e =
     let z : q ≡ at = omega arith in
@@ -88,8 +93,8 @@ found-at (branch t n b bs) at zero {q} vs h s l e =
 found-at (branch t n b bs) at (suc p) vs h s l e =
     let s′ = rw (append-assoc (words b) (words bs) vs) at (behind-word s) in
     agrees-ltb p (size b)
-    (λ m. agrees-map (λ b′. branch t n b′ bs) (found-at b (at + 1) p (words bs ++ vs) (h .1) s′ m (omega arith)))
-    (λ m. agrees-map (branch t n b) (found-at bs (at + 1 + size b) (p - size b) vs (h .2) (behind (words b) s′) (omega (arith, length-append (words b) (words bs))) (omega arith)))
+    (λ m. agrees-map (through (λ b′. branch t n b′ bs)) (found-at b (at + 1) p (words bs ++ vs) (h .1) s′ m (omega arith)))
+    (λ m. agrees-map (through (branch t n b)) (found-at bs (at + 1 + size b) (p - size b) vs (h .2) (behind (words b) s′) (omega (arith, length-append (words b) (words bs))) (omega arith)))
 
 -- At each position of the held term.
 module _ {ws : List ℕ} {n : ℕ} (holds : Holds ws n) {p : ℕ} (within : p < n) where
@@ -100,10 +105,12 @@ module _ {ws : List ℕ} {n : ℕ} (holds : Holds ws n) {p : ℕ} (within : p < 
       (omega arith) (omega arith)
 
   redex-here : {b x m : ℕ} → parts p (drop p ws) ≡ redex.Parts b x m → (u : Term) × (contractAt p (held ws n) ≡ some u)
-  redex-here e = agrees-some (rw e at found-here)
+  unfolding contractAt
+  redex-here e = agrees-some (agrees-map (λ c. c .1) (rw e at found-here))
 
   pub no-redex-here : parts p (drop p ws) ≡ redex.Nothing → contractAt p (held ws n) ≡ none
-  no-redex-here e = agrees-none (rw e at found-here)
+  unfolding contractAt
+  no-redex-here e = agrees-none (agrees-map (λ c. c .1) (rw e at found-here))
 
 -- The turns of the search.
 module _ {ws : List ℕ} {n i : ℕ} (searched : Searched ws n i) where

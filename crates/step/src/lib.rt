@@ -6,13 +6,12 @@ use redex::parts;
 use substitution::substitute;
 use substitution::substituted_length;
 use words::extent;
+use words::slices::copy;
 ghost use mathlib.Core.Path.{_≡_};
-ghost use lib.Seq.{slice};
 ghost use Rattle.calculus.specs.Words.{size};
 ghost use Rattle.calculus.specs.Position.{redexAt};
-ghost use Rattle.substitution.specs.Rewritten.{Written};
+ghost use Rattle.words.specs.Placed.{Placed};
 ghost use Rattle.step.specs.Held.{held};
-ghost use Rattle.step.specs.Copies.{Copies};
 ghost use Rattle.step.specs.Search.{found, Searched};
 ghost use Rattle.step.specs.Next.{next, nextFrom, HoldsRedex, Gathers, HasRoom, Contracted};
 
@@ -41,21 +40,6 @@ pub fn find(ws: &[u32], n: usize, from: usize) -> Found
     Found::Nothing
 }
 
-// Copies the words from a position up to another, and returns the position after the copy.
-fn copy(src: &[u32], from: usize, to: usize, dst: &mut [u32], out: usize) -> usize
-    requires { ⌜ Copies (now src) from to (now dst) out ⌝ }
-    ensures { λ r. ⌜ Written (now (dst .entry)) out (slice from to (now (src .entry))) (now (dst .exit)) r ⌝ }
-{
-    let mut i = from;
-    let mut o = out;
-    while i < to {
-        dst[o] = src[i];
-        i += 1;
-        o += 1;
-    }
-    o
-}
-
 // The length of the term after the contraction of the redex at a position. Nothing is changed.
 pub fn next_length(ws: &[u32], n: usize, at: usize) -> usize
     requires { ⌜ HoldsRedex (now ws) n at ⌝ }
@@ -73,7 +57,7 @@ pub fn next_length(ws: &[u32], n: usize, at: usize) -> usize
 // Puts the contractum of the redex at a position and the words behind the redex at the start of the scratch, and returns how many words these are.
 fn gather(ws: &[u32], n: usize, at: usize, scratch: &mut [u32]) -> usize
     requires { ⌜ Gathers (now ws) n at (now scratch) ⌝ }
-    ensures { λ r. ⌜ Written (now (scratch .entry)) 0 (nextFrom (now (ws .entry)) n at) (now (scratch .exit)) r ⌝ }
+    ensures { λ r. ⌜ Placed (now (scratch .entry)) 0 (nextFrom (now (ws .entry)) n at) (now (scratch .exit)) r ⌝ }
 {
     match parts(ws, at) {
         Redex::Parts { body, args, count } => {

@@ -19,7 +19,7 @@ use Rattle.substitution.specs.Rewritten.{substituting, rewritten, place}
 use Rattle.substitution.specs.Results.{shifted, Shiftable, Substitutable}
 use Rattle.substitution.proofs.MoveLaws.{movable-up}
 use Rattle.substitution.proofs.ResultLaws.{starts-split, shifted-at, shiftable-at}
-use Rattle.substitution.proofs.ItemLaws.{size-shift}
+use Rattle.calculus.proofs.SizeLaws.{size-shift}
 use Rattle.substitution.proofs.StartLaws.{Placed, span-add}
 use Rattle.substitution.proofs.ArgumentLaws.{Argument, argument-some, place-index, rewritten-argument}
 

@@ -1,43 +1,19 @@
 -- An item of a workspace as a part of it: the words from a position up to the end that the code finds are those of one term.
-use Prim.Native.Nat.{ℕ, suc, _+_, _-_, _≤_, _<_}
+use Prim.Native.Nat.{ℕ, _+_, _-_, _≤_, _<_}
 use mathlib.Core.Path.{_≡_, refl, sym, _∙_, ap}
 use mathlib.Core.List.{List, [], append-nil}
 use native.Mathlib.Omega.{arith}
-use lib.IntN.{ℤ}
-use lib.ListN.{length, take, drop, length-append, length-take, length-drop}
+use lib.ListN.{length, take, drop, length-take, length-drop}
 use lib.Seq.{length-take-le}
-use Rattle.calculus.specs.Term.{Sort, Exp, Term, var, lam, app, con, case, nil, cons, end, branch}
+use Rattle.calculus.specs.Term.{Term}
 use Rattle.calculus.specs.Words.{workspaceMost, words, size}
 use Rattle.calculus.specs.Skip.{span}
 use Rattle.calculus.specs.First.{firstTerm}
-use Rattle.calculus.specs.Shift.{shift}
 use Rattle.calculus.proofs.WordLaws.{size-positive}
 use Rattle.calculus.proofs.SkipLaws.{span-bounded}
 use Rattle.calculus.proofs.FirstLaws.{span-items, firstTerm-words}
 use Rattle.substitution.specs.Results.{Starts, Whole, HasRoom, Substitutable}
 use Rattle.substitution.proofs.ResultLaws.{starts-split}
-
--- A shift keeps the number of words.
-pub size-shift : {s : Sort} (z : ℤ) (c : ℕ) (e : Exp s) → size (shift z c e) ≡ size e
-size-shift z c (var i) = refl
-size-shift z c (lam b) = ap suc (size-shift z (suc c) b)
-size-shift z c (app f a) =
-    omega (arith, length-append (words (shift z c f)) (words (shift z c a)), length-append (words f) (words a), size-shift z c f, size-shift z c a)
-size-shift z c (con t xs) = ap suc (size-shift z c xs)
-size-shift z c (case e bs) =
-    omega (arith, length-append (words (shift z c e)) (words (shift z c bs)), length-append (words e) (words bs), size-shift z c e, size-shift z c bs)
-size-shift z c nil = refl
-size-shift z c (cons a xs) =
-    omega (arith, length-append (words (shift z c a)) (words (shift z c xs)), length-append (words a) (words xs), size-shift z c a, size-shift z c xs)
-size-shift z c end = refl
-size-shift z c (branch t n b bs) =
-    omega (
-      arith,
-      length-append (words (shift z (c + n) b)) (words (shift z c bs)),
-      length-append (words b) (words bs),
-      size-shift z (c + n) b,
-      size-shift z c bs,
-    )
 
 -- A term stands at a position and ends at another.
 pub record Item (ws : List ℕ) (at last : ℕ) : Type 0 where

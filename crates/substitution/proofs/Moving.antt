@@ -16,7 +16,8 @@ use Rattle.substitution.specs.Moves.{Movable}
 use Rattle.substitution.specs.Depths.{depths}
 use Rattle.substitution.specs.Rewritten.{shifting, rewritten}
 use Rattle.substitution.specs.Results.{Starts, Whole}
-use Rattle.substitution.proofs.Traversal.{marked, flat, Every, every-first, every-rest, MovableWord}
+use Rattle.calculus.proofs.MarkedWords.{Every, every-first, every-rest}
+use Rattle.substitution.proofs.Traversal.{marked, flat, MovableWord}
 use Rattle.substitution.proofs.ResultLaws.{movable-starts, shift-starts}
 
 whole-starts : (item : List ℕ) → Whole item → Starts item (firstTerm item)

@@ -17,7 +17,8 @@ use Rattle.substitution.specs.Moves.{Movable}
 use Rattle.substitution.specs.Depths.{depths}
 use Rattle.substitution.specs.Rewritten.{shifting, substituting}
 use Rattle.substitution.specs.Results.{Starts, shifted, Shiftable, substituted, Substitutable}
-use Rattle.substitution.proofs.Traversal.{marked, inside, marked-term, flat, flat-shift, flat-subst, Every, MovableWord, movable-inside}
+use Rattle.calculus.proofs.MarkedWords.{inside, Every}
+use Rattle.substitution.proofs.Traversal.{marked, marked-term, flat, flat-shift, flat-subst, MovableWord, movable-inside}
 
 pub starts-words : {s : Sort} (e : Exp s) {ws : List ℕ} (vs : List ℕ) → ws ≡ words e ++ vs → Packable e → Starts ws e
 starts-words e vs q h = record { first = rw q (take-append-seam (words e) vs); packable = h }

@@ -2,33 +2,28 @@
 use Prim.Native.Nat.{ℕ, zero, suc, _+_, _*_, _-_, _≤_, _<_}
 use mathlib.Core.Path.{_≡_, refl, sym, _∙_, ap}
 use mathlib.Core.List.{List, [], _∷_, _++_, append-assoc}
-use native.Mathlib.Nat.{add-zero}
 use native.Mathlib.Numerals.{add-one}
 use native.Mathlib.Omega.{arith}
-use lib.ListN.{length, getD, take, drop, set, length-append, length-drop, drop-of-length-le, List·getD-append}
+use lib.ListN.{length, getD, take, drop, length-append, length-drop, drop-of-length-le, List·getD-append}
 use lib.Seq.{sets, length-sets, sets-eq, drop-cons, getD-drop}
 use borrow.Rule.Slice.PartMut.{putMid, post-is}
 use Rattle.calculus.specs.Term.{Term}
 use Rattle.calculus.specs.Words.{workspaceMost, countBase}
 use Rattle.calculus.specs.Skip.{span}
+use Rattle.words.specs.Placed.{Placed}
+use Rattle.words.proofs.PlacedLaws.{sets-append}
 use Rattle.substitution.specs.Depths.{depths}
-use Rattle.substitution.specs.Rewritten.{rewritten, Written}
+use Rattle.substitution.specs.Rewritten.{rewritten}
 use Rattle.substitution.proofs.DepthLaws.{length-depths, span-depths, depths-within, Bounded, bounded-depths}
 use Rattle.substitution.proofs.Traversal.{marked, flat}
 use Rattle.substitution.proofs.ItemLaws.{Item}
 
-sets-append : (xs ys l : List ℕ) (i : ℕ) → sets l i (xs ++ ys) ≡ sets (sets l i xs) (i + length xs) ys
-sets-append [] ys l i = ap (λ k. sets l k ys) (sym (add-zero i))
-sets-append (x ∷ xs) ys l i =
-    let e : suc i + length xs ≡ i + suc (length xs) = omega arith in
-    sets-append xs ys (set l i x) (suc i) ∙ ap (λ k. sets (sets l i (x ∷ xs)) k ys) e
-
-pub written-as : {before after vs us : List ℕ} {out end : ℕ} → vs ≡ us → Written before out vs after end → Written before out us after end
+pub written-as : {before after vs us : List ℕ} {out end : ℕ} → vs ≡ us → Placed before out vs after end → Placed before out us after end
 written-as e v = rw e at v
 
 -- A part of a slice written and put back.
 pub written-part : (before vs : List ℕ) (out last : ℕ) → out ≤ last → last ≤ length before → length vs ≡ last - out
-    → Written before out vs (putMid out (last - out) before vs) last
+    → Placed before out vs (putMid out (last - out) before vs) last
 written-part before vs out last h g l =
     let e : out + length vs ≡ last = omega arith in
     record {
@@ -118,7 +113,7 @@ module _ {src : List ℕ} {at : ℕ} {depth : List ℕ} {count : ℕ} (h : Found
         pub writing-room : o + length here ≤ out + length (flat f (ahead src at 0))
         writing-room = omega (arith, v .position, length-next)
 
-        pub writing-next : {dst′ : List ℕ} {o′ : ℕ} → Written dst o here dst′ o′ → Writing f src at dst₀ out dst′ o′ (k + 1)
+        pub writing-next : {dst′ : List ℕ} {o′ : ℕ} → Placed dst o here dst′ o′ → Writing f src at dst₀ out dst′ o′ (k + 1)
         writing-next n =
             record {
               same-length = ap length (n .slice) ∙ length-sets dst o here ∙ v .same-length;
@@ -129,7 +124,7 @@ module _ {src : List ℕ} {at : ℕ} {depth : List ℕ} {count : ℕ} (h : Found
             }
 
   pub writing-done : (f : ℕ → ℕ → Term) {dst₀ : List ℕ} {out : ℕ} {dst : List ℕ} {o k : ℕ} → Writing f src at dst₀ out dst o k → count ≤ k
-      → Written dst₀ out (flat f (ahead src at 0)) dst o
+      → Placed dst₀ out (flat f (ahead src at 0)) dst o
   writing-done f {k = k} v past =
       let e = ahead-none k past in
       record { slice = rw e at (v .work); position = omega (arith, rw e at (v .position)) }

@@ -1,12 +1,9 @@
--- What becomes of a single word where terms are put for variables, and what a function that writes words leaves behind.
-use Prim.Native.Nat.{ℕ, _+_, _-_}
-use mathlib.Core.Path.{_≡_}
+-- What becomes of a single word where terms are put for variables.
+use Prim.Native.Nat.{ℕ, _-_}
 use mathlib.Core.Bool.{cond}
 use mathlib.Core.List.{List, [], _∷_}
 use lib.Dec.{ltb, eqb}
 use lib.IntN.{ℤ}
-use lib.ListN.{length}
-use lib.Seq.{sets}
 use Rattle.calculus.specs.Term.{Term, Terms, var}
 use Rattle.calculus.specs.Words.{variableKind, kindOf, payloadOf, words}
 use Rattle.calculus.specs.Shift.{shift}
@@ -32,8 +29,3 @@ place n d w =
     (cond (ltb (payloadOf w - d) n) (n - 1 - (payloadOf w - d))
     n))
     n
-
--- The words vs stand at position out of a slice, all else there is unchanged, and `end` is the position after them.
-pub record Written (before : List ℕ) (out : ℕ) (vs : List ℕ) (after : List ℕ) (end : ℕ) : Type 0 where
-  pub slice : after ≡ sets before out vs
-  pub position : end ≡ out + length vs

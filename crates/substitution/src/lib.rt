@@ -17,7 +17,7 @@ ghost use lib.ListN.{length, drop, getD};
 ghost use Rattle.calculus.specs.Words.{words, size, workspaceMost};
 ghost use Rattle.calculus.specs.Accepted.{argumentLimit};
 ghost use Rattle.calculus.specs.Skip.{span};
-ghost use Rattle.substitution.specs.Rewritten.{Written};
+ghost use Rattle.words.specs.Placed.{Placed};
 ghost use Rattle.substitution.specs.Results.{HasRoom, numbered, Shiftable, shifted, Substitutable, substituted};
 
 // Bodies up to this length get a small room for their numbers of binders: for a short body most of the time would go to setting up the large one.
@@ -52,7 +52,7 @@ fn shift_item(
 ) -> usize
     requires { ⌜ Shiftable (now src) at distance × (end ≡ at + span 1 (drop at (now src))) ⌝ }
     requires { ⌜ out + size (shifted (now src) at distance) ≤ length (now dst) ⌝ }
-    ensures { λ r. ⌜ Written (now (dst .entry)) out (words (shifted (now (src .entry)) at distance)) (now (dst .exit)) r ⌝ }
+    ensures { λ r. ⌜ Placed (now (dst .entry)) out (words (shifted (now (src .entry)) at distance)) (now (dst .exit)) r ⌝ }
 {
     let after = out + (end - at);
     shift_whole(&src[at..end], distance, &mut dst[out..after]);
@@ -63,7 +63,7 @@ fn shift_item(
 pub fn shift(src: &[u32], at: usize, distance: i32, dst: &mut [u32], out: usize) -> usize
     requires { ⌜ Shiftable (now src) at distance ⌝ }
     requires { ⌜ out + size (shifted (now src) at distance) ≤ length (now dst) ⌝ }
-    ensures { λ r. ⌜ Written (now (dst .entry)) out (words (shifted (now (src .entry)) at distance)) (now (dst .exit)) r ⌝ }
+    ensures { λ r. ⌜ Placed (now (dst .entry)) out (words (shifted (now (src .entry)) at distance)) (now (dst .exit)) r ⌝ }
 {
     let end = extent(src, at);
     shift_item(src, at, end, distance, dst, out)
@@ -83,7 +83,7 @@ fn substitute_within(
     requires { ⌜ Substitutable (now src) body args n ⌝ }
     requires { ⌜ out + size (substituted (now src) body args n) ≤ length (now dst) ⌝ }
     requires { ⌜ HasRoom (now src) body end (now room) ⌝ }
-    ensures { λ r. ⌜ Written (now (dst .entry)) out (words (substituted (now (src .entry)) body args n)) (now (dst .exit)) r ⌝ }
+    ensures { λ r. ⌜ Placed (now (dst .entry)) out (words (substituted (now (src .entry)) body args n)) (now (dst .exit)) r ⌝ }
     ensures { λ r. ⌜ now (room .exit) ≡ numbered (now (src .entry)) body end (now (room .entry)) ⌝ }
 {
     let count = end - body;
@@ -119,7 +119,7 @@ pub fn substitute(
 ) -> usize
     requires { ⌜ Substitutable (now src) body args n ⌝ }
     requires { ⌜ out + size (substituted (now src) body args n) ≤ length (now dst) ⌝ }
-    ensures { λ r. ⌜ Written (now (dst .entry)) out (words (substituted (now (src .entry)) body args n)) (now (dst .exit)) r ⌝ }
+    ensures { λ r. ⌜ Placed (now (dst .entry)) out (words (substituted (now (src .entry)) body args n)) (now (dst .exit)) r ⌝ }
 {
     let end = extent(src, body);
     if end - body <= SMALL {

@@ -53,11 +53,10 @@ module _ (T : Table) (L : Linked T) (values : Valued T) (fits : Fitted T) where
       let parts = and-eq-true-iff (freeFits d g) (freeFits d a) .0 f in
       let both = means-accepted m d (and-eq-true-iff _ _ .1 (parts .0, alone (parts .1))) in
       (both .0, both .1 .0)
-  means-accepted (constructor k m) d f = let own = constructor-fits k m in (own .0, own .1, means-accepted m d f)
+  means-accepted (constructor k m) d f = (constructor-fits k m, means-accepted m d f)
   means-accepted (case-of {e = e} {bs = bs} k m ms) d f =
       let parts = and-eq-true-iff (freeFits d e) (freeFits d bs) .0 f in
-      let own = case-fits k m ms in
-      (means-accepted m d (parts .0), own .0, own .1, means-accepted ms d (parts .1))
+      (case-fits k m ms, means-accepted m d (parts .0), means-accepted ms d (parts .1))
   means-accepted no-term d f = tt
   means-accepted (a-term {a = a} {xs = xs} m ms) d f =
       let parts = and-eq-true-iff (freeFits d a) (freeFits d xs) .0 f in
@@ -65,5 +64,4 @@ module _ (T : Table) (L : Linked T) (values : Valued T) (fits : Fitted T) where
   means-accepted no-branch d f = tt
   means-accepted {i = i} (a-branch {b = b} {bs = bs} k m ms) d f =
       let parts = and-eq-true-iff (freeFits (d + countOf (T .at i .value)) b) (freeFits d bs) .0 f in
-      let own = branch-fits k in
-      (own .0, own .1, means-accepted m _ (alone (parts .0)) .0, means-accepted ms d (parts .1))
+      (branch-fits k, means-accepted m _ (alone (parts .0)) .0, means-accepted ms d (parts .1))

@@ -70,8 +70,8 @@ entries-of (case t bs) i j m ks rest h e =
     (arity-case (count bs)) (term-span (case t bs) rest h)
     ∙ same-entry caseKind refl (rw (eqb·suc-zero (count bs))) (ap (linkIf m) (sym e))
     (two-parts (suc i) (suc (count bs) ∷ push m ks) (words t) (words bs) rest (records (suc i) (linkTo (suc i + size t) bs) t) (records (suc i + size t) 0 bs) _
-    (entries-of t (suc i) (suc i + size t) (count bs) (push m ks) (words bs ++ rest) (h .0) refl)
-    (entries-of bs (suc i + size t) j 0 (push m ks) rest (h .1) (omega (arith, e, length-append (words t) (words bs)))))
+    (entries-of t (suc i) (suc i + size t) (count bs) (push m ks) (words bs ++ rest) (h .1) refl)
+    (entries-of bs (suc i + size t) j 0 (push m ks) rest (h .2) (omega (arith, e, length-append (words t) (words bs)))))
 entries-of nil i j m ks rest h e = let same : i ≡ j = omega (arith, e) in ap (λ n. entries n ks rest) same
 entries-of (cons a xs) i j m ks rest h e =
     two-parts i (suc (count xs) ∷ ks) (words a) (words xs) rest (records i (linkTo (i + size a) xs) a) (records (i + size a) 0 xs) _

@@ -25,7 +25,6 @@ pub mod Hanging
 pub mod Walks
 pub mod ShapeLaws
 pub mod ReadingLaws
-pub mod Stores
 pub mod ReadingMeaning
 pub mod LoadCode
 pub mod EntriesLaws

@@ -13,13 +13,14 @@ use Rattle.calculus.specs.Workspace.{padded}
 use Rattle.tables.specs.Records.{view1}
 use Rattle.tables.specs.Load.{returned, Loaded, checks, firstMet, load}
 use Rattle.tables.specs.Theorems.{Meant, NoneMet}
-use Rattle.tables.specs.Reading.{termWords, Readable, Placed}
+use Rattle.words.specs.Placed.{Placed}
+use Rattle.tables.specs.Reading.{termWords, Readable}
 use Rattle.tables.proofs.Links.{linked}
 use Rattle.tables.proofs.Fits.{valued}
 use Rattle.tables.proofs.LoadLaws.{Passes, passes, unmet-means, load-returned}
 use Rattle.tables.proofs.RecordLaws.{rooted}
 use Rattle.tables.proofs.ReadingMeaning.{means-spelled}
-use Rattle.tables.proofs.Stores.{placed-length}
+use Rattle.words.proofs.PlacedLaws.{placed-length}
 
 none-first : (cs : List (ℕ × Bool)) → firstMet cs ≡ none → NoneMet cs
 none-first [] h = tt
@@ -71,7 +72,7 @@ module _ (table workspace : List ℕ) (h : firstMet (checks table (length worksp
       kept = rw (ends, placed) (take-append-seam (words (meant .meant)) _)
 
       zeros : length after - end ≡ length workspace - size (meant .meant)
-      zeros = omega (arith, placed-length _ _ _ _ _ p, ends)
+      zeros = omega (arith, placed-length p, ends)
 
       held : last ≡ padded (length workspace) (words (meant .meant))
       held = e ∙ ap₂ (λ ws n. ws ++ replicate n 0) kept zeros

@@ -11,7 +11,8 @@ use lib.Dec.{eqb}
 use lib.ListN.{length}
 use borrow.Author.Tests.{eqb-true}
 use Rattle.calculus.specs.Term.{Sort, term, terms, branches, Exp, Term, Branches, count}
-use Rattle.calculus.specs.Words.{abstractionKind, applicationKind, caseKind, word, words, pack, tagOf, countOf}
+use Rattle.calculus.specs.Words.{abstractionKind, applicationKind, caseKind, word, words, countOf}
+use Rattle.calculus.proofs.WordLaws.{pack-of-parts}
 use Rattle.words.specs.Bound.{binding}
 use Rattle.tables.specs.Records.{Table, view1}
 use Rattle.tables.specs.Meaning.{Means, variable, abstraction, application, constructor, case-of, no-term, a-term, no-branch, a-branch}
@@ -24,10 +25,6 @@ use Rattle.tables.proofs.Children.{terms-chain, branches-chain}
 use Rattle.tables.proofs.Exists.{record-means}
 use Rattle.tables.proofs.Hanging.{chain-next}
 use Rattle.tables.proofs.ReadingLaws.{chainWords-end, chainWords-record, chainScoped-end, chainScoped-record}
-
--- The value of a branch is its tag and its bound count.
-repacked : (v : ℕ) → pack (tagOf v) (countOf v) ≡ v
-repacked v = omega arith
 
 module _ (T : Table) (L : Linked T) (values : Valued T) where
   -- An abstraction and an application have the value 0.
@@ -66,7 +63,7 @@ module _ (T : Table) (L : Linked T) (values : Valued T) where
       chainWords-record T L i (r .0) (r .1) ∙ ap₂ _++_ (means-spelled m) (means-spelled ms)
   means-spelled no-branch = chainWords-end T 0 refl
   means-spelled {i = i} (a-branch {b = b} k m ms) =
-      chainWords-record T L i (k .0) (k .1) ∙ rw (k .2, repacked, means-spelled m, append-nil (words b), means-spelled ms)
+      chainWords-record T L i (k .0) (k .1) ∙ rw (k .2, pack-of-parts, means-spelled m, append-nil (words b), means-spelled ms)
 
   abbrev Scoped : {s : Sort} → ℕ → ℕ → Exp s → Type 0
   Scoped {s = term} i d e = termScoped T i d ≡ freeFits d e

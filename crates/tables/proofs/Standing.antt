@@ -97,8 +97,8 @@ stand-means T (con t xs) i x l u p h =
 stand-means T (case e bs) i x l u p h =
     let room = length-append (words e) (words bs) in
     let both = stand-both T e bs (suc i) (linkTo (suc i + size e) bs) 0 (h .1) in
-    let m = stand-means T e (suc i) (linkTo (suc i + size e) bs) (omega arith) (omega arith) (p .0) (both .0) in
-    let ms = stand-means T bs (suc i + size e) 0 (omega arith) (omega arith) (p .1) (both .1) in
+    let m = stand-means T e (suc i) (linkTo (suc i + size e) bs) (omega arith) (omega arith) (p .1) (both .0) in
+    let ms = stand-means T bs (suc i + size e) 0 (omega arith) (omega arith) (p .2) (both .1) in
     case-of {e = e} {bs = bs} (l, omega arith, ap (λ r. r .kind) (h .0)) (rw (h .0) m) (rw (h .0) (rw (stand-next T e _ _ (both .0)) ms))
 stand-means T nil i x l u p h = no-term
 stand-means T (cons a xs) i x l u p h =

@@ -34,7 +34,7 @@ unfolding valueFits
 value-passes T (var v) i x d a w h = rw (h .0) (omega arith, le-leb v indexLimit w)
 value-passes T (lam b) i x d a w h = rw (h .0) (omega arith, refl)
 value-passes T (app f g) i x d a w h = rw (h .0) (omega arith, refl)
-value-passes T (con t xs) i x d a w h = rw (h .0) (omega arith, tag-passes t (a .0))
+value-passes T (con t xs) i x d a w h = rw (h .0) (omega arith, tag-passes t (a .0 .0))
 value-passes T (case e bs) i x d a w h = rw (h .0) (omega arith, refl)
 
 -- A property of a range of indices, by its first one or by two parts.
@@ -57,9 +57,9 @@ module _ (T : Table) (L : Linked T) where
       rw (k .2, counted .0, counted .1)
   term-children {i} d (constructor {xs = xs} k m) a =
       let counted = terms-chain T L m (T .n) (children-enough T L i (k .0) (k .1)) in
-      rw (k .2, counted .0, counted .1, le-leb (count xs) argumentLimit (a .1))
+      rw (k .2, counted .0, counted .1, le-leb (count xs) argumentLimit (a .0 .1))
   term-children {i} d (case-of k m ms) a =
-      rw (k .2) (case-chain T L m ms (T .n) (children-enough T L i (k .0) (k .1)) .1 (a .1, a .2))
+      rw (k .2) (case-chain T L m ms (T .n) (children-enough T L i (k .0) (k .1)) .1 (a .0))
 
   branch-children : {i : ℕ} {b : Term} → OfKind T branchKind i → Means T terms (T .at i .first) (cons b nil)
       → childrenFit (T .at i .kind) (children T i) ≡ true
@@ -84,12 +84,12 @@ module _ (T : Table) (L : Linked T) where
   branch-fits t n b bs i x d l u a h =
       let room = length-append (words b) (words bs) in
       let both = stand-both T b bs (suc i) 0 0 (h .1) in
-      let body = stand-means T b (suc i) 0 (omega arith) (omega arith) (accepted-packable _ b (a .2)) (both .0) in
+      let body = stand-means T b (suc i) 0 (omega arith) (omega arith) (accepted-packable _ b (a .1)) (both .0) in
       let small : n < countBase = omega arith in
       let k : OfKind T branchKind i = (l, omega arith, ap (λ r. r .kind) (h .0)) in
       record {
         known-kind = rw (h .0) (omega arith);
-        value-fits = rw (h .0, tagOf-pack, countOf-pack, tag-passes t (a .0), le-leb n argumentLimit (a .1));
+        value-fits = rw (h .0, tagOf-pack, countOf-pack, tag-passes t (a .0 .0), le-leb n argumentLimit (a .0 .1));
         children-fit = branch-children {b = b} k (rw (h .0) (then body (stand-next T b _ 0 (both .0)) no-term));
       }
 
@@ -108,14 +108,14 @@ module _ (T : Table) (L : Linked T) where
       (λ j v u′. stand-fits g (suc i + size f) 0 d (omega arith) (omega arith) (a .1) (w .1) (both .1) j v (omega arith)))
   stand-fits (con t xs) i x d l u a w h =
       from-first (Fits T) i _ (own-fits (con t xs) i x d l u a w h)
-      (λ j v u′. stand-fits xs (suc i) 0 d (omega arith) (omega arith) (a .2) w (h .1) j v (omega arith))
+      (λ j v u′. stand-fits xs (suc i) 0 d (omega arith) (omega arith) (a .1) (w .1) (h .1) j v (omega arith))
   stand-fits (case e bs) i x d l u a w h =
       let room = length-append (words e) (words bs) in
       let both = stand-both T e bs (suc i) (linkTo (suc i + size e) bs) 0 (h .1) in
       from-first (Fits T) i _ (own-fits (case e bs) i x d l u a w h)
       (by-parts (Fits T) (suc i) (suc i + size e) _
-      (stand-fits e (suc i) (linkTo (suc i + size e) bs) d (omega arith) (omega arith) (a .0) (w .0) (both .0))
-      (λ j v u′. stand-fits bs (suc i + size e) 0 d (omega arith) (omega arith) (a .3) (w .1) (both .1) j v (omega arith)))
+      (stand-fits e (suc i) (linkTo (suc i + size e) bs) d (omega arith) (omega arith) (a .1) (w .1) (both .0))
+      (λ j v u′. stand-fits bs (suc i + size e) 0 d (omega arith) (omega arith) (a .2) (w .2) (both .1) j v (omega arith)))
   stand-fits nil i x d l u a w h = λ j v u′. absurd (omega arith)
   stand-fits (cons g xs) i x d l u a w h =
       let room = length-append (words g) (words xs) in
@@ -129,5 +129,5 @@ module _ (T : Table) (L : Linked T) where
       let both = stand-both T b bs (suc i) 0 0 (h .1) in
       from-first (Fits T) i _ (branch-fits t n b bs i x d l u a h)
       (by-parts (Fits T) (suc i) (suc i + size b) _
-      (stand-fits b (suc i) 0 (d + n) (omega arith) (omega arith) (a .2) (w .0) (both .0))
-      (λ j v u′. stand-fits bs (suc i + size b) 0 d (omega arith) (omega arith) (a .3) (w .1) (both .1) j v (omega arith)))
+      (stand-fits b (suc i) 0 (d + n) (omega arith) (omega arith) (a .1) (w .1) (both .0))
+      (λ j v u′. stand-fits bs (suc i + size b) 0 d (omega arith) (omega arith) (a .2) (w .2) (both .1) j v (omega arith)))

@@ -2,12 +2,11 @@
 use Prim.Native.Nat.{ℕ, _+_, _*_, _≤_}
 use mathlib.Core.Path.{_≡_, refl, sym, ap, _∙_}
 use mathlib.Core.Bool.{Bool, true, false, cond}
-use mathlib.Core.List.{List, [], _∷_, append-nil}
+use mathlib.Core.List.{List, [], _∷_}
 use mathlib.Core.Option.{some, none, Option·none-ne-some}
-use native.Mathlib.Omega.{arith}
 use lib.Dec.{leb, ltb}
-use lib.ListN.{length, take, drop-of-length-le}
-use lib.Seq.{sets, sets-eq, length-take-le}
+use lib.ListN.{length, take}
+use lib.Seq.{sets, length-take-le}
 use borrow.Author.Tests.{leb-true, ltb-false, eq-eqb}
 use Rattle.calculus.specs.Term.{Term}
 use Rattle.calculus.specs.Words.{words, size, workspaceLeast, workspaceMost}
@@ -16,6 +15,7 @@ use Rattle.calculus.specs.Read.{read}
 use Rattle.calculus.specs.Workspace.{termAt}
 use Rattle.calculus.proofs.WordLaws.{accepted-packable}
 use Rattle.calculus.proofs.ReadLaws.{read-sound, read-accepted}
+use Rattle.words.proofs.PlacedLaws.{sets-whole}
 use Rattle.tables.specs.Records.{form, recordWords, recordsWords}
 use Rattle.tables.specs.Refusals.{wrongWorkspace}
 use Rattle.tables.specs.Load.{returned}
@@ -51,12 +51,6 @@ held ws n t h = go (leb n (length ws)) refl h
           size-is = ap length are ∙ length-take-le n ws within;
         }
 
--- Stores over a whole slice.
-sets-all : (l vs : List ℕ) → length vs ≡ length l → sets l 0 vs ≡ vs
-sets-all l vs e =
-    let past : length l ≤ 0 + length vs = omega arith in
-    sets-eq vs l 0 (omega arith) ∙ rw (drop-of-length-le l past) (append-nil vs)
-
 -- The header and then the records, over the whole table.
 pub written : (ws table headed last : List ℕ) (n : ℕ) (t : Term) → wrongWorkspace (length ws) ≡ false → termAt ws n ≡ some t
     → length table ≡ recordWords * (n + 1) → headed ≡ sets table 0 (recordsWords (entry form n 1 0 ∷ []))
@@ -75,4 +69,4 @@ written ws table headed last n t w h e f g = rw (w, h, eq-eqb (length table) (re
     length-is = tableOf-length t ∙ rw (holds .size-is) (sym e)
 
     all : last ≡ tableOf t
-    all = g ∙ rw (f, found, ← holds .size-is) (sets-all table (tableOf t) length-is)
+    all = g ∙ rw (f, found, ← holds .size-is) (sets-whole (tableOf t) table length-is)

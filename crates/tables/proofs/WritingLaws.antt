@@ -1,15 +1,16 @@
 -- What the writer's steps leave: the four words of a record, and the levels with one more.
 use Prim.Native.Nat.{ℕ, zero, suc, _+_, _-_, _*_, _^_, _≤_, _<_}
-use mathlib.Core.Path.{_≡_, refl, ap, ap₂, _∙_}
+use mathlib.Core.Path.{_≡_, refl, ap, _∙_}
 use mathlib.Core.Bool.{Bool, true, false, cond}
 use mathlib.Core.List.{List, [], _∷_}
 use native.Mathlib.Numerals.{add-one, add-two, add-three}
 use native.Mathlib.Omega.{arith}
 use lib.Dec.{eqb}
-use lib.ListN.{length, drop, getD, set, length-set, drop-of-length-le}
-use lib.Seq.{sets, length-sets, drop-cons, drop-set-lt, getD-set-same}
+use lib.ListN.{length, drop, getD, set, drop-of-length-le}
+use lib.Seq.{sets, length-sets, drop-cons}
 use Rattle.calculus.specs.Words.{workspaceMost}
 use Rattle.calculus.specs.Skip.{arity, span}
+use Rattle.words.proofs.PlacedLaws.{drop-set}
 use Rattle.tables.specs.Records.{Record, recordWords, recordsWords}
 use Rattle.tables.specs.Writing.{linkIf, push, entryOf, entries, Puttable, Pushed, Descended}
 
@@ -23,17 +24,12 @@ push-some : (items : ℕ) (ks : List ℕ) → (items ≡ 0 → ⊥) → items �
 push-some zero ks h = absurd (h refl)
 push-some (suc k) ks h = refl
 
--- What stands from p on after a store there.
-drop-stored : (l : List ℕ) (p v : ℕ) → p < length l → drop p (set l p v) ≡ v ∷ drop (suc p) l
-drop-stored l p v h =
-    drop-cons (set l p v) p 0 (omega (arith, length-set l p v)) ∙ ap₂ _∷_ (getD-set-same l p v 0 h) (drop-set-lt (suc p) l p v (omega arith))
-
 pub pushed-some : (levels : List ℕ) (top items : ℕ) → (items ≡ 0 → ⊥) → 1 ≤ top → top ≤ length levels
     → Pushed levels top items (set levels (top - 1) items) (top - 1)
 pushed-some levels top items h l u =
     let e : suc (top - 1) ≡ top = omega arith in
     record {
-      levels = drop-stored levels (top - 1) items (omega arith) ∙ rw e (push-some items (drop top levels) h);
+      levels = drop-set levels (top - 1) items (omega arith) ∙ rw e (push-some items (drop top levels) h);
       least = omega arith;
       most = omega arith;
     }

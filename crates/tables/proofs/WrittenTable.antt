@@ -31,12 +31,12 @@ accepted-free : {s : Sort} (e : Exp s) (d : ℕ) → Accepted d e → freeFits d
 accepted-free (var i) d a = le-leb i (d + freeLimit) a
 accepted-free (lam b) d a = accepted-free b (suc d) a
 accepted-free (app f g) d a = and-eq-true-iff _ _ .1 (accepted-free f d (a .0), accepted-free g d (a .1))
-accepted-free (con t xs) d a = accepted-free xs d (a .2)
-accepted-free (case e bs) d a = and-eq-true-iff _ _ .1 (accepted-free e d (a .0), accepted-free bs d (a .3))
+accepted-free (con t xs) d a = accepted-free xs d (a .1)
+accepted-free (case e bs) d a = and-eq-true-iff _ _ .1 (accepted-free e d (a .1), accepted-free bs d (a .2))
 accepted-free nil d a = refl
 accepted-free (cons g xs) d a = and-eq-true-iff _ _ .1 (accepted-free g d (a .0), accepted-free xs d (a .1))
 accepted-free end d a = refl
-accepted-free (branch t n b bs) d a = and-eq-true-iff _ _ .1 (accepted-free b (d + n) (a .2), accepted-free bs d (a .3))
+accepted-free (branch t n b bs) d a = and-eq-true-iff _ _ .1 (accepted-free b (d + n) (a .1), accepted-free bs d (a .2))
 
 pub tableOf-length : (t : Term) → length (tableOf t) ≡ recordWords * (size t + 1)
 tableOf-length t = omega (arith, recordsWords-length (records 1 0 t), records-length t 1 0)

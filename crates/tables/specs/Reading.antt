@@ -6,7 +6,6 @@ use mathlib.Core.Bool.{Bool, true, false, cond, _&&_}
 use mathlib.Core.List.{List, [], _∷_, _++_}
 use lib.Dec.{leb, eqb}
 use lib.ListN.{length}
-use lib.Seq.{sets}
 use Rattle.calculus.specs.Words.{variableKind, constructorKind, caseKind, kindBase, word, pack}
 use Rattle.calculus.specs.Accepted.{argumentLimit, freeLimit}
 use Rattle.words.specs.Limits.{payloadBound}
@@ -73,8 +72,3 @@ pub record Readable (table : List ℕ) (link : ℕ) : Type 0 where
 -- There are no more binders than the records passed can have put around.
 abbrev pub Shallow : (table : List ℕ) (link d : ℕ) → Type 0
 Shallow table l d = d + argumentLimit * ahead (view1 table) l ≤ argumentLimit * suc (view1 table .n)
-
--- The words vs stand at position out of a slice, all else there is unchanged, and `end` is the position after them.
-pub record Placed (before : List ℕ) (out : ℕ) (vs : List ℕ) (after : List ℕ) (end : ℕ) : Type 0 where
-  pub slice : after ≡ sets before out vs
-  pub position : end ≡ out + length vs

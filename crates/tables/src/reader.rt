@@ -4,7 +4,8 @@ use crate::shape::chain_length;
 ghost use Prim.Native.Nat.{_+_, _≤_};
 ghost use lib.ListN.{length};
 ghost use Rattle.tables.specs.Records.{view1};
-ghost use Rattle.tables.specs.Reading.{chainWords, termWords, Readable, Placed};
+ghost use Rattle.words.specs.Placed.{Placed};
+ghost use Rattle.tables.specs.Reading.{chainWords, termWords, Readable};
 
 // Writes the words of record `at` with its children from position `out` on, and returns the position after them.
 pub fn read_term(table: &[u32], at: usize, workspace: &mut [u32], out: usize) -> usize

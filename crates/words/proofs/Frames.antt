@@ -43,8 +43,3 @@ pub allowed-none : (n b d t k p : ℕ) → n ≤ 0 → b ≤ 0 → allowedBy n b
 allowed-none zero zero d t k p h g = refl
 allowed-none zero (suc b) d t k p h g = absurd (omega arith)
 allowed-none (suc n) b d t k p h g = absurd (omega arith)
-
-pub rest-none : (n b d t p : ℕ) → n ≤ 0 → b ≤ 0 → restBy n b d t p ≡ frame n b d t
-rest-none zero zero d t p h g = refl
-rest-none zero (suc b) d t p h g = absurd (omega arith)
-rest-none (suc n) b d t p h g = absurd (omega arith)

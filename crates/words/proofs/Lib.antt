@@ -1,6 +1,7 @@
 pub mod Spans
 pub mod Frames
+pub mod Packed
 pub mod Scan
 pub mod Stack
 pub mod IsTerm
-pub mod ClearLaws
+pub mod PlacedLaws

@@ -8,7 +8,7 @@ use mathlib.Core.Option.{Option, some, none, Option·elim}
 use native.Mathlib.Nat.{add-zero}
 use native.Mathlib.Numerals.{add-one}
 use native.Mathlib.Omega.{arith}
-use lib.Dec.{eqb}
+use lib.Dec.{eqb, ltb}
 use borrow.Author.Tests.{eqb-true, leb-true, ltb-true, le-leb, lt-ltb}
 use Rattle.calculus.specs.Term.{Sort, term, terms, branches, Exp, Term, Terms, Branches, var, lam, app, con, case, nil, cons, end, branch, count}
 use Rattle.calculus.specs.Words.{variableKind, abstractionKind, applicationKind, constructorKind, caseKind, branchKind, kindBase, countBase, word, pack, tagOf, countOf, words}
@@ -17,9 +17,8 @@ use Rattle.calculus.specs.Read.{read}
 use Rattle.calculus.specs.Skip.{following}
 use Rattle.calculus.proofs.WordLaws.{kindOf-word, payloadOf-word, word-of-parts, tagOf-pack, countOf-pack, pack-of-parts}
 use Rattle.calculus.proofs.ReadLaws.{read-exact}
-use Rattle.words.specs.declared.frame.Frame.{Frame}
 use Rattle.words.specs.Bound.{binding}
-use Rattle.words.specs.Frames.{frame, insideBy, inside, tagAbove, startsTerm, startsBranch, allowedBy, allowed, restBy, rest}
+use Rattle.words.specs.Frames.{Frame, frame, insideBy, inside, tagAbove, startsTerm, startsBranch, allowedBy, allowed, restBy, rest}
 
 -- A frame in front of others, left out if nothing is to come in it.
 abbrev pub pushBy : (terms branches : ℕ) → Frame → List Frame → List Frame
@@ -61,7 +60,7 @@ tag-above t u h g = rw (lt-ltb t u h, le-leb u tagLimit g)
 
 starts-above-zero : (d : ℕ) (bs : Branches) → Accepted d bs → StartsAbove 0 bs
 starts-above-zero d end h = tt
-starts-above-zero d (branch t n b bs) h = h .0 .0
+starts-above-zero d (branch t n b bs) h = h .0 .0 .0
 
 passes : {s : Sort} (d : ℕ) (e : Exp s) → Accepted d e → Passes d e
 unfolding insideBy binding startsTerm startsBranch following
@@ -72,20 +71,20 @@ passes d (app e a) h =
     (scan-term applicationKind 0 n b d t fs _ (omega arith) refl ∙ rw add-zero (passes d e (h .0) 1 0 0 _ _ ∙ passes d a (h .1) 0 0 0 _ ws))
 passes d (con u xs) h =
     let k : count xs < countBase = omega arith in
-    λ n b t fs ws. scan-term constructorKind (pack u (count xs)) n b d t fs _ (omega arith) (rw (tagOf-pack u _ k) (tag-above 0 u (h .0 .0) (h .0 .1)))
-    ∙ rw (countOf-pack u _ k, add-zero) (passes d xs (h .2) 0 0 _ ws)
+    λ n b t fs ws. scan-term constructorKind (pack u (count xs)) n b d t fs _ (omega arith) (rw (tagOf-pack u _ k) (tag-above 0 u (h .0 .0 .0) (h .0 .0 .1)))
+    ∙ rw (countOf-pack u _ k, add-zero) (passes d xs (h .1) 0 0 _ ws)
 passes d (case e bs) h =
     λ n b t fs ws. rw append-assoc
-    (scan-term caseKind (count bs) n b d t fs _ (omega arith) (le-leb _ _ (h .1))
-    ∙ rw add-zero (passes d e (h .0) 0 (count bs) 0 _ _ ∙ passes d bs (h .3) 0 _ ws (starts-above-zero d bs (h .3)) (h .2)))
+    (scan-term caseKind (count bs) n b d t fs _ (omega arith) (le-leb _ _ (h .0 .0))
+    ∙ rw add-zero (passes d e (h .1) 0 (count bs) 0 _ _ ∙ passes d bs (h .2) 0 _ ws (starts-above-zero d bs (h .2)) (h .0 .1)))
 passes d nil h = λ b t fs ws. refl
 passes d (cons a xs) h = λ b t fs ws. rw append-assoc (passes d a (h .0) (count xs) b t fs _ ∙ passes d xs (h .1) b t fs ws)
 passes d end h = λ t fs ws g r. refl
 passes d (branch u m e bs) h =
     let k : m < countBase = omega arith in
     λ t fs ws g r. rw append-assoc
-    (scan-branch branchKind (pack u m) (count bs) d t fs _ (omega arith) (rw (tagOf-pack u m k) (tag-above t u g (h .0 .1)))
-    ∙ rw (tagOf-pack u m k, countOf-pack u m k) (passes (d + m) e (h .2) 0 0 0 _ _ ∙ passes d bs (h .3) u fs ws (r .0) (r .1)))
+    (scan-branch branchKind (pack u m) (count bs) d t fs _ (omega arith) (rw (tagOf-pack u m k) (tag-above t u g (h .0 .0 .1)))
+    ∙ rw (tagOf-pack u m k, countOf-pack u m k) (passes (d + m) e (h .1) 0 0 0 _ _ ∙ passes d bs (h .2) u fs ws (r .0) (r .1)))
 
 -- Words that are those of n accepted terms under d binders, or of n accepted branches after one of tag t, and then words of which P holds; and words
 -- that fill frames.
@@ -116,7 +115,7 @@ gather-branches : (n d t : ℕ) (P : List ℕ → Type 0) (ws : List ℕ) → Br
 gather-branches zero d t P ws h = (end, ws, refl, tt, tt, tt, refl, h)
 gather-branches (suc n) d t P ws h =
     let r = gather-branches n d (h .0) P (h .3) (h .9) in
-    (branch (h .0) (h .1) (h .2) (r .0), r .1, ap suc (r .2), h .4, (r .3, r .4), ((omega arith, h .5), h .6, h .7, r .5), rw (append-assoc, r .6) (h .8), r .7)
+    (branch (h .0) (h .1) (h .2) (r .0), r .1, ap suc (r .2), h .4, (r .3, r .4), (((omega arith, h .5), h .6), h .7, r .5), rw (append-assoc, r .6) (h .8), r .7)
 
 when-eqb : {C : Type 0} (m n : ℕ) {x y : Bool} → (m ≡ n → x ≡ true → C) → (y ≡ true → C) → cond (eqb m n) x y ≡ true → C
 when-eqb {C} m n {x} {y} f g = go (eqb m n) refl
@@ -128,6 +127,13 @@ when-eqb {C} m n {x} {y} f g = go (eqb m n) refl
 pub both : (a b : Bool) → (a && b) ≡ true → (a ≡ true) × (b ≡ true)
 both true b q = (refl, q)
 both false b q = absurd (false≢true q)
+
+-- A branch that is allowed is to come, and its tag is within the limit.
+pub branch-allowed : (n b d t k p : ℕ) → n ≤ 0 → allowedBy n b d t k p ≡ true → (0 < b) × (tagOf p ≤ tagLimit)
+unfolding startsBranch
+branch-allowed zero zero d t k p h q = absurd (false≢true q)
+branch-allowed zero (suc b) d t k p h q = (omega arith, leb-true _ _ (both (ltb t (tagOf p)) _ (both (eqb k branchKind) (tagAbove t (tagOf p)) q .1) .1))
+branch-allowed (suc n) b d t k p h q = absurd (omega arith)
 
 -- A word that may start a term starts one, if what follows the word is filled; and so for a branch.
 fill-term : (k p d : ℕ) (P : List ℕ → Type 0) (ws : List ℕ) → startsTerm d k p ≡ true → FrameThen (insideBy d k p) P ws → TermsThen 1 d P (word k p ∷ ws)
@@ -141,12 +147,12 @@ fill-term k p d P ws =
     (λ h.
     let g = gather-terms (countOf p) d P ws h in
     let a = both _ _ q in
-    (con (tagOf p) (g .0), g .1, ((ltb-true _ _ (a .0), leb-true _ _ (a .1)), omega arith, g .3), cc (pack-of-parts p), g .5)))
+    (con (tagOf p) (g .0), g .1, (((ltb-true _ _ (a .0), leb-true _ _ (a .1)), omega arith), g .3), cc (pack-of-parts p), g .5)))
     (when-eqb k caseKind
     (λ e q. rw (e, add-zero)
     (λ h.
     let g = gather-branches p d 0 P (h .1) (h .4) in
-    (case (h .0) (g .0), g .1, (h .2, omega (arith, leb-true p branchLimit q), g .4, g .5), rw append-assoc (cc), g .7)))
+    (case (h .0) (g .0), g .1, ((omega (arith, leb-true p branchLimit q), g .4), h .2, g .5), rw append-assoc (cc), g .7)))
     (λ q. absurd (false≢true q))))))
 
 fill-branch : (k p n d t : ℕ) (P : List ℕ → Type 0) (ws : List ℕ) → startsBranch t k p ≡ true → FrameThen (insideBy d k p) (BranchesThen n d (tagOf p) P) ws → BranchesThen (suc n) d t P (word k p ∷ ws)

@@ -2,21 +2,27 @@
 -- such a word.
 --
 -- A frame stands for a number of terms, then a number of branches whose tags rise from above its tag, all under its number of binders.
-use Prim.Native.Nat.{ℕ, zero, suc, _+_, min}
+use Prim.Native.Nat.{ℕ, zero, suc, _+_}
 use mathlib.Core.Bool.{Bool, false, cond, _&&_}
+use mathlib.Core.Option.{Option, some, none}
 use lib.Dec.{eqb, leb, ltb}
 use Rattle.calculus.specs.Words.{variableKind, abstractionKind, applicationKind, constructorKind, caseKind, branchKind, kindOf, payloadOf, tagOf}
 use Rattle.calculus.specs.Accepted.{tagLimit, branchLimit, freeLimit}
 use Rattle.calculus.specs.Skip.{following}
 use Rattle.words.specs.Bound.{binding}
-use Rattle.words.specs.declared.frame.Frame.{Frame}
+
+pub record Frame : Type 0 where
+  pub terms : ℕ
+  pub branches : ℕ
+  pub depth : ℕ
+  pub tag : ℕ
 
 abbrev pub frame : (terms branches depth tag : ℕ) → Frame
 frame n b d t = record { terms = n; branches = b; depth = d; tag = t }
 
--- 1 if something is still to come, otherwise 0.
-abbrev pub kept : Frame → ℕ
-kept f = min 1 (f .terms + f .branches)
+-- Whether nothing is still to come.
+abbrev pub isFilled : Frame → Bool
+isFilled f = eqb (f .terms) 0 && eqb (f .branches) 0
 
 -- What follows a word that stands under d binders.
 unfoldable pub insideBy : (depth kind payload : ℕ) → Frame
@@ -59,3 +65,10 @@ restBy zero zero d t p = frame 0 0 d t
 
 abbrev pub rest : Frame → (w : ℕ) → Frame
 rest f w = restBy (f .terms) (f .branches) (f .depth) (f .tag) (payloadOf w)
+
+-- What a word comes to at a frame: it may not stand there, or it leads to the frame of what follows it.
+abbrev pub enteredBy : Bool → (depth w : ℕ) → Option Frame
+enteredBy allowed d w = cond allowed (some (inside d w)) none
+
+abbrev pub entered : Frame → (w : ℕ) → Option Frame
+entered f w = enteredBy (allowed f w) (f .depth) w

@@ -2,4 +2,7 @@
 pub mod Limits
 pub mod Bound
 pub mod Frames
+pub mod Packed
 pub mod IsTerm
+pub mod Placed
+pub mod Types

@@ -2,7 +2,9 @@
 // The constants of `Word` are the only places of the code where the kinds and the limits of the word rules stand as numbers.
 mod frame;
 
+use frame::Entered;
 use frame::Frame;
+use slices::fill;
 ghost use mathlib.Core.Path.{_≡_};
 ghost use mathlib.Core.List.{_++_};
 ghost use Prim.Native.Nat.{_≤_, _<_, _+_, _-_};
@@ -16,6 +18,8 @@ ghost use Rattle.words.specs.Bound.{bound};
 ghost use Rattle.words.specs.IsTerm.{isTerm};
 
 pub mod refusal;
+pub mod slices;
+pub mod workspace;
 
 // A word by value. A workspace holds its number, so a word read there is `Word(w)`.
 pub struct Word(pub u32);
@@ -140,30 +144,44 @@ pub fn is_term(ws: &[u32], n: usize) -> bool
     if n > ws.len() {
         return false;
     }
-    // The frames are the entries below `top`; each word adds at most one.
-    let mut stack = [Frame::WHOLE; Word::WORKSPACE_MOST + 1];
-    let mut top: usize = 1;
+    // The frames are the current one, and the entries below `top`, which wait. Each word adds at most one.
+    let mut stack = [0; Frame::ROOM];
+    let mut top: usize = 0;
+    let mut frame = Frame::WHOLE;
     let mut i: usize = 0;
     while i < n {
-        if top == 0 {
-            return false;
+        if frame.is_filled() {
+            if top == 0 {
+                return false;
+            }
+            top -= 1;
+            frame = Frame(stack[top]);
+            continue;
         }
-        top -= 1;
-        let frame = stack[top];
         let word = Word(ws[i]);
-        if !frame.allows(word) {
+        let Entered::Inside(inside) = frame.enter(word) else {
             return false;
-        }
-        // The frame on top gives way to what is left of it and, above that, to what follows the word.
+        };
         let rest = frame.rest(word);
-        stack[top] = rest;
-        top += rest.kept();
-        let inside = Frame::inside(word, frame.depth);
-        stack[top] = inside;
-        top += inside.kept();
         i += 1;
+        if inside.is_filled() {
+            frame = rest;
+            continue;
+        }
+        frame = inside;
+        if !rest.is_filled() {
+            // Each frame that waits was opened by a word and has one to come: no term has words for more frames.
+            if top == Frame::ROOM {
+                return false;
+            }
+            stack[top] = rest.0;
+            top += 1;
+        }
     }
-    top == 0
+    if top == 0 {
+        return frame.is_filled();
+    }
+    false
 }
 
 // Zeros from a position to the end.
@@ -171,11 +189,8 @@ pub fn clear(ws: &mut [u32], from: usize)
     requires { ⌜ from ≤ length (now ws) ⌝ }
     ensures { λ _. ⌜ now (ws .exit) ≡ take from (now (ws .entry)) ++ replicate (length (now (ws .entry)) - from) 0 ⌝ }
 {
-    let mut i = from;
-    while i < ws.len() {
-        ws[i] = 0;
-        i += 1;
-    }
+    let end = ws.len();
+    fill(ws, from, end, 0);
 }
 
 // Does nothing. Its contract says that each constant is the number that the calculus gives its name.

@@ -1,9 +1,22 @@
-// The numbers for refused calls.
+// The refusals of the unit's calls, each named by what is wrong, and their numbers.
 ghost use mathlib.Core.Path.{_≡_};
+ghost use Rattle.calculus.specs.Refusal.{number};
 ghost use Rattle.calculus.specs.Refusal.{wrongLengthNumber, wrongHeaderNumber, wrongValueNumber, wrongLinkNumber, wrongChildrenNumber};
 ghost use Rattle.calculus.specs.Refusal.{wrongFreeNumber, wrongWorkspaceNumber, tooLongNumber, overBudgetNumber, noTermNumber};
+ghost use Rattle.words.specs.Types.{refusalOf};
 
-pub struct Refusal(pub u32);
+pub enum Refusal {
+    WrongLength,
+    WrongHeader,
+    WrongValue,
+    WrongLink,
+    WrongChildren,
+    WrongFree,
+    WrongWorkspace,
+    TooLong,
+    OverBudget,
+    NoTerm,
+}
 
 impl Refusal {
     // A table's length, header, value, link, children and free number.
@@ -27,6 +40,23 @@ impl Refusal {
     pub const BUDGET: u32 = 9;
 
     pub const TERM: u32 = 10;
+
+    pub fn number(self) -> u32
+        ensures { λ r. ⌜ r ≡ number (refusalOf self) ⌝ }
+    {
+        match self {
+            Refusal::WrongLength => 1,
+            Refusal::WrongHeader => 2,
+            Refusal::WrongValue => 3,
+            Refusal::WrongLink => 4,
+            Refusal::WrongChildren => 5,
+            Refusal::WrongFree => 6,
+            Refusal::WrongWorkspace => 7,
+            Refusal::TooLong => 8,
+            Refusal::OverBudget => 9,
+            Refusal::NoTerm => 10,
+        }
+    }
 }
 
 // Does nothing. Its contract says that each constant is the number that the calculus gives its name.

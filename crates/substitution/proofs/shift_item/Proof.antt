@@ -13,7 +13,8 @@ use Rattle.calculus.specs.Words.{words, size}
 use Rattle.calculus.specs.First.{firstTerm}
 use Rattle.calculus.specs.Shift.{shift}
 use Rattle.substitution.specs.Results.{shifted}
-use Rattle.substitution.proofs.ItemLaws.{size-shift, Item, item-size, item-term, item-within, item-length, item-whole}
+use Rattle.calculus.proofs.SizeLaws.{size-shift}
+use Rattle.substitution.proofs.ItemLaws.{Item, item-size, item-term, item-within, item-length, item-whole}
 use Rattle.substitution.proofs.Writing.{written-as, written-part}
 use Rattle.substitution.proofs.shift_item.Statement.{statement}
 use Rattle.substitution.proofs.shift_item.Tie as tie

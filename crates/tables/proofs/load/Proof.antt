@@ -7,10 +7,11 @@ use borrow.Author.Needs.{needs}
 use Rattle.tables.specs.Records.{view1}
 use Rattle.tables.specs.Load.{checks, firstMet, load}
 use Rattle.tables.specs.Types.{metOf}
-use Rattle.tables.specs.Reading.{termWords, Placed}
+use Rattle.words.specs.Placed.{Placed}
+use Rattle.tables.specs.Reading.{termWords}
 use Rattle.tables.proofs.RecordLaws.{parts, inside}
 use Rattle.tables.proofs.LoadCode.{passed, root-readable, room, loaded}
-use Rattle.tables.proofs.Stores.{placed-length}
+use Rattle.words.proofs.PlacedLaws.{placed-length}
 use Rattle.tables.proofs.load.Statement.{statement}
 use Rattle.tables.proofs.load.Tie as tie
 
@@ -60,7 +61,7 @@ clear-requires c κs =
     let start = read .before .before .before .before .before .before .before .before .args in
     let p = placed read in
     omega
-    (arith, p .position, placed-length _ _ _ _ _ p, room (start .table .now) (start .workspace .now) (unmet (read .before .before .before)))
+    (arith, p .position, placed-length p, room (start .table .now) (start .workspace .now) (unmet (read .before .before .before)))
 
 returns : tie.Need-returns
 unfolding load

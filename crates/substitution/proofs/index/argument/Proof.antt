@@ -10,7 +10,8 @@ use mir.ValLaws.{toZ-ofZ}
 use Rattle.calculus.specs.Words.{variableKind, kindOf, payloadOf}
 use Rattle.calculus.specs.Shift.{move}
 use Rattle.substitution.specs.Moves.{Moves}
-use Rattle.substitution.proofs.MoveLaws.{moves-down, move-down}
+use Rattle.calculus.proofs.Move.{move-down}
+use Rattle.substitution.proofs.MoveLaws.{moves-down}
 use Rattle.substitution.proofs.RewrittenLaws.{place-argument, place-past, place-bound, place-other}
 use Rattle.substitution.proofs.index.argument.Statement.{statement}
 use Rattle.substitution.proofs.index.argument.Tie as tie

@@ -15,7 +15,7 @@ use Rattle.tables.proofs.Links.{linked}
 use Rattle.tables.proofs.RecordLaws.{parts}
 use Rattle.tables.proofs.Walks.{walk-inside}
 use Rattle.tables.proofs.ReadingLaws.{chainWords-end, chainWords-record, ReadOn, read-on, term-read}
-use Rattle.tables.proofs.Stores.{placed-none, placed-cons, placed-append, placed-length}
+use Rattle.words.proofs.PlacedLaws.{placed-none, placed-cons, placed-append, placed-length}
 use Rattle.tables.proofs.reader.read_chain.Reads as read-chain
 use Rattle.tables.proofs.reader.read_chain.Kinds as read-chain-kinds
 use Rattle.tables.proofs.reader.+read_chain+read_term.Lts-read_chain as read-chain-lts
@@ -99,14 +99,14 @@ read-chain-read-chain-requires t c κs =
       omega (arith, start .pre .0, on .fewer-after),
       (
         on .after,
-        omega (arith, p .1, rest, chain-length-is _ _ (p .0) positive, read .ensures .position, placed-length _ _ _ _ _ (read .ensures)),
+        omega (arith, p .1, rest, chain-length-is _ _ (p .0) positive, read .ensures .position, placed-length (read .ensures)),
       ),
     )
 
 read-chain-same-length : (t : ℕ) → read-chain-lts.Need-same-length (chain-claims t) (read-chain-at t) read-chain.Post
 read-chain-same-length t c =
     let read = c .before .before .before .before .before .before .before .read-term in
-    placed-length _ _ _ _ _ (c .before .before .read-chain .ensures) ∙ placed-length _ _ _ _ _ (read .ensures)
+    placed-length (c .before .before .read-chain .ensures) ∙ placed-length (read .ensures)
 
 read-chain-returns-2 : (t : ℕ) → read-chain-lts.Need-returns-2 (chain-claims t) (read-chain-at t) read-chain.Post
 read-chain-returns-2 t c =
@@ -116,7 +116,7 @@ read-chain-returns-2 t c =
     let read = c .before .before .before .before .before .before .before .read-term in
     let rest = c .before .before .read-chain in
     rw (chain-is _ _ (p .0) positive, ← parts (c .before .before .before .before .at .ensures) .next)
-    (placed-append _ _ _ _ _ _ _ _ (read .ensures) (rest .ensures))
+    (placed-append (read .ensures) (rest .ensures))
 
 read-term-at-requires : (t : ℕ) → read-term-lts.Need-at-requires (term-claims t) (read-term-at t) read-term.Post
 read-term-at-requires t c κs = walk-inside _ _ (c .before .before .pre .1 .0 .0 .walkable)
@@ -154,7 +154,7 @@ read-term-read-chain-requires t c κs =
 read-term-same-length : (t : ℕ) → read-term-lts.Need-same-length (term-claims t) (read-term-at t) read-term.Post
 read-term-same-length t c =
     let start = c .before .before .before .before .before .before .before .before .before .args in
-    placed-length _ _ _ _ _ (c .before .before .read-chain .ensures)
+    placed-length (c .before .before .read-chain .ensures)
     ∙ length-set (start .workspace .now) (start .out) (c .before .before .before .before .word .result)
 
 read-term-returns : (t : ℕ) → read-term-lts.Need-returns (term-claims t) (read-term-at t) read-term.Post
@@ -164,7 +164,7 @@ read-term-returns t c =
     let r = w .before .before in
     let start = r .before .before .before .args in
     let words = term-read (start .table .now) (start .at) (m .result) (w .word .result) (recordOf (r .at .result)) (r .at .ensures) (m .ensures) (w .word .ensures) in
-    rw words (placed-cons _ _ _ _ _ _ (c .before .before .read-chain .ensures))
+    rw words (placed-cons _ _ (c .before .before .read-chain .ensures))
 
 pub +read-chain+read-term-spec : {M : Type 1} → statement M
 +read-chain+read-term-spec =

@@ -1,9 +1,0 @@
-//! The program `verdict` measured beside the same algorithm in plain Rust.
-
-pub mod cases;
-mod elf;
-pub mod measure;
-pub mod peer;
-pub mod report;
-pub mod run;
-mod times;

@@ -1,0 +1,49 @@
+-- The instances hold: contractions by their rules, the rest by computation.
+use mathlib.Core.Path.{refl}
+use mathlib.Core.List.{[], _∷_}
+use mathlib.Core.Logic.{inl, inr, Dec·and}
+use mathlib.Core.Option.{bind, orElse}
+use native.Mathlib.Decide.{decLe, decLt}
+use native.Mathlib.Omega.{arith}
+use Rattle.calculus.specs.Decide.{both₃, isTag?, startsAbove?, rising?, everywhere?, tagged?, accepted?}
+use Rattle.calculus.specs.Read.{takeTerm, takeTerms, takeBranches, readLam, readApp, readCon, readCase, readBranch, item, items, oneTerm, read}
+use Rattle.calculus.specs.Step.{firstStep}
+use Rattle.calculus.specs.Leftmost.{leftmost}
+use Rattle.calculus.specs.Contraction.{by-beta, at-beta, at-case, in-body, in-argument}
+use Rattle.calculus.specs.Relation.{stop, step, alone, link}
+use Rattle.calculus.specs.Instances.{Instances, inner-redex}
+use Rattle.calculus.specs.Accepted.{Accepted}
+use Rattle.calculus.specs.Term.{var}
+use Rattle.calculus.specs.Conversion.{Normal}
+use Rattle.calculus.proofs.ReadLaws.{read-accepted}
+use Rattle.calculus.proofs.LeftmostLaws.{leftmost-none}
+
+inner-accepted : Accepted 0 inner-redex
+unfolding read items item takeTerm takeTerms takeBranches readLam readApp readCon readCase readBranch oneTerm accepted? everywhere? tagged? both₃ isTag? startsAbove? rising? Dec·and decLe decLt bind orElse
+inner-accepted = read-accepted (1 ∷ 2 ∷ 0 ∷ 2 ∷ 1 ∷ 0 ∷ 8 ∷ []) refl
+
+f1-normal : Normal (var 1)
+unfolding firstStep leftmost
+f1-normal = leftmost-none (var 1) .0 refl
+
+pub instances : Instances
+instances =
+    record {
+      packable = (omega arith, (tt, tt));
+      starts-alike = refl;
+      moves-up = refl;
+      moves-down = refl;
+      moves-to-0 = refl;
+      contracts-by-beta = at-beta;
+      contracts-by-case = at-case refl;
+      contracts-inside = in-body (in-argument at-beta);
+      lies-before = omega arith;
+      accepted = inner-accepted;
+      accepted-short = omega arith;
+      normal = f1-normal;
+      reaches-itself = stop;
+      joins-itself = alone;
+      contracts-once = (0, by-beta, at-beta);
+      reaches-by-one = step (0, by-beta, at-beta) stop;
+      joined = link (inl (0, by-beta, at-beta)) (link (inr (0, by-beta, at-beta)) alone);
+    }

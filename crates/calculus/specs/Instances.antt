@@ -1,0 +1,55 @@
+-- What the owed types suppose, met by terms written out: no hypothesis of `Theorems` is empty.
+use Prim.Native.Nat.{ℕ, _+_, _≤_, _<_}
+use mathlib.Core.Path.{_≡_}
+use mathlib.Core.List.{[], _∷_, _++_}
+use lib.IntN.{pos, negsuc, _+ℤ_}
+use Rattle.calculus.specs.Term.{term, var, lam, app, con, case, nil, cons, end, branch, Term}
+use Rattle.calculus.specs.Words.{words, size, workspaceMost}
+use Rattle.calculus.specs.Accepted.{Accepted}
+use Rattle.calculus.specs.Contraction.{by-beta, by-case, Contracts}
+use Rattle.calculus.specs.Conversion.{Contracts₁, Reaches, Joined, Normal}
+use Rattle.calculus.specs.Theorems.{Packable}
+
+-- The identity applied to f1; a function that forgets its argument, applied to f0 for f1; both become f1.
+abbrev pub identity-applied : Term
+identity-applied = app (lam (var 0)) (var 1)
+
+abbrev pub constant-applied : Term
+constant-applied = app (lam (var 2)) (var 0)
+
+-- A case of constructor 2 without arguments, whose second branch is f1.
+abbrev pub second-branch : Term
+second-branch = case (con 2 nil) (branch 1 0 (var 0) (branch 2 0 (var 1) end))
+
+-- A redex at position 3: in the argument of an application under an abstraction.
+abbrev pub inner-redex : Term
+inner-redex = lam (app (var 0) (app (lam (var 0)) (var 1)))
+
+abbrev pub inner-contracted : Term
+inner-contracted = lam (app (var 0) (var 1))
+
+pub record Instances : Type 0 where
+  -- Words-prefix-free: the terms are equal, and different words follow both.
+  pub packable : Packable (con 1 (cons (var 0) nil))
+  pub starts-alike : words (con 1 (cons (var 0) nil)) ++ (8 ∷ []) ≡ 139 ∷ 0 ∷ 8 ∷ []
+  -- Move-exact: up, down, and down to 0.
+  pub moves-up : pos 1 +ℤ pos 2 ≡ pos 3
+  pub moves-down : pos 3 +ℤ negsuc 1 ≡ pos 1
+  pub moves-to-0 : pos 1 +ℤ negsuc 0 ≡ pos 0
+  -- The types about a contraction, by either rule and inside a term.
+  pub contracts-by-beta : Contracts term 0 by-beta identity-applied (var 1)
+  pub contracts-by-case : Contracts term 0 by-case second-branch (var 1)
+  pub contracts-inside : Contracts term 3 by-beta inner-redex inner-contracted
+  -- Redexes-before-kept: position 0 lies more than one word before it.
+  pub lies-before : 0 + 1 < 3
+  -- Contraction-keeps-accepted and Indices-bounded.
+  pub accepted : Accepted 0 inner-redex
+  pub accepted-short : size inner-redex ≤ workspaceMost
+  -- Normal-reaches-itself, Joined-normal-equal: f1 is normal, reaches itself and joins itself.
+  pub normal : Normal (var 1)
+  pub reaches-itself : Reaches (var 1) (var 1)
+  pub joins-itself : Joined (var 1) (var 1)
+  -- Church-Rosser: two different terms, neither of which reaches the other.
+  pub contracts-once : Contracts₁ identity-applied (var 1)
+  pub reaches-by-one : Reaches constant-applied (var 1)
+  pub joined : Joined identity-applied constant-applied

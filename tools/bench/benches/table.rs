@@ -1,0 +1,129 @@
+//! Prints the benchmark as Markdown and writes its plot.
+
+use std::env;
+use std::fs;
+use std::path::{Path, PathBuf};
+use std::process::ExitCode;
+
+use bench::cases::{contracting, growing_touched, growing_untouched, normal, untouched};
+use bench::cases::{Case, Point};
+use bench::measure::{Bench, Each, Row};
+use bench::plot::{svg, Panel};
+use bench::report::Report;
+use bench::run::{Counter, InputFile};
+use bench::stack::Probe;
+use unit::repository;
+
+const USAGE: &str = "\
+usage: cargo bench --manifest-path tools/Cargo.toml --package bench [-- OPTION...]
+  --program PATH  the unit's program: unless given, target/bin/verdict in the repository, built
+                  from its sources
+  --untimed       takes no times, which need an idle machine; all else is the same in every run
+Prints docs/BENCHMARKS.md and writes docs/growth.svg. A relative PATH starts from tools/bench.";
+
+/// The plot, seen from the repository and from the page.
+const PLOT: &str = "docs/growth.svg";
+const PLOT_FROM_PAGE: &str = "growth.svg";
+
+fn main() -> ExitCode {
+    if env::args_os().any(|argument| argument == "--help") {
+        println!("{USAGE}");
+        return ExitCode::SUCCESS;
+    }
+    match run() {
+        Ok(markdown) => {
+            print!("{markdown}");
+            ExitCode::SUCCESS
+        }
+        Err(reason) => {
+            eprintln!("bench: {reason}");
+            ExitCode::FAILURE
+        }
+    }
+}
+
+fn run() -> Result<String, String> {
+    let mut program = None;
+    let mut is_timed = true;
+    // Cargo adds `--bench`.
+    let mut arguments = env::args_os().skip(1).filter(|text| text != "--bench");
+    while let Some(option) = arguments.next() {
+        match option.to_str() {
+            Some("--program") => program = arguments.next().map(PathBuf::from),
+            Some("--untimed") => is_timed = false,
+            _ => return Err(format!("cannot use {option:?}\n{USAGE}")),
+        }
+    }
+    let here = env::current_dir().map_err(|error| error.to_string())?;
+    let root = repository::find(&here).ok_or("no repository is here or above")?;
+    let verdict = match program {
+        Some(path) => path,
+        None => repository::program(&root, &mut |line| eprintln!("bench: {line}"))?,
+    };
+    let flat = PathBuf::from(env!("CARGO_BIN_EXE_flat"));
+    let graph = PathBuf::from(env!("CARGO_BIN_EXE_graph"));
+    let empty = InputFile::new("empty", &[]).map_err(|error| error.to_string())?;
+    let bench = Bench {
+        counter: Counter::find(&flat, &empty),
+        programs: [verdict, flat, graph],
+        probe: Some(Probe::build(&root)?),
+        is_timed,
+    };
+    report(&bench, &root)
+}
+
+fn report(bench: &Bench, root: &Path) -> Result<String, String> {
+    let plot = match bench.counter {
+        Some(_) => Some(plot(bench, root)?),
+        None => None,
+    };
+    let report = Report {
+        contracting: rows(bench, contracting())?,
+        untouched: rows(bench, untouched())?,
+        normal: rows(bench, normal())?,
+        counter: bench.counter,
+        plot,
+    };
+    Ok(report.markdown(&bench.programs))
+}
+
+fn rows(bench: &Bench, cases: Vec<Case>) -> Result<Vec<Row>, String> {
+    let measured = |case: &Case| {
+        eprintln!("{}", case.name);
+        let row = bench.row(case);
+        row.map_err(|reason| format!("{}: {reason}", case.name))
+    };
+    cases.iter().map(measured).collect()
+}
+
+/// Writes the plot; its path seen from the page.
+fn plot(bench: &Bench, root: &Path) -> Result<String, String> {
+    let panels = [
+        Panel {
+            title: "Instructions of a contraction",
+            x_axis: "words touched in each contraction",
+            lines: lines(bench, growing_touched())?,
+        },
+        Panel {
+            title: "18 words touched",
+            x_axis: "words before them",
+            lines: lines(bench, growing_untouched())?,
+        },
+    ];
+    let path = root.join(PLOT);
+    fs::write(&path, svg(&panels)).map_err(|error| format!("{}: {error}", path.display()))?;
+    Ok(PLOT_FROM_PAGE.to_string())
+}
+
+fn lines(bench: &Bench, points: Vec<Point>) -> Result<Each<Vec<(f64, f64)>>, String> {
+    let mut lines: Each<Vec<(f64, f64)>> = Default::default();
+    for point in points {
+        eprintln!("{}", point.case.name);
+        let counts = bench.marginal(&point.case)?;
+        for (line, count) in lines.iter_mut().zip(counts) {
+            let count = count.ok_or("the instructions cannot be counted")?;
+            line.push((point.x as f64, count));
+        }
+    }
+    Ok(lines)
+}

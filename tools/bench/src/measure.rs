@@ -1,0 +1,140 @@
+//! What is measured of a case: all programs on the same inputs.
+
+use std::path::{Path, PathBuf};
+
+use crate::cases::Case;
+use crate::run::{line_of, stack_kib, Counter, InputFile};
+use crate::stack::{Probe, Stack};
+use crate::times::{times, Times};
+
+/// The unit's program and its peers, in this order everywhere.
+pub const NAMES: [&str; 3] = ["verdict", "flat", "graph"];
+
+/// Something of each program.
+pub type Each<T> = [T; NAMES.len()];
+
+pub type Programs = Each<PathBuf>;
+
+/// Instructions and stack are measured over no more contractions than this.
+pub const COUNTED: u32 = 10_000;
+
+/// What the cases are measured with.
+pub struct Bench {
+    pub programs: Programs,
+    pub counter: Option<Counter>,
+    pub probe: Option<Probe>,
+    /// Times are taken too.
+    pub is_timed: bool,
+}
+
+/// A case measured.
+pub struct Row {
+    pub name: String,
+    pub line: String,
+    pub times: Option<Each<Times>>,
+    /// Instructions of the press alone for each contraction, or for the press if there is none.
+    pub instructions: Each<Option<f64>>,
+    /// The machine stack of the unit's calls.
+    pub stack: Option<Stack>,
+    /// The smallest stack limit that each whole program runs under.
+    pub limit_kib: Each<Option<u32>>,
+}
+
+impl Bench {
+    /// Measures a case. It is an error if a program prints another line than it must.
+    pub fn row(&self, case: &Case) -> Result<Row, String> {
+        let counted = Counted::new(case, &self.programs)?;
+        let times = self.is_timed.then(|| times(case, &self.programs));
+        let probe = self.probe.as_ref();
+        let stack = probe.map(|probe| probe.measure(case, counted.budget, &counted.line));
+        Ok(Row {
+            name: case.name.clone(),
+            line: case.line.clone(),
+            times: times.transpose()?,
+            instructions: self.instructions(&counted),
+            stack: stack.transpose()?,
+            limit_kib: self
+                .programs
+                .each_ref()
+                .map(|program| stack_kib(program, &counted.input, &counted.line)),
+        })
+    }
+
+    /// The instructions of each contraction, without what a press makes before the first.
+    pub fn marginal(&self, case: &Case) -> Result<Each<Option<f64>>, String> {
+        let counted = Counted {
+            without: input_file("counted-none", &case.input(0))?,
+            ..Counted::new(case, &self.programs)?
+        };
+        Ok(self.instructions(&counted))
+    }
+
+    fn instructions(&self, counted: &Counted) -> Each<Option<f64>> {
+        let programs = self.programs.each_ref();
+        programs.map(|program| counted.instructions(program, self.counter?))
+    }
+}
+
+/// The contractions that a line tells of.
+pub fn spent(line: &str) -> u32 {
+    let spent = line.split(' ').nth(1).and_then(|field| field.parse().ok());
+    spent.unwrap_or(0)
+}
+
+pub(crate) fn input_file(name: &str, bytes: &[u8]) -> Result<InputFile, String> {
+    InputFile::new(name, bytes).map_err(|error| format!("the input cannot be written: {error}"))
+}
+
+/// The seconds of a run that must print the line.
+pub(crate) fn checked(program: &Path, input: &InputFile, line: &str) -> Result<f64, String> {
+    match line_of(program, input)? {
+        (printed, time) if printed == line => Ok(time.as_secs_f64()),
+        (printed, _) => Err(format!(
+            "{} printed `{printed}` instead of `{line}`",
+            program.display()
+        )),
+    }
+}
+
+/// A case with at most `COUNTED` contractions, on which the programs agree.
+struct Counted {
+    budget: u32,
+    input: InputFile,
+    /// The input of a run whose instructions are not counted.
+    without: InputFile,
+    line: String,
+}
+
+impl Counted {
+    fn new(case: &Case, programs: &Programs) -> Result<Counted, String> {
+        let budget = case.budget.min(COUNTED);
+        let input = input_file("counted", &case.input(budget))?;
+        let (line, _) = line_of(&programs[1], &input)?;
+        for program in programs {
+            checked(program, &input, &line)?;
+        }
+        Ok(Counted {
+            budget,
+            input,
+            without: input_file("counted-refused", &case.refused())?,
+            line,
+        })
+    }
+
+    fn instructions(&self, program: &Path, counter: Counter) -> Option<f64> {
+        let run = counter.count(program, &self.input)?;
+        let without = counter.count(program, &self.without)?;
+        Some((run as f64 - without as f64) / f64::from(spent(&self.line).max(1)))
+    }
+}
+
+#[cfg(test)]
+mod tests {
+    use super::*;
+
+    #[test]
+    fn spent_is_the_second_field() {
+        assert_eq!(spent("Same 2 1 1"), 2);
+        assert_eq!(spent("Input"), 0);
+    }
+}

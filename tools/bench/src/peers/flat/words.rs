@@ -1,0 +1,175 @@
+//! Words of a term, their extent, and the check that words are one whole term.
+
+use unit::limits::{MAX_COUNT, MAX_FREE, TAGS, WORKSPACE};
+use unit::word::*;
+
+/// The most words in a workspace.
+pub const MAX_C: usize = *WORKSPACE.end();
+
+/// The position after the term or branch at `at`.
+pub fn skip(words: &[u32], at: usize) -> usize {
+    let mut missing = 1;
+    let mut end = at;
+    while missing > 0 {
+        missing = missing + children(words[end]) - 1;
+        end += 1;
+    }
+    end
+}
+
+/// Counts the binders around each word of a term that is read from the left.
+pub struct Binders {
+    depth: u32,
+    /// Terms still to come in the innermost scope.
+    missing: usize,
+    /// For each scope around it: what is missing there, and the binders that end before that.
+    outer: [(u16, u16); MAX_C],
+    scopes: usize,
+}
+
+impl Binders {
+    pub fn new() -> Binders {
+        Binders {
+            depth: 0,
+            missing: 0,
+            outer: [(0, 0); MAX_C],
+            scopes: 0,
+        }
+    }
+
+    /// Begins a term.
+    pub fn start(&mut self) {
+        self.depth = 0;
+        self.missing = 1;
+        self.scopes = 0;
+    }
+
+    /// Binders around the next word.
+    pub fn depth(&self) -> u32 {
+        self.depth
+    }
+
+    /// Goes on to the word after this one.
+    pub fn pass(&mut self, word: u32) {
+        self.missing -= 1;
+        match kind(word) {
+            ABSTRACTION => self.bind(1),
+            BRANCH => self.bind(count(payload(word))),
+            _ => {
+                self.missing += children(word);
+                self.leave();
+            }
+        }
+    }
+
+    fn bind(&mut self, bound: u32) {
+        self.outer[self.scopes] = (self.missing as u16, bound as u16);
+        self.scopes += 1;
+        self.missing = 1;
+        self.depth += bound;
+    }
+
+    /// Ends every scope in which nothing is missing.
+    fn leave(&mut self) {
+        while self.missing == 0 && self.scopes > 0 {
+            self.scopes -= 1;
+            let (missing, bound) = self.outer[self.scopes];
+            self.missing = usize::from(missing);
+            self.depth -= u32::from(bound);
+        }
+    }
+}
+
+/// Whether the words are one whole term within all limits.
+pub fn whole(words: &[u32], binders: &mut Binders) -> bool {
+    well_formed(words) && free_numbers_fit(words, binders)
+}
+
+/// Terms or branches that must follow one after the other.
+#[derive(Clone, Copy)]
+struct Due {
+    count: u8,
+    branches: bool,
+    last_tag: u8,
+}
+
+/// Whether kinds, ranges and structure are those of one term.
+fn well_formed(words: &[u32]) -> bool {
+    let mut dues = [Due::terms(0); MAX_C + 2];
+    dues[0] = Due::terms(1);
+    let mut open = 1;
+    for &word in words {
+        if open == 0 || !in_range(word) || !dues[open - 1].take(word) {
+            return false;
+        }
+        if dues[open - 1].count == 0 {
+            open -= 1;
+        }
+        // A word uses one up and adds at most two, the second for the next word: room enough.
+        for due in Due::after(word) {
+            if due.count > 0 {
+                dues[open] = due;
+                open += 1;
+            }
+        }
+    }
+    open == 0
+}
+
+impl Due {
+    fn terms(count: usize) -> Due {
+        Due {
+            count: count as u8,
+            branches: false,
+            last_tag: 0,
+        }
+    }
+
+    /// What must follow a word in range, the first of it last.
+    fn after(word: u32) -> [Due; 2] {
+        let below = Due::terms(children(word));
+        match kind(word) {
+            CASE => {
+                let branches = Due {
+                    count: below.count - 1,
+                    branches: true,
+                    last_tag: 0,
+                };
+                [branches, Due::terms(1)]
+            }
+            _ => [Due::terms(0), below],
+        }
+    }
+
+    /// Takes the word as the next one, if it may be.
+    fn take(&mut self, word: u32) -> bool {
+        let is_branch = kind(word) == BRANCH;
+        let tag = tag(payload(word)) as u8;
+        if is_branch != self.branches || (is_branch && tag <= self.last_tag) {
+            return false;
+        }
+        self.last_tag = tag;
+        self.count -= 1;
+        true
+    }
+}
+
+fn in_range(word: u32) -> bool {
+    let payload = payload(word);
+    match kind(word) {
+        VARIABLE => true,
+        ABSTRACTION | APPLICATION => payload == 0,
+        CONSTRUCTOR | BRANCH => TAGS.contains(&tag(payload)),
+        CASE => payload <= MAX_COUNT,
+        _ => false,
+    }
+}
+
+fn free_numbers_fit(words: &[u32], binders: &mut Binders) -> bool {
+    binders.start();
+    words.iter().all(|&word| {
+        let fits = kind(word) != VARIABLE || payload(word) <= binders.depth() + MAX_FREE;
+        binders.pass(word);
+        fits
+    })
+}

@@ -1,0 +1,145 @@
+//! One run of a program on an input: its line, its time, its instructions, its stack.
+
+use std::fs::{self, File};
+use std::io;
+use std::path::{Path, PathBuf};
+use std::process::{self, Command, Output};
+use std::time::{Duration, Instant};
+
+/// Bytes for standard input, in a file that lasts as long as this value.
+pub struct InputFile {
+    path: PathBuf,
+}
+
+impl InputFile {
+    pub fn new(name: &str, bytes: &[u8]) -> io::Result<InputFile> {
+        let name = format!("verdict-bench-{}-{name}", process::id());
+        let path = std::env::temp_dir().join(name);
+        fs::write(&path, bytes)?;
+        Ok(InputFile { path })
+    }
+
+    fn output(&self, command: &mut Command) -> io::Result<Output> {
+        command.stdin(File::open(&self.path)?).output()
+    }
+}
+
+impl Drop for InputFile {
+    fn drop(&mut self) {
+        // A file that stays behind does no harm.
+        let _ = fs::remove_file(&self.path);
+    }
+}
+
+/// Runs the program once: the line that it prints and the time from its start to its end.
+pub fn line_of(program: &Path, input: &InputFile) -> Result<(String, Duration), String> {
+    let failed = |reason: String| format!("{}: {reason}", program.display());
+    let start = Instant::now();
+    let output = input.output(&mut Command::new(program));
+    let time = start.elapsed();
+    let output = output.map_err(|error| failed(error.to_string()))?;
+    let line = unit::program::line(output).map_err(|error| failed(error.to_string()))?;
+    Ok((line, time))
+}
+
+/// A tool that counts the instructions of a run, those of the kernel left out.
+#[derive(Clone, Copy)]
+pub enum Counter {
+    Callgrind,
+    Perf,
+}
+
+impl Counter {
+    /// The first tool that works on this machine.
+    pub fn find(program: &Path, input: &InputFile) -> Option<Counter> {
+        let works = |counter: &Counter| counter.count(program, input).is_some();
+        [Counter::Callgrind, Counter::Perf].into_iter().find(works)
+    }
+
+    pub fn name(self) -> &'static str {
+        match self {
+            Counter::Callgrind => "valgrind --tool=callgrind",
+            Counter::Perf => "perf stat -e instructions:u",
+        }
+    }
+
+    pub fn count(self, program: &Path, input: &InputFile) -> Option<u64> {
+        let mut command = match self {
+            Counter::Callgrind => Command::new("valgrind"),
+            Counter::Perf => Command::new("perf"),
+        };
+        command.args(match self {
+            Counter::Callgrind => &["--tool=callgrind", "--callgrind-out-file=/dev/null"][..],
+            Counter::Perf => &["stat", "-x,", "-e", "instructions:u"][..],
+        });
+        let output = input.output(command.arg(program)).ok()?;
+        let report = String::from_utf8_lossy(&output.stderr);
+        report.lines().find_map(|line| self.counted(line))
+    }
+
+    /// The count, if this line of the tool's report has it.
+    fn counted(self, line: &str) -> Option<u64> {
+        match self {
+            Counter::Callgrind => line.split_once("Collected : ")?.1.trim().parse().ok(),
+            Counter::Perf => line.split_once(",,instructions")?.0.parse().ok(),
+        }
+    }
+}
+
+/// A page: the step in which the kernel grants stack.
+const STEP_KIB: u32 = 4;
+const MAX_STACK_KIB: u32 = 8_192;
+/// The stack starts at a random place in its first pages, so one run proves little.
+const STACK_RUNS: usize = 5;
+
+/// The smallest stack limit in KiB under which the program prints the line every time.
+pub fn stack_kib(program: &Path, input: &InputFile, line: &str) -> Option<u32> {
+    let fits = |steps: u32| {
+        let run = |_| limited(program, input, steps * STEP_KIB).as_deref() == Some(line);
+        (0..STACK_RUNS).all(run)
+    };
+    let mut too_small = 0;
+    let mut enough = MAX_STACK_KIB / STEP_KIB;
+    if !fits(enough) {
+        return None;
+    }
+    while enough - too_small > 1 {
+        let middle = (too_small + enough) / 2;
+        match fits(middle) {
+            true => enough = middle,
+            false => too_small = middle,
+        }
+    }
+    Some(enough * STEP_KIB)
+}
+
+/// The line that the program prints under a stack limit, with nothing in its environment.
+fn limited(program: &Path, input: &InputFile, kib: u32) -> Option<String> {
+    let mut shell = Command::new("/bin/sh");
+    shell
+        .args(["-c", r#"ulimit -c 0 && ulimit -s "$0" && exec "$1""#])
+        .arg(kib.to_string())
+        .arg(program)
+        .env_clear();
+    unit::program::line(input.output(&mut shell).ok()?).ok()
+}
+
+#[cfg(test)]
+mod tests {
+    use super::*;
+
+    #[test]
+    fn counts_are_read_from_the_reports() {
+        let callgrind = Counter::Callgrind;
+        assert_eq!(
+            callgrind.counted("==12== Collected : 160871"),
+            Some(160_871)
+        );
+        assert_eq!(callgrind.counted("==12== Events    : Ir"), None);
+        let perf = Counter::Perf;
+        let line = "148921,,instructions:u,512345,100.00,,";
+        assert_eq!(perf.counted(line), Some(148_921));
+        let line = "<not supported>,,instructions:u,0,100.00,,";
+        assert_eq!(perf.counted(line), None);
+    }
+}

@@ -1,0 +1,124 @@
+//! The time of a press, from runs of whole programs.
+
+use std::path::Path;
+use std::time::Duration;
+
+use crate::cases::Case;
+use crate::measure::{checked, input_file, Each, Programs, NAMES};
+
+/// A time is taken this often, each time as the shortest of some runs: other work on the machine
+/// only ever makes a run longer.
+const REPETITIONS: usize = 9;
+const MIN_RUNS: usize = 3;
+const MAX_RUNS: usize = 100;
+/// About how long one program's runs of one case may take together.
+const TOGETHER: Duration = Duration::from_millis(900);
+
+/// Seconds that one program takes for one case.
+pub struct Times {
+    /// From the program's start to its end.
+    pub run: f64,
+    /// The press alone, if it stands out from what other work on the machine adds.
+    pub press: Option<Estimate>,
+}
+
+/// A median and its standard error.
+#[derive(Clone, Copy, Debug, PartialEq)]
+pub struct Estimate {
+    pub value: f64,
+    pub error: f64,
+}
+
+/// The times of the programs, which run by turns.
+pub fn times(case: &Case, programs: &Programs) -> Result<Each<Times>, String> {
+    let full = input_file("full", &case.input(case.budget))?;
+    let refused = input_file("refused", &case.refused())?;
+    let seconds = |program: &Path, presses: bool| match presses {
+        true => checked(program, &full, &case.line),
+        false => checked(program, &refused, "Refused 9"),
+    };
+    let mut slowest = f64::MIN_POSITIVE;
+    for program in programs {
+        slowest = slowest.max(seconds(program, true)?);
+    }
+    let runs = TOGETHER.as_secs_f64() / slowest / REPETITIONS as f64;
+    let runs = (runs as usize).clamp(MIN_RUNS, MAX_RUNS);
+    let mut samples: Each<Samples> = Default::default();
+    for _ in 0..REPETITIONS {
+        let mut shortest = [[f64::INFINITY; 2]; NAMES.len()];
+        for _ in 0..runs {
+            for (program, [run, start]) in programs.iter().zip(&mut shortest) {
+                *run = run.min(seconds(program, true)?);
+                *start = start.min(seconds(program, false)?);
+            }
+        }
+        for (samples, [run, start]) in samples.iter_mut().zip(shortest) {
+            samples.runs.push(run);
+            samples.presses.push(run - start);
+        }
+    }
+    Ok(samples.map(Samples::times))
+}
+
+/// What the repetitions gave for one program.
+#[derive(Default)]
+struct Samples {
+    runs: Vec<f64>,
+    /// Runs less runs that load the same tables and refuse the press.
+    presses: Vec<f64>,
+}
+
+impl Samples {
+    fn times(mut self) -> Times {
+        Times {
+            run: median(&mut self.runs),
+            press: resolved(&mut self.presses),
+        }
+    }
+}
+
+/// The median, if it is above three of its standard errors.
+fn resolved(values: &mut [f64]) -> Option<Estimate> {
+    // For normally distributed values: the standard deviation from the median absolute deviation,
+    // and the standard error of a median from the standard deviation.
+    const DEVIATION: f64 = 1.4826;
+    const MEDIAN_ERROR: f64 = 1.2533;
+    let value = median(values);
+    let mut distances: Vec<f64> = values.iter().map(|other| (other - value).abs()).collect();
+    let deviation = DEVIATION * median(&mut distances);
+    let error = MEDIAN_ERROR * deviation / (values.len() as f64).sqrt();
+    (value > 3.0 * error).then_some(Estimate { value, error })
+}
+
+/// The median of values that are not empty.
+fn median(values: &mut [f64]) -> f64 {
+    values.sort_by(f64::total_cmp);
+    let middle = values.len() / 2;
+    if values.len() % 2 == 1 {
+        values[middle]
+    } else {
+        (values[middle - 1] + values[middle]) / 2.0
+    }
+}
+
+#[cfg(test)]
+mod tests {
+    use super::*;
+
+    #[test]
+    fn medians() {
+        assert_eq!(median(&mut [3.0, 1.0, 2.0]), 2.0);
+        assert_eq!(median(&mut [4.0, 1.0, 3.0, 2.0]), 2.5);
+    }
+
+    #[test]
+    fn a_median_near_0_is_not_resolved() {
+        let sure = Estimate {
+            value: 5.0,
+            error: 0.0,
+        };
+        assert_eq!(resolved(&mut [5.0, 5.0, 6.0]), Some(sure));
+        assert_eq!(resolved(&mut [1.0, -1.0, 3.0, -3.0, 0.5]), None);
+        assert_eq!(resolved(&mut [-1.0, -1.0]), None);
+    }
+}

@@ -1,0 +1,150 @@
+//! The peers against the rules' bench pairs, refusals and limits.
+
+use bench::peers::{flat, graph};
+use unit::program::input;
+use unit::{table, Term};
+
+fn term(text: &str) -> Term {
+    text.parse().expect("a term")
+}
+
+/// The line that both peers print.
+fn printed(input: &[u8]) -> String {
+    let line = flat::line(input);
+    assert_eq!(graph::line(input), line);
+    line
+}
+
+fn line(budget: u32, c: u32, left: &str, right: &str) -> String {
+    printed(&input(budget, c, &term(left), &term(right)))
+}
+
+/// The line for a left table as it stands, beside the variable 0.
+fn line_of_table(left: &[u32]) -> String {
+    let right = table(&term("0"));
+    let counted = |table: &[u32]| [&[table.len() as u32], table].concat();
+    let words = [&[10, 16], &counted(left)[..], &counted(&right)].concat();
+    printed(&bytes(&words))
+}
+
+fn bytes(words: &[u32]) -> Vec<u8> {
+    words.iter().flat_map(|word| word.to_le_bytes()).collect()
+}
+
+const LOOP: &str = r"(\0 0) \0 0";
+
+#[test]
+fn bench_pairs() {
+    let pair = r"(\\1) 0 1";
+    assert_eq!(line(10, 16, r"(\0) 3", "3"), "Same 1 1 1");
+    assert_eq!(line(10, 16, pair, "0"), "Same 2 1 1");
+    assert_eq!(line(2, 16, pair, "0"), "Same 2 1 1");
+    assert_eq!(line(1, 16, pair, "0"), "Budget 1 4 1");
+    assert_eq!(line(0, 16, "0", "1"), "Different 0 1 1");
+    assert_eq!(line(0, 16, LOOP, LOOP), "Same 0 9 9");
+    assert_eq!(line(5, 16, LOOP, "0"), "Budget 5 9 1");
+    let thrown_away = format!(r"(\\1) 0 ({LOOP})");
+    assert_eq!(line(2, 16, &thrown_away, "0"), "Same 2 1 1");
+    assert_eq!(line(1, 16, r"\(\\1) 0", r"\\1"), "Same 1 3 3");
+    assert_eq!(line(1, 16, r"\(\\1) 0", r"\\0"), "Different 1 3 3");
+    assert_eq!(line(9, 16, r"\1 0", "0"), "Different 0 4 1");
+    assert_eq!(line(9, 16, "?#2[5]{1.0:0,2.1:0}", "5"), "Same 1 1 1");
+    assert_eq!(line(9, 16, "?#1[0,1]{1.2:0}", "1"), "Same 1 1 1");
+    assert_eq!(line(9, 16, "?#1[0]{1.0:0}", "0"), "Different 0 5 1");
+}
+
+#[test]
+fn growing_pairs() {
+    let w = r"(\0 0 0) \0 0 0";
+    assert_eq!(line(1, 16, w, "0"), "Full 0 13 1");
+    assert_eq!(line(0, 16, w, "0"), "Budget 0 13 1");
+    assert_eq!(line(1, 20, w, "0"), "Budget 1 20 1");
+}
+
+#[test]
+fn free_indices_of_arguments_rise() {
+    // (\x. \y. x) z is \y. z, and so is a branch that takes z under a binder.
+    assert_eq!(line(9, 16, r"(\\1) 3", r"\4"), "Same 1 2 2");
+    assert_eq!(
+        line(9, 16, r"?#1[3,7]{1.2:\2 0 5}", r"\4 0 3"),
+        "Same 1 6 6"
+    );
+    // The index bound inside the moved part stays.
+    assert_eq!(line(9, 16, r"(\\1) \0 2", r"\\0 3"), "Same 1 5 5");
+}
+
+#[test]
+fn both_sides_move_in_one_round() {
+    assert_eq!(line(1, 16, r"(\0) 3", r"(\0) 4"), "Budget 0 4 4");
+    assert_eq!(line(2, 16, r"(\0) 3", r"(\0) 4"), "Different 2 1 1");
+}
+
+#[test]
+fn refused_tables() {
+    for (number, table) in [
+        (1, &[][..]),
+        (1, &[1, 1, 1]),
+        (1, &[1, 0, 1, 0]),
+        (1, &[1, 2, 1, 0, 0, 0, 0, 0]),
+        (2, &[2, 1, 1, 0, 0, 0, 0, 0]),
+        (2, &[1, 1, 1, 9, 0, 0, 0, 0]),
+        (2, &[1, 1, 2, 0, 0, 0, 0, 0]),
+        (2, &[1, 1, 0, 0, 0, 0, 0, 0]),
+        (3, &[1, 1, 1, 0, 6, 0, 0, 0]),
+        (3, &[1, 1, 1, 0, 0, 32_768, 0, 0]),
+        (3, &[1, 1, 1, 0, 3, 0, 0, 0]),
+        (3, &[1, 1, 1, 0, 3, 256, 0, 0]),
+        (3, &[1, 1, 1, 0, 5, 15, 0, 0]),
+        (3, &[1, 2, 1, 0, 1, 1, 2, 0, 0, 0, 0, 0]),
+        (4, &[1, 1, 1, 0, 1, 0, 1, 0]),
+        (4, &[1, 1, 1, 0, 0, 0, 0, 2]),
+        (4, &[1, 2, 1, 0, 0, 0, 0, 0, 0, 0, 0, 0]),
+        (4, &[1, 2, 1, 0, 2, 0, 2, 2, 0, 0, 0, 0]),
+        (5, &[1, 1, 1, 0, 1, 0, 0, 0]),
+        (5, &[1, 2, 1, 0, 0, 0, 0, 2, 0, 0, 0, 0]),
+        (5, &[1, 2, 1, 0, 5, 16, 2, 0, 0, 0, 0, 0]),
+        (5, &[1, 2, 1, 0, 2, 0, 2, 0, 0, 0, 0, 0]),
+        (5, &[1, 3, 1, 0, 1, 0, 2, 0, 5, 16, 3, 0, 0, 0, 0, 0]),
+        (6, &[1, 1, 1, 0, 0, 256, 0, 0]),
+        (6, &[1, 2, 1, 0, 1, 0, 2, 0, 0, 257, 0, 0]),
+    ] {
+        assert_eq!(
+            line_of_table(table),
+            format!("Refused {number}"),
+            "{table:?}"
+        );
+    }
+}
+
+#[test]
+fn refused_pairs() {
+    let equal_tags = "?0{1.0:0,1.1:0}";
+    let many = |text: &str| format!("#1[{}{text}]", format!("{text},").repeat(15));
+    assert_eq!(line(1, 16, equal_tags, "0"), "Refused 5");
+    assert_eq!(line(1, 2_048, &many("0"), "0"), "Refused 5");
+    assert_eq!(line(1, 15, "0", "0"), "Refused 7");
+    assert_eq!(line(1, 2_049, "0", "0"), "Refused 7");
+    assert_eq!(line(1, u32::MAX, "0", "0"), "Refused 7");
+    assert_eq!(line(1, 16, "0", &many("0")), "Refused 8");
+    assert_eq!(line(1_000_001, 16, "0", "0"), "Refused 9");
+    assert_eq!(line(1_000_000, 2_048, "255", "0"), "Different 0 1 1");
+    // The left table's refusal comes first, and any before that of the budget.
+    assert_eq!(line(1_000_001, 16, "256", "#0"), "Refused 6");
+    assert_eq!(line(1_000_001, 16, "0", "#0"), "Refused 3");
+}
+
+#[test]
+fn inputs_of_another_length() {
+    let whole = input(0, 16, &term("0"), &term("0"));
+    assert_eq!(printed(&whole), "Same 0 1 1");
+    for length in 0..whole.len() {
+        assert_eq!(printed(&whole[..length]), "Input", "{length}");
+    }
+    for surplus in [&[0][..], &[0; 4]] {
+        assert_eq!(printed(&[&whole, surplus].concat()), "Input");
+    }
+    let counted =
+        |count: u32| bytes(&[&[0, 0, count], &vec![0; count as usize][..], &[0]].concat());
+    assert_eq!(printed(&counted(8_196)), "Refused 7");
+    assert_eq!(printed(&counted(8_197)), "Input");
+}

@@ -1,0 +1,24 @@
+//! Why no line was printed.
+
+#[derive(Debug, PartialEq, Eq)]
+pub struct Failure {
+    pub status: u8,
+    pub message: String,
+}
+
+impl Failure {
+    /// The program cannot be built or run, printed no line, or its line cannot be passed on.
+    pub fn program(message: String) -> Failure {
+        Failure { status: 3, message }
+    }
+
+    /// The arguments are none of the forms that `--help` lists.
+    pub fn usage(reason: String) -> Failure {
+        Failure::text(format!("{reason}\nSee judge --help."))
+    }
+
+    /// Text or words that are no term.
+    pub fn text(message: String) -> Failure {
+        Failure { status: 2, message }
+    }
+}

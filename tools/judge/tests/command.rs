@@ -1,0 +1,543 @@
+//! The command, run on programs that stand in for `verdict`.
+
+use std::env;
+use std::ffi::OsString;
+use std::fs;
+use std::io::Write;
+use std::os::unix::fs::PermissionsExt;
+use std::path::{Path, PathBuf};
+use std::process::{Command, Output, Stdio};
+use std::sync::OnceLock;
+
+/// Prints the words of its input on one line.
+const ECHO: &str = "#!/bin/sh\necho $(od -An -v -tu4)\n";
+/// Prints a line without reading its input.
+const DEAF: &str = "#!/bin/sh\nexec <&-\necho Input\n";
+const SILENT: &str = "#!/bin/sh\ncat >/dev/null\n";
+const TWO_LINES: &str = "#!/bin/sh\ncat >/dev/null\necho Same\necho Same\n";
+const FAILING: &str = "#!/bin/sh\ncat >/dev/null\necho Same 0 1 1\nexit 3\n";
+/// Prints its budget as a line's number: `Refused 6`, or a verdict.
+const LINES: &str = "#!/bin/sh\nset -- $(od -An -v -tu4)\ncase $1 in\n\
+    11) echo Same 1 2 3 ;; 12) echo Different 1 2 3 ;; 13) echo Budget 1 2 3 ;;\n\
+    14) echo Full 1 2 3 ;; 15) echo Input ;; *) echo Refused $1 ;;\nesac\n";
+/// Refuses a table of 16 words on the left, then on the right, by its budget as a number.
+const SIDES: &str = "#!/bin/sh\nset -- $(od -An -v -tu4)\nnumber=$1\n\
+    [ $3 = 16 ] && echo Refused $number && exit\nshift $((3 + $3))\n\
+    [ $1 = 16 ] && echo Refused $number && exit\necho Same 0 1 1\n";
+
+/// A folder laid out like the repository, with ECHO for the built program and the others beside it.
+/// All are written before the first is run: a file open for writing cannot be executed.
+fn repository() -> &'static Path {
+    static ROOT: OnceLock<PathBuf> = OnceLock::new();
+    ROOT.get_or_init(|| {
+        let root = Path::new(env!("CARGO_TARGET_TMPDIR")).join("repository");
+        let bin = root.join("target/bin");
+        fs::create_dir_all(&bin).expect("a folder for the programs");
+        fs::create_dir_all(root.join("docs/deeper")).expect("a folder below the root");
+        fs::create_dir_all(root.join("commands")).expect("a folder for rt");
+        for (name, script) in [
+            ("../../commands/rt", RT),
+            ("verdict", ECHO),
+            ("deaf", DEAF),
+            ("silent", SILENT),
+            ("two-lines", TWO_LINES),
+            ("failing", FAILING),
+            ("lines", LINES),
+            ("sides", SIDES),
+        ] {
+            let path = bin.join(name);
+            fs::write(&path, script).expect("a program");
+            fs::set_permissions(&path, fs::Permissions::from_mode(0o755)).expect("executable");
+        }
+        fs::write(bin.join("not-executable"), "").expect("a file");
+        fs::write(root.join("crates.txt"), "").expect("a list of crates");
+        root
+    })
+}
+
+/// Exit status, standard output and standard error of the command, run in a folder on an input.
+fn judge_on(folder: &Path, input: &str, arguments: &[&str]) -> (i32, String, String) {
+    let mut child = Command::new(env!("CARGO_BIN_EXE_judge"))
+        .args(arguments)
+        .current_dir(folder)
+        .env("PATH", path_without_rt())
+        .stdin(Stdio::piped())
+        .stdout(Stdio::piped())
+        .stderr(Stdio::piped())
+        .spawn()
+        .expect("judge runs");
+    let mut stdin = child.stdin.take().expect("standard input is piped");
+    // A command that does not read its input may end first.
+    let _ = stdin.write_all(input.as_bytes());
+    drop(stdin);
+    answer(child.wait_with_output().expect("judge ends"))
+}
+
+fn answer(output: Output) -> (i32, String, String) {
+    let text = |bytes| String::from_utf8(bytes).expect("text");
+    let status = output.status.code().expect("an exit status");
+    (status, text(output.stdout), text(output.stderr))
+}
+
+/// The path of commands, less the folders in which an rt is installed.
+fn path_without_rt() -> OsString {
+    let path = env::var_os("PATH").unwrap_or_default();
+    let folders = env::split_paths(&path).filter(|folder| !folder.join("rt").exists());
+    env::join_paths(folders).expect("folders of the path")
+}
+
+/// What the command says where it runs the repository's program as it is.
+const UNCHECKED: &str =
+    "judge: rt is not installed: nothing shows that the program is that of these sources\n";
+
+/// As `judge_on`, without an input and in a repository without rt, which is said and left out here.
+fn judge_in(folder: &Path, arguments: &[&str]) -> (i32, String, String) {
+    let (status, output, message) = judge_on(folder, "", arguments);
+    (status, output, message.replace(UNCHECKED, ""))
+}
+
+fn judge(arguments: &[&str]) -> (i32, String, String) {
+    judge_in(repository(), arguments)
+}
+
+fn printed(line: &str) -> (i32, String, String) {
+    (0, format!("{line}\n"), String::new())
+}
+
+/// The command prints nothing on standard output and ends with the status; its message.
+fn refused(status: i32, arguments: &[&str]) -> String {
+    let (code, output, message) = judge(arguments);
+    assert_eq!((code, output.as_str()), (status, ""), "{message}");
+    message
+}
+
+#[test]
+fn the_program_gets_both_tables_and_its_line_is_printed() {
+    assert_eq!(
+        judge(&[r"\0", "7"]),
+        printed("1000 2048 12 1 2 1 0 1 0 2 0 0 0 0 0 8 1 1 1 0 0 7 0 0")
+    );
+}
+
+#[test]
+fn options_stand_anywhere_and_are_not_judged() {
+    let line = printed("4294967295 0 8 1 1 1 0 0 0 0 0 8 1 1 1 0 0 300 0 0");
+    let options = ["--budget", "4294967295", "--words", "0"];
+    assert_eq!(judge(&[&options[..], &["0", "300"]].concat()), line);
+    assert_eq!(judge(&[&["0", "300"], &options[..]].concat()), line);
+}
+
+#[test]
+fn values_stand_behind_an_equals_sign_too() {
+    let line = printed("5 16 8 1 1 1 0 0 0 0 0 8 1 1 1 0 0 1 0 0");
+    assert_eq!(judge(&["--budget=5", "--words=16", "0", "1"]), line);
+    let program = format!(
+        "--program={}",
+        repository().join("target/bin/verdict").display()
+    );
+    let line = judge(&["0", "1"]);
+    assert_eq!(judge_in(Path::new("/"), &[&program, "0", "1"]), line);
+}
+
+#[test]
+fn after_two_dashes_nothing_is_an_option() {
+    let line = judge(&["0", "1"]);
+    assert_eq!(judge(&["--", "0", "1"]), line);
+    assert_eq!(judge(&["0", "--", "1"]), line);
+    assert!(refused(2, &["--", "--budget", "1"]).starts_with("judge: left term, column 1: "));
+}
+
+#[test]
+fn the_default_pair_is_named() {
+    let (status, output, message) = judge(&["--budget", "10", "--words", "16"]);
+    assert_eq!(status, 0);
+    assert_eq!(
+        output,
+        "10 16 32 1 7 1 0 2 0 2 0 2 0 3 7 1 0 4 6 1 0 5 0 0 1 0 0 0 0 0 0 0 1 0 0 \
+         8 1 1 1 0 0 0 0 0\n"
+    );
+    assert!(
+        message.starts_with("judge: the default pair, '(\\\\1) 0 1' and '0';"),
+        "{message}"
+    );
+}
+
+#[test]
+fn terms_are_read_from_standard_input() {
+    let root = repository();
+    let on = |input, arguments: &[&str]| {
+        let (status, output, message) = judge_on(root, input, arguments);
+        (status, output, message.replace(UNCHECKED, ""))
+    };
+    let line = judge(&[r"\0 7", "1"]);
+    assert_eq!(on("\\0 7\n1\n", &["-"]), line);
+    assert_eq!(on("\n\\0\t7\n\n1", &["-"]), line);
+    assert_eq!(on("\\0\n7\n", &["-", "1"]), line);
+    assert_eq!(on(" 1\n", &[r"\0 7", "-"]), line);
+    assert_eq!(on("\\0", &["--table", "-"]), judge(&["--table", r"\0"]));
+    assert_eq!(on("2,1,0,24\n", &["--text", "-"]), printed(r"(\0) 3"));
+    for (input, found) in [("", 0), ("0\n", 1), ("0\n1\n2\n", 3)] {
+        let (status, _, message) = on(input, &["-"]);
+        assert_eq!(status, 2);
+        assert!(message.contains(&format!("two lines, a term each; found {found}")));
+    }
+    assert!(refused(2, &["-", "-"]).contains("`-` can be one of two terms"));
+}
+
+#[test]
+fn the_program_is_found_from_folders_below_and_by_path() {
+    let line = judge(&["0", "0"]);
+    assert_eq!(
+        judge_in(&repository().join("docs/deeper"), &["0", "0"]),
+        line
+    );
+    let bin = repository().join("target/bin");
+    assert_eq!(judge_in(&bin, &["--program", "verdict", "0", "0"]), line);
+    // A relative path starts from the caller's folder, whatever the repository.
+    let root = repository().to_str().expect("text");
+    let arguments = ["--repository", root, "--program", "verdict", "0", "0"];
+    assert_eq!(judge_in(&bin, &arguments), line);
+    assert_eq!(judge_in(&bin, &arguments[2..]), line);
+    let anywhere = env::temp_dir();
+    assert_eq!(judge_in(&anywhere, &["--repository", root, "0", "0"]), line);
+    let absolute = bin.join("verdict");
+    let absolute = absolute.to_str().expect("text");
+    assert_eq!(
+        judge_in(&env::temp_dir(), &["--program", absolute, "0", "0"]),
+        line
+    );
+}
+
+#[test]
+fn a_program_may_stop_reading() {
+    let long = format!("#1[{}0]", "0,".repeat(60_000));
+    let (status, output, _) = judge(&["--program", "target/bin/deaf", &long, "0"]);
+    assert_eq!((status, output.as_str()), (0, "Input\n"));
+}
+
+#[test]
+fn a_program_that_prints_no_line_is_status_3() {
+    for (name, reason) in [
+        ("silent", "printed something else than one line"),
+        ("two-lines", "printed something else than one line"),
+        ("failing", "failed: exit status: 3"),
+        ("not-executable", "cannot be run: Permission denied"),
+        ("absent", "cannot be run: No such file or directory"),
+    ] {
+        let path = format!("target/bin/{name}");
+        let message = refused(3, &["--program", &path, "0", "0"]);
+        assert!(
+            message.starts_with(&format!("judge: {path} {reason}")),
+            "{message}"
+        );
+    }
+}
+
+#[test]
+fn without_a_repository_or_a_program_there_is_nothing_to_run() {
+    let (status, output, message) = judge_in(Path::new("/"), &["0", "0"]);
+    assert_eq!((status, output.as_str()), (3, ""));
+    assert!(message.starts_with("judge: no repository is here or above"));
+    let empty = Repository::new("empty", "");
+    let (status, output, message) = judge_in(&empty.root, &["0", "0"]);
+    assert_eq!((status, output.as_str()), (3, ""));
+    assert!(
+        message.contains("there is no target/bin/verdict"),
+        "{message}"
+    );
+}
+
+/// Stands in for rt: builds a program from the file `source` unless its stamp is of that source.
+const RT: &str = "#!/bin/sh
+[ \"$*\" = 'check verdict' ] || exit 2
+if cmp -s source target/stamp/verdict; then
+    echo 'rt: verdict proved (unchanged since it was last proved)'
+    exit
+fi
+echo 'what the prover has to say' >&2
+echo 'rt: words proved (unchanged since it was last proved)'
+if grep -q wrong source; then
+    echo 'rt: verdict NOT PROVED (exit 1, 3 s)'
+    exit 1
+fi
+mkdir -p target/bin target/stamp
+{ echo '#!/bin/sh'; cat source; } >target/bin/verdict
+chmod +x target/bin/verdict
+cp source target/stamp/verdict
+echo 'rt: verdict proved (3 s)'
+";
+
+/// A repository of its own, whose program is built by RT.
+struct Repository {
+    root: PathBuf,
+}
+
+impl Repository {
+    fn new(name: &str, source: &str) -> Repository {
+        let root = Path::new(env!("CARGO_TARGET_TMPDIR")).join(name);
+        let _ = fs::remove_dir_all(&root);
+        fs::create_dir_all(&root).expect("a folder for the repository");
+        fs::write(root.join("crates.txt"), "").expect("a list of crates");
+        fs::write(root.join("source"), source).expect("a source");
+        Repository { root }
+    }
+
+    fn judge(&self) -> (i32, String, String) {
+        let path = [
+            repository().join("commands").into_os_string(),
+            path_without_rt(),
+        ];
+        let output = Command::new(env!("CARGO_BIN_EXE_judge"))
+            .args(["0", "0"])
+            .current_dir(&self.root)
+            .env("PATH", path.join(":".as_ref()))
+            .output()
+            .expect("judge runs");
+        answer(output)
+    }
+
+    fn prints(line: &str) -> String {
+        format!("cat >/dev/null\necho {line}\n")
+    }
+}
+
+#[test]
+fn the_program_is_built_once_and_its_progress_told() {
+    let repository = Repository::new("building", &Repository::prints("Same 0 1 1"));
+    let log = repository.root.join("target/log/judge.out");
+    let (status, output, message) = repository.judge();
+    assert_eq!((status, output.as_str()), (0, "Same 0 1 1\n"), "{message}");
+    assert_eq!(
+        message,
+        format!(
+            "judge: proving and building the program first, which can take minutes (log: {})\n\
+             judge: verdict proved (3 s)\n",
+            log.display()
+        )
+    );
+    let said = fs::read_to_string(log).expect("the log");
+    assert!(said.contains("what the prover has to say\n"), "{said}");
+    assert_eq!(repository.judge(), printed("Same 0 1 1"));
+}
+
+#[test]
+fn a_deleted_program_is_built_again() {
+    let repository = Repository::new("deleted", &Repository::prints("Same 0 1 1"));
+    repository.judge();
+    fs::remove_file(repository.root.join("target/bin/verdict")).expect("it is there");
+    let (status, output, message) = repository.judge();
+    assert_eq!((status, output.as_str()), (0, "Same 0 1 1\n"), "{message}");
+    assert!(message.ends_with("judge: verdict proved (3 s)\n"));
+}
+
+#[test]
+fn a_changed_source_is_judged_by_a_new_program() {
+    let repository = Repository::new("changed", &Repository::prints("Same 0 1 1"));
+    repository.judge();
+    let source = repository.root.join("source");
+    fs::write(&source, Repository::prints("Different 0 1 1")).expect("the source");
+    assert_eq!(repository.judge().1, "Different 0 1 1\n");
+    fs::write(&source, "wrong").expect("the source");
+    let (status, output, message) = repository.judge();
+    assert_eq!((status, output.as_str()), (3, ""));
+    assert!(message.contains("judge: verdict NOT PROVED (exit 1, 3 s)\n"));
+    assert!(message.contains("did not build target/bin/verdict from these sources"));
+    assert!(message.contains("Its log is "), "{message}");
+}
+
+#[test]
+fn the_verdict_decides_the_exit_status_if_asked() {
+    for (budget, line, status) in [
+        ("11", "Same 1 2 3", 0),
+        ("12", "Different 1 2 3", 1),
+        ("13", "Budget 1 2 3", 4),
+        ("14", "Full 1 2 3", 5),
+        ("6", "Refused 6", 6),
+        ("15", "Input", 7),
+    ] {
+        let arguments = [
+            "--program",
+            "target/bin/lines",
+            "--budget",
+            budget,
+            "0",
+            "0",
+        ];
+        let (without, output, _) = judge(&arguments);
+        assert_eq!((without, output), (0, format!("{line}\n")));
+        let (with, output, _) = judge(&[&arguments[..], &["--exit-code"]].concat());
+        assert_eq!((with, output), (status, format!("{line}\n")));
+    }
+}
+
+#[test]
+fn a_refusal_names_side_and_reason() {
+    // Three words make a table of 16.
+    let (wrong, right) = ("0 0", "0");
+    for (number, reason) in [
+        ("3", "a tag is outside 1 to 255"),
+        (
+            "5",
+            "more than 15 arguments or branches, or branch tags that do not rise",
+        ),
+        ("6", "a free number is above 255"),
+        ("8", "3 words are more than C, which is 2048"),
+    ] {
+        for (side, terms) in [("left", [wrong, right]), ("right", [right, wrong])] {
+            let arguments = ["--program", "target/bin/sides", "--budget", number];
+            let (status, output, message) = judge(&[&arguments[..], &terms].concat());
+            assert_eq!((status, output), (0, format!("Refused {number}\n")));
+            assert_eq!(message, format!("judge: {side} term: {reason}\n"));
+        }
+    }
+    let lines = |options: [&str; 4]| judge(&[&options[..], &["0 0", "0"]].concat()).2;
+    assert_eq!(
+        lines(["--program", "target/bin/lines", "--budget", "9"]),
+        "judge: the budget is 9 and must be at most 1000000\n"
+    );
+    assert_eq!(
+        lines(["--program", "target/bin/lines", "--budget", "7"]),
+        "judge: C, the words in each workspace, is 2048 and must be 16 to 2048\n"
+    );
+    assert_eq!(
+        lines(["--program", "target/bin/lines", "--budget", "15"]),
+        "judge: a table holds 2048 words of a term; left has 3, right 1\n"
+    );
+}
+
+#[test]
+fn a_line_that_cannot_be_written_is_said() {
+    for arguments in [&["0", "0"][..], &["--help"], &["--table", "0"]] {
+        let full = fs::File::options().write(true).open("/dev/full");
+        let output = Command::new(env!("CARGO_BIN_EXE_judge"))
+            .args(arguments)
+            .current_dir(repository())
+            .env("PATH", path_without_rt())
+            .stdout(full.expect("the full device"))
+            .output();
+        let (status, _, message) = answer(output.expect("judge runs"));
+        assert_eq!(status, 3);
+        let message = message.replace(UNCHECKED, "");
+        assert!(message.starts_with("judge: standard output cannot be written: "));
+    }
+}
+
+#[test]
+fn text_errors_name_the_term_and_the_place() {
+    assert_eq!(
+        refused(2, &["0", "0 (1"]),
+        "judge: right term, column 5: expected a space or `)`, found the end\n    0 (1\n        ^\n"
+    );
+    assert_eq!(
+        refused(2, &["0 λ1", "("]),
+        "judge: left term, column 3: expected an index, `(`, `\\`, `#`, `?` or the end, found `λ`\n    \
+         0 λ1\n      ^\n"
+    );
+    let long = "(".repeat(100_000);
+    assert_eq!(
+        refused(2, &[&long, "0"]),
+        format!(
+            "judge: left term, column 100001: \
+             expected an index, `(`, `\\`, `#` or `?`, found the end\n    ..{}\n{}^\n",
+            "(".repeat(60),
+            " ".repeat(66)
+        )
+    );
+    assert!(refused(2, &["--table", "0 )"]).starts_with("judge: term, column 3: "));
+    assert!(refused(2, &["--show-words", ""]).starts_with("judge: term, column 1: "));
+}
+
+#[test]
+fn bad_usage_is_status_2() {
+    for (arguments, reason) in [
+        (&["0"][..], "two terms are needed"),
+        (&["0", "1", "2"], "two terms are needed"),
+        (&["--budget"], "--budget needs a value"),
+        (&["--budget", "-1", "0", "0"], "--budget needs a number"),
+        (&["--words", "4294967296"], "--words needs a number"),
+        (&["--program"], "--program needs a value"),
+        (&["--budget=", "0", "0"], "--budget needs a number"),
+        (&["--fast", "0", "0"], "--fast is no option"),
+        (&["--exit-code=1", "0", "0"], "--exit-code takes no value"),
+        (&["--table=0"], "--table takes no value"),
+        (&["--table"], "one term in single quotes is needed"),
+        (
+            &["--show-words", "0", "1"],
+            "one term in single quotes is needed",
+        ),
+    ] {
+        let message = refused(2, arguments);
+        assert!(
+            message.starts_with(&format!("judge: {reason}")),
+            "{message}"
+        );
+        assert!(message.ends_with("See judge --help.\n"), "{message}");
+    }
+}
+
+#[test]
+fn tables_words_and_text_need_no_program() {
+    let root = Path::new("/");
+    assert_eq!(
+        judge_in(root, &["--table", r"\0"]),
+        printed("1,2,1,0, 1,0,2,0, 0,0,0,0")
+    );
+    assert_eq!(
+        judge_in(root, &["--show-words", r"(\\1) 0 1"]),
+        printed("2,2,1,1,8,0,8")
+    );
+    for words in [
+        &["2,2,1,1,8,0,8"][..],
+        &["2", "2", "1", "1", "8", "0", "8"],
+        &["2, 2,1 1", "8,", "0", "8,"],
+    ] {
+        let arguments = [&["--text"], words].concat();
+        assert_eq!(judge_in(root, &arguments), printed(r"(\\1) 0 1"));
+    }
+}
+
+#[test]
+fn word_errors_name_the_place() {
+    assert_eq!(
+        refused(2, &["--text", "2,,1"]),
+        "judge: word 2: expected a number from 0 to 4294967295, found ``\n"
+    );
+    assert_eq!(
+        refused(2, &["--text", "2", "x"]),
+        "judge: word 2: expected a number from 0 to 4294967295, found `x`\n"
+    );
+    assert_eq!(
+        refused(2, &["--text", "1", "6"]),
+        "judge: word 2: 6 has kind 6; kinds run from 0 to 5\n"
+    );
+    assert_eq!(
+        refused(2, &["--text"]),
+        "judge: word 1: the words end before the term does\n"
+    );
+    assert_eq!(
+        refused(2, &["--show-words", "#33554432"]),
+        "judge: word 1: its tag is too large for a word\n"
+    );
+}
+
+#[test]
+fn help_is_short() {
+    let (status, help, message) = judge(&["--help"]);
+    assert_eq!((status, message.as_str()), (0, ""));
+    assert!(help.lines().count() < 60);
+    for option in [
+        "--budget",
+        "--words",
+        "--program",
+        "--repository",
+        "--exit-code",
+        "--version",
+        "--table",
+        "--show-words",
+        "--text",
+    ] {
+        assert!(help.contains(option), "{option}");
+    }
+    assert_eq!(judge(&["0", "-h"]).1, help);
+    assert_eq!(judge(&["--version"]), printed("judge 0.1.0"));
+}

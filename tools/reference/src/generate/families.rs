@@ -1,0 +1,269 @@
+//! Known families of pairs: arithmetic, loops, thrown-away loops, growing
+//! terms, stuck terms and deep ones.
+
+use crate::random::Random;
+use crate::term::{abs, app, branch, case, con, var, Term, LARGEST_FREE, MOST, WORKSPACE};
+
+/// A function applied to arguments one after the other.
+pub fn apply(function: Term, args: impl IntoIterator<Item = Term>) -> Term {
+    args.into_iter().fold(function, app)
+}
+
+/// A term under `count` abstractions.
+pub fn lambdas(count: usize, body: Term) -> Term {
+    (0..count).fold(body, |term, _| abs(term))
+}
+
+/// The Church numeral of `n`.
+pub fn church(n: usize) -> Term {
+    lambdas(2, (0..n).fold(var(0), |term, _| app(var(1), term)))
+}
+
+fn church_sum(m: Term, n: Term) -> Term {
+    let second = apply(var(2), [var(1), var(0)]);
+    let sum = lambdas(4, apply(var(3), [var(1), second]));
+    apply(sum, [m, n])
+}
+
+fn church_product(m: Term, n: Term) -> Term {
+    let product = lambdas(3, app(var(2), app(var(1), var(0))));
+    apply(product, [m, n])
+}
+
+/// Zero is constructor 1, the successor is constructor 2.
+pub fn peano(n: usize) -> Term {
+    (0..n).fold(con(1, Vec::new()), |term, _| con(2, vec![term]))
+}
+
+/// A function that gets itself as its first argument, applied.
+fn recursive(function: Term, args: impl IntoIterator<Item = Term>) -> Term {
+    let again = function.clone();
+    apply(app(function, again), args)
+}
+
+fn peano_sum(m: Term, n: Term) -> Term {
+    let rest = apply(var(3), [var(3), var(0), var(1)]);
+    let arms = vec![branch(1, 0, var(0)), branch(2, 1, con(2, vec![rest]))];
+    recursive(lambdas(3, case(var(1), arms)), [m, n])
+}
+
+fn peano_predecessor(n: Term) -> Term {
+    case(n, vec![branch(1, 0, peano(0)), branch(2, 1, var(0))])
+}
+
+/// Constructor 3 for even numbers and 4 for odd ones.
+fn peano_parity(n: Term) -> Term {
+    let again = apply(var(3), [var(3), var(0)]);
+    let odd = case(
+        var(0),
+        vec![branch(1, 0, con(4, Vec::new())), branch(2, 1, again)],
+    );
+    let arms = vec![branch(1, 0, con(3, Vec::new())), branch(2, 1, odd)];
+    recursive(lambdas(2, case(var(0), arms)), [n])
+}
+
+fn doubled(term: Term) -> Term {
+    app(term.clone(), term)
+}
+
+/// The loop that contracts to itself.
+pub fn omega() -> Term {
+    doubled(abs(doubled(var(0))))
+}
+
+/// A loop of two terms, and its second one.
+fn loop_of_two() -> (Term, Term) {
+    let twice = abs(doubled(var(0)));
+    let outer = abs(app(twice.clone(), var(0)));
+    (doubled(outer.clone()), app(twice, outer))
+}
+
+/// A term that grows by seven words with each contraction.
+pub fn growing() -> Term {
+    doubled(abs(app(doubled(var(0)), var(0))))
+}
+
+/// A term that grows by one constructor with each contraction.
+fn growing_data() -> Term {
+    doubled(abs(con(2, vec![doubled(var(0))])))
+}
+
+/// The identity applied `count` times to a term.
+pub fn identities(count: usize, term: Term) -> Term {
+    (0..count).fold(term, |term, _| app(abs(var(0)), term))
+}
+
+/// A pair of one of the families.
+pub fn pair(random: &mut Random) -> (Term, Term) {
+    match random.below(5) {
+        0 => arithmetic(random),
+        1 => data(random),
+        2 => loops(random),
+        3 => thrown_away(random),
+        _ => places(random),
+    }
+}
+
+fn arithmetic(random: &mut Random) -> (Term, Term) {
+    let (m, n) = (random.below(5), random.below(5));
+    let left = match random.below(3) {
+        0 => church_sum(church(m), church(n)),
+        _ => church_product(church(m), church(n)),
+    };
+    let right = match random.below(5) {
+        0 => church_product(church(n), church(m)),
+        1 => church_sum(church(n), church(m)),
+        2 => church(m * n),
+        3 => church(m + n),
+        _ => app(church(random.below(3)), church(random.below(4))),
+    };
+    (left, right)
+}
+
+fn data(random: &mut Random) -> (Term, Term) {
+    let most = random.pick(&[6, 6, 30]);
+    let (m, n) = (random.below(most), random.below(most));
+    let off = usize::from(random.percent(40));
+    match random.below(5) {
+        0 => (peano_sum(peano(m), peano(n)), peano(m + n + off)),
+        1 => (peano_sum(peano(m), peano(n)), peano_sum(peano(n), peano(m))),
+        2 => (peano_predecessor(peano(m)), peano(m.saturating_sub(1))),
+        3 => (
+            peano_parity(peano_sum(peano(m), peano(n))),
+            con(3 + ((m + n + off) % 2) as u32, Vec::new()),
+        ),
+        _ => (
+            peano_sum(peano(m), var(0)),
+            peano_sum(var(random.below(2) as u32), peano(n)),
+        ),
+    }
+}
+
+fn loops(random: &mut Random) -> (Term, Term) {
+    let free = var(random.below(3) as u32);
+    match random.below(8) {
+        0 => (omega(), omega()),
+        1 => (omega(), free),
+        2 => (identities(random.between(1, 3), omega()), omega()),
+        3 => loop_of_two(),
+        4 => (growing(), free),
+        5 => (growing_data(), growing()),
+        6 => (growing_data(), con(2, vec![growing_data()])),
+        _ => (
+            case(omega(), vec![branch(1, 0, free.clone())]),
+            app(free, omega()),
+        ),
+    }
+}
+
+/// An endless term in a place that the leftmost outermost order throws away.
+fn thrown_away(random: &mut Random) -> (Term, Term) {
+    let kept = var(random.below(4) as u32);
+    let endless = if random.percent(50) {
+        omega()
+    } else {
+        growing()
+    };
+    let left = match random.below(4) {
+        0 => apply(lambdas(2, var(1)), [kept.clone(), endless]),
+        1 => apply(lambdas(2, var(0)), [endless, kept.clone()]),
+        2 => case(
+            con(2, vec![kept.clone(), endless]),
+            vec![branch(1, 0, peano(0)), branch(2, 2, var(1))],
+        ),
+        _ => case(
+            con(1, Vec::new()),
+            vec![branch(1, 0, kept.clone()), branch(2, 1, endless)],
+        ),
+    };
+    let right = match random.below(3) {
+        0 => identities(random.below(4), kept),
+        1 => var(4),
+        _ => kept,
+    };
+    (left, right)
+}
+
+/// Redexes under binders, in arguments and in branches, stuck places and
+/// free numbers at the limit.
+fn places(random: &mut Random) -> (Term, Term) {
+    let free = random.pick(&[0, 1, 2, LARGEST_FREE - 1, LARGEST_FREE]);
+    let step = |binders: u32| app(abs(var(1)), var(binders + free));
+    match random.below(8) {
+        0 => (lambdas(3, step(3)), lambdas(3, var(0))),
+        1 => (
+            con(9, vec![step(0), step(0), var(free)]),
+            con(9, vec![step(0), var(free), var(free)]),
+        ),
+        2 => (
+            case(
+                var(free),
+                vec![branch(1, 0, step(0)), branch(7, 2, step(2))],
+            ),
+            case(var(free), vec![branch(1, 0, var(0)), branch(7, 2, var(0))]),
+        ),
+        3 => (
+            app(con(1, vec![step(0)]), step(0)),
+            app(con(1, vec![var(0)]), var(0)),
+        ),
+        // The branch of the tag binds another number than the arguments.
+        4 => (
+            case(con(1, vec![var(0)]), vec![branch(1, 0, step(0))]),
+            identities(2, var(0)),
+        ),
+        // Two arguments exchanged, put under a binder of the branch's body.
+        5 => (
+            case(
+                con(2, vec![var(0), var(free)]),
+                vec![branch(
+                    2,
+                    2,
+                    abs(con(3, vec![var(0), var(1), var(2), var(3)])),
+                )],
+            ),
+            abs(con(3, vec![var(0), var(free + 1), var(1), var(1)])),
+        ),
+        // The example of section 2.2 of paper 000 and its normal form.
+        6 => (
+            app(abs(var(0)), abs(apply(abs(var(0)), [var(0), abs(var(0))]))),
+            abs(app(var(0), abs(var(0)))),
+        ),
+        // A wrapper is another term: eta is left out.
+        _ => (abs(app(var(1 + free), var(0))), identities(1, var(free))),
+    }
+}
+
+/// A term of exactly `size` words, at least 8, nested as deep as one way
+/// allows, with a variable or a redex at its deepest place.
+pub fn deep(random: &mut Random, size: usize) -> Term {
+    let way = random.below(7);
+    let (per_level, bound) = [(1, 1), (1, 0), (1, 0), (2, 0), (2, 0), (3, MOST), (2, 0)][way];
+    let redex = random.percent(50);
+    let outside = size - if redex { 4 } else { 1 };
+    let (levels, rest) = (outside / per_level, outside % per_level);
+    let binders = (levels * bound + rest) as u32;
+    let index = random.pick(&[0, binders, binders + LARGEST_FREE]);
+    let innermost = identities(usize::from(redex), var(index));
+    (0..levels).fold(lambdas(rest, innermost), |term, _| match way {
+        0 => abs(term),
+        1 => con(1, vec![term]),
+        2 => case(term, Vec::new()),
+        3 => app(term, var(0)),
+        4 => app(var(0), term),
+        5 => case(var(0), vec![branch(1, MOST as u32, term)]),
+        _ => con(2, vec![var(0), term]),
+    })
+}
+
+/// Two deep terms around the longest workspace's length.
+pub fn deep_pair(random: &mut Random) -> (Term, Term) {
+    let longest = *WORKSPACE.end();
+    let size = random.pick(&[longest - 3, longest - 1, longest]);
+    let left = deep(random, size);
+    let right = match random.below(3) {
+        0 => left.clone(),
+        1 => deep(random, size),
+        _ => var(0),
+    };
+    (left, right)
+}

@@ -1,0 +1,491 @@
+//! Scripts for the replaying program.
+
+use crate::generate::damage::{changed_word, faulty_table, faulty_words, FAULTS};
+use crate::generate::inputs::{wrong_budget, wrong_capacity};
+use crate::generate::pairs::{trial, Trial};
+use crate::generate::tables::{term_table, Order};
+use crate::generate::terms::{term, Style};
+use crate::input::bytes;
+use crate::press::{Session, Side, LARGEST_BUDGET, LARGEST_TOTAL};
+use crate::random::Random;
+use crate::replay::{Event, Machine, Operation, LONGEST_SCRIPT, VERDICTS};
+use crate::table::{LONGEST_TABLE, RECORD};
+use crate::term::{var, Term, WORKSPACE};
+
+/// What a script is about; the cases of a run go through these in turn.
+const SUBJECTS: [fn(&mut Random) -> Composer; 8] = [
+    press_list,
+    refused_loads,
+    wrong_words,
+    press_list,
+    session_limits,
+    writing,
+    odd_workspaces,
+    press_list,
+];
+
+/// The script of one case of a run.
+pub fn script(seed: u64, case: u64) -> Vec<u8> {
+    let mut random = Random::new(seed, case);
+    let subjects = SUBJECTS.len() as u64;
+    let composer = SUBJECTS[(case % subjects) as usize](&mut random);
+    match (case / subjects) % 24 {
+        1 | 6 | 11 | 16 | 21 => broken_script(&mut random, composer),
+        3 => long_script(&mut random, composer),
+        _ => bytes(&composer.words),
+    }
+}
+
+/// A budget that is soon spent on any terms.
+const FEW_ROUNDS: u32 = 100;
+
+/// A script in the making, with the state that its operations lead to.
+struct Composer {
+    words: Vec<u32>,
+    machine: Machine,
+    /// The lengths last returned.
+    lengths: (u32, u32),
+    /// A budget whose rounds are soon made on the current terms.
+    budget: u32,
+}
+
+impl Composer {
+    fn new(left: u32, right: u32) -> Self {
+        Composer {
+            words: vec![left, right],
+            machine: Machine::new(left, right),
+            lengths: (0, 0),
+            budget: 1,
+        }
+    }
+
+    /// Adds an operation, unless the script would become too long by it.
+    fn add(&mut self, operation: Operation) {
+        let words = encoded(&operation);
+        if self.words.len() + words.len() > LONGEST_SCRIPT {
+            return;
+        }
+        self.words.extend(words);
+        match (
+            self.machine.apply(&operation, &mut String::new()),
+            operation,
+        ) {
+            (Event::Press(Ok(answer)), _) => self.lengths = (answer.left, answer.right),
+            (Event::Load(Ok(length)), Operation::Load { side, .. }) => match side {
+                Side::Left => self.lengths.0 = length,
+                Side::Right => self.lengths.1 = length,
+            },
+            _ => {}
+        }
+    }
+
+    fn load(&mut self, random: &mut Random, side: Side, term: &Term) {
+        let order = Order::random(random);
+        let table = term_table(random, term, order);
+        self.add(Operation::Load { side, table });
+    }
+
+    fn load_trial(&mut self, random: &mut Random, trial: &Trial) {
+        self.load(random, Side::Left, &trial.left);
+        self.load(random, Side::Right, &trial.right);
+        self.budget = trial.budget;
+    }
+
+    /// Loads a term that may run on against the other side.
+    fn load_any(&mut self, random: &mut Random) {
+        let size = random.between(1, *WORKSPACE.start());
+        let style = Style::random(random);
+        let term = term(random, size, 0, style);
+        let side = any_side(random);
+        self.load(random, side, &term);
+        self.budget = self.budget.min(FEW_ROUNDS);
+    }
+
+    fn press(&mut self, budget: u32) {
+        self.add(Operation::Press {
+            scratch: self.machine.left.len(),
+            lengths: self.lengths,
+            budget,
+        });
+    }
+
+    fn show(&mut self) {
+        let lengths = self.lengths;
+        self.add(Operation::Show { lengths });
+    }
+
+    fn print(&mut self) {
+        self.add(Operation::Print);
+    }
+
+    fn length(&self, side: Side) -> u32 {
+        match side {
+            Side::Left => self.lengths.0,
+            Side::Right => self.lengths.1,
+        }
+    }
+
+    fn write(&mut self, random: &mut Random, side: Side) {
+        let length = self.length(side);
+        let right = RECORD * (length as usize + 1);
+        let table = match random.below(8) {
+            0 => right + random.pick(&[1, 4]),
+            1 => right - random.pick(&[1, 4]),
+            2 => random.pick(&[0, 3, 4, LONGEST_TABLE]),
+            _ => right,
+        };
+        let length = wrong_length(random, length, 15);
+        self.add(Operation::Write {
+            side,
+            length,
+            table: table.min(LONGEST_TABLE),
+        });
+    }
+
+    /// Stores words behind the current terms.
+    fn store_behind(&mut self, random: &mut Random) {
+        let side = any_side(random);
+        let length = self.length(side);
+        for _ in 0..random.between(1, 3) {
+            let at = length + random.below(8) as u32;
+            let word = random.word();
+            self.add(Operation::Store { side, at, word });
+        }
+    }
+}
+
+fn any_trial(random: &mut Random) -> Trial {
+    let verdict = random.pick(&VERDICTS);
+    let wish = random.percent(80).then_some(verdict);
+    trial(random, wish)
+}
+
+fn any_side(random: &mut Random) -> Side {
+    random.pick(&[Side::Left, Side::Right])
+}
+
+fn encoded(operation: &Operation) -> Vec<u32> {
+    match operation {
+        Operation::Load { side, table } => {
+            let mut words = vec![1, *side as u32, table.len() as u32];
+            words.extend(table);
+            words
+        }
+        Operation::Press {
+            scratch,
+            lengths,
+            budget,
+        } => vec![2, *scratch as u32, lengths.0, lengths.1, *budget],
+        Operation::Show { lengths } => vec![3, lengths.0, lengths.1],
+        Operation::Write {
+            side,
+            length,
+            table,
+        } => vec![4, *side as u32, *length, *table as u32],
+        Operation::SetSession(session) => {
+            let verdict = session.verdict as u32;
+            vec![5, session.total, session.left, session.right, verdict]
+        }
+        Operation::Store { side, at, word } => vec![6, *side as u32, *at, *word],
+        Operation::Print => vec![7],
+    }
+}
+
+/// The length, in `part` of 100 calls changed to a wrong one.
+fn wrong_length(random: &mut Random, length: u32, part: usize) -> u32 {
+    if !random.percent(part) {
+        return length;
+    }
+    let beyond = *WORKSPACE.end() as u32 + 1;
+    random.pick(&[0, length + 1, length.wrapping_sub(1), beyond, u32::MAX])
+}
+
+fn any_session(random: &mut Random) -> Session {
+    let most = LARGEST_TOTAL as u32;
+    let near = most - random.below(3) as u32;
+    let any = random.word();
+    Session {
+        total: random.pick(&[0, 12_345, near, most - LARGEST_BUDGET, most + 1, any]),
+        left: random.below(3000) as u32,
+        right: random.word(),
+        verdict: random.pick(&VERDICTS),
+    }
+}
+
+/// A list of presses on one pair, with other calls and refused ones between.
+fn press_list(random: &mut Random) -> Composer {
+    let trial = any_trial(random);
+    let mut composer = Composer::new(trial.capacity as u32, trial.capacity as u32);
+    composer.load_trial(random, &trial);
+    if random.percent(40) {
+        composer.store_behind(random);
+    }
+    for _ in 0..random.between(2, 8) {
+        any_call(random, &mut composer);
+    }
+    composer.print();
+    composer
+}
+
+fn any_call(random: &mut Random, composer: &mut Composer) {
+    let budget = composer.budget;
+    match random.below(16) {
+        0 | 1 => wrong_press(random, composer),
+        2 => composer.show(),
+        3 => {
+            let lengths = composer.lengths;
+            composer.add(Operation::Show {
+                lengths: (
+                    wrong_length(random, lengths.0, 50),
+                    wrong_length(random, lengths.1, 50),
+                ),
+            });
+        }
+        4 => {
+            let side = any_side(random);
+            composer.write(random, side);
+        }
+        5 | 6 => composer.print(),
+        7 => composer.add(Operation::SetSession(any_session(random))),
+        8 => composer.store_behind(random),
+        9 => composer.load_any(random),
+        _ => {
+            let part = random.below(budget as usize + 1) as u32;
+            composer.press(random.pick(&[0, 1, 2, 3, part, budget, budget]));
+        }
+    }
+}
+
+/// A press with one of its numbers wrong, now and then several.
+fn wrong_press(random: &mut Random, composer: &mut Composer) {
+    let one = random.below(4);
+    let mut is_wrong = |number| number == one || random.percent(10);
+    let [scratch, budget, left, right] = [0, 1, 2, 3].map(&mut is_wrong);
+    let capacity = composer.machine.left.len();
+    let near = random.pick(&[capacity.saturating_sub(1), capacity + 1]);
+    let other = random.pick(&[near, near, 0, 15, 16, 2_048, 2_049, LONGEST_TABLE]);
+    let large = wrong_budget(random);
+    let lengths = composer.lengths;
+    composer.add(Operation::Press {
+        scratch: if scratch { other } else { capacity },
+        lengths: (
+            wrong_length(random, lengths.0, 100 * usize::from(left)),
+            wrong_length(random, lengths.1, 100 * usize::from(right)),
+        ),
+        budget: if budget { large } else { composer.budget },
+    });
+}
+
+/// Loads of tables with each fault, over a term that has to stay.
+fn refused_loads(random: &mut Random) -> Composer {
+    let trial = any_trial(random);
+    let capacity = trial.capacity.min(WORKSPACE.end() - 1);
+    let mut composer = Composer::new(capacity as u32, capacity as u32);
+    composer.load_trial(random, &trial);
+    composer.show();
+    let again = [random.pick(&FAULTS), random.pick(&FAULTS)];
+    for fault in FAULTS.into_iter().chain(again) {
+        let second = random.pick(&FAULTS);
+        let faults = [fault, if random.percent(20) { second } else { fault }];
+        let side = any_side(random);
+        let table = faulty_table(random, &faults, capacity);
+        composer.add(Operation::Load { side, table });
+        if random.percent(25) {
+            composer.print();
+        }
+    }
+    composer.press(composer.budget);
+    composer.print();
+    composer
+}
+
+/// Words stored in place of a term's, then every call that reads them.
+fn wrong_words(random: &mut Random) -> Composer {
+    let trial = any_trial(random);
+    let capacity = trial.capacity.max(random.pick(&[16, 60])) as u32;
+    let mut composer = Composer::new(capacity, capacity);
+    composer.load_trial(random, &trial);
+    composer.budget = trial.budget.min(FEW_ROUNDS);
+    for _ in 0..random.between(1, 3) {
+        let side = any_side(random);
+        if random.percent(50) {
+            store_changed(random, &mut composer, side);
+        } else {
+            store_faulty(random, &mut composer, side);
+        }
+        composer.show();
+        composer.write(random, side);
+        composer.press(composer.budget);
+        if random.percent(30) {
+            composer.print();
+        }
+    }
+    composer
+}
+
+/// Stores one wrong word in the term of a side.
+fn store_changed(random: &mut Random, composer: &mut Composer, side: Side) {
+    let length = composer.length(side) as usize;
+    let workspace = match side {
+        Side::Left => &composer.machine.left,
+        Side::Right => &composer.machine.right,
+    };
+    if length > 0 {
+        let at = random.below(length);
+        let word = changed_word(random, workspace[at]);
+        let at = at as u32;
+        composer.add(Operation::Store { side, at, word });
+    }
+}
+
+/// Stores words that are no whole term from the start of a side.
+fn store_faulty(random: &mut Random, composer: &mut Composer, side: Side) {
+    let words = faulty_words(random, composer.machine.left.len().min(60));
+    let length = words.len() as u32;
+    for (at, word) in (0..).zip(words) {
+        composer.add(Operation::Store { side, at, word });
+    }
+    match side {
+        Side::Left => composer.lengths.0 = length,
+        Side::Right => composer.lengths.1 = length,
+    }
+}
+
+/// Presses with the session's total around its limit.
+fn session_limits(random: &mut Random) -> Composer {
+    let trial = any_trial(random);
+    let mut composer = Composer::new(trial.capacity as u32, trial.capacity as u32);
+    composer.load_trial(random, &trial);
+    let most = LARGEST_TOTAL as u32;
+    for _ in 0..random.between(1, 4) {
+        let room = random.pick(&[0, 1, 2, trial.budget]);
+        let mut session = any_session(random);
+        session.total = random.pick(&[most - room, most - room, most + 1, u32::MAX - room]);
+        composer.add(Operation::SetSession(session));
+        composer.press(random.pick(&[room, room.saturating_sub(1), room + 1, 0]));
+        composer.print();
+        composer.press(random.pick(&[0, 1]));
+    }
+    composer.print();
+    composer
+}
+
+/// Terms written before and after presses, with right and wrong lengths.
+fn writing(random: &mut Random) -> Composer {
+    let trial = any_trial(random);
+    let mut composer = Composer::new(trial.capacity as u32, trial.capacity as u32);
+    composer.load_trial(random, &trial);
+    for _ in 0..3 {
+        composer.write(random, Side::Left);
+        composer.write(random, Side::Right);
+        composer.show();
+        composer.press(random.pick(&[1, 2, trial.budget]));
+    }
+    composer.print();
+    composer
+}
+
+/// Workspaces of all lengths, equal or not.
+fn odd_workspaces(random: &mut Random) -> Composer {
+    let (least, most) = (*WORKSPACE.start() as u32, *WORKSPACE.end() as u32);
+    let wrong = wrong_capacity(random);
+    let left = random.pick(&[least, most, wrong, wrong, wrong]);
+    let right = random.pick(&[left, left, least, most, least + 1, wrong, wrong]);
+    let mut composer = Composer::new(left, right);
+    for _ in 0..2 {
+        for side in [Side::Left, Side::Right] {
+            let term = var(random.below(3) as u32);
+            composer.load(random, side, &term);
+        }
+        let side = any_side(random);
+        let fault = random.pick(&FAULTS);
+        let table = faulty_table(random, &[fault], *WORKSPACE.start());
+        composer.add(Operation::Load { side, table });
+        // Where a load was refused, a length is tried all the same.
+        composer.lengths = (1, 1);
+        any_call(random, &mut composer);
+        composer.write(random, Side::Left);
+        composer.write(random, Side::Right);
+        composer.show();
+        composer.press(1);
+    }
+    composer.print();
+    composer
+}
+
+/// A script that is cut short or goes on with words that are no operation.
+fn broken_script(random: &mut Random, composer: Composer) -> Vec<u8> {
+    let mut words = composer.words;
+    let over = LONGEST_TABLE as u32 + 1;
+    let large = random.pick(&[over, over + 3, 1 << 30, u32::MAX]);
+    let end: Vec<u32> = match random.below(14) {
+        0 => vec![0],
+        1 => vec![8],
+        2 => vec![random.pick(&[256 + 7, 1 << 31, u32::MAX])],
+        3 => vec![1, random.pick(&[2, 3, u32::MAX]), 0],
+        4 => vec![1, 0, large],
+        5 => vec![2, large, 1, 1, 0],
+        6 => vec![4, random.pick(&[2, u32::MAX]), 1, 8],
+        7 => vec![4, 1, 1, large],
+        8 => vec![5, 1, 1, 1, random.pick(&[4, 5, u32::MAX])],
+        9 => vec![6, random.pick(&[2, 258]), 0, 0],
+        10 => {
+            let any = random.below(words.len());
+            words.truncate(random.pick(&[0, 1, any]));
+            Vec::new()
+        }
+        11 | 12 => {
+            words.extend(cut_operation(random));
+            return bytes(&words);
+        }
+        _ => {
+            let mut cut = bytes(&words);
+            cut.truncate(random.below(cut.len()));
+            return cut;
+        }
+    };
+    words.extend(end);
+    if random.percent(50) {
+        words.push(7);
+    }
+    bytes(&words)
+}
+
+/// The start of an operation that has more words.
+fn cut_operation(random: &mut Random) -> Vec<u32> {
+    let whole: [&[u32]; 6] = [
+        &[1, 0, 4, 1, 1, 1, 0],
+        &[2, 16, 1, 1, 0],
+        &[3, 1, 1],
+        &[4, 0, 1, 8],
+        &[5, 0, 0, 0, 0],
+        &[6, 0, 0, 0],
+    ];
+    let operation = random.pick(&whole);
+    operation[..random.between(1, operation.len() - 1)].to_vec()
+}
+
+/// A script of exactly the greatest length, or one word longer.
+fn long_script(random: &mut Random, mut composer: Composer) -> Vec<u8> {
+    let fillers = [
+        Operation::Store {
+            side: Side::Left,
+            at: u32::MAX,
+            word: 1,
+        },
+        Operation::Show { lengths: (0, 0) },
+    ];
+    for filler in fillers {
+        let step = encoded(&filler).len();
+        while composer.words.len() + step < LONGEST_SCRIPT {
+            composer.add(filler.clone());
+        }
+    }
+    while composer.words.len() < LONGEST_SCRIPT {
+        composer.print();
+    }
+    if random.percent(50) {
+        composer.words.push(7);
+    }
+    bytes(&composer.words)
+}

@@ -1,0 +1,304 @@
+//! The replaying program as a function from a script to its printed text.
+
+use crate::input::{workspace, Words};
+use crate::press::{press, show, Answer, Session, Side, Verdict};
+use crate::refusal::Refusal;
+use crate::table::{load, write};
+
+/// The most words of a script.
+pub const LONGEST_SCRIPT: usize = 32_768;
+/// Every word of a scratch or of a table to be written, before the call.
+const FILLING: u32 = 7;
+/// The verdicts in the order of their numbers in a script.
+pub const VERDICTS: [Verdict; 4] = [
+    Verdict::Same,
+    Verdict::Different,
+    Verdict::Budget,
+    Verdict::Full,
+];
+
+/// One operation of a script.
+#[derive(Clone, Debug, PartialEq, Eq)]
+pub enum Operation {
+    Load {
+        side: Side,
+        table: Vec<u32>,
+    },
+    Press {
+        scratch: usize,
+        lengths: (u32, u32),
+        budget: u32,
+    },
+    Show {
+        lengths: (u32, u32),
+    },
+    Write {
+        side: Side,
+        length: u32,
+        table: usize,
+    },
+    SetSession(Session),
+    Store {
+        side: Side,
+        at: u32,
+        word: u32,
+    },
+    Print,
+}
+
+/// What came of one operation, or of a script that breaks off.
+#[derive(Clone, Copy, Debug, PartialEq, Eq)]
+pub enum Event {
+    Load(Result<u32, Refusal>),
+    Press(Result<Answer, Refusal>),
+    Show(Option<(Side, usize)>),
+    Write(Result<u32, Refusal>),
+    SetSession,
+    Store,
+    Print,
+    Script,
+}
+
+/// The printed text and what came of each operation.
+#[derive(Clone, Debug, Default, PartialEq, Eq)]
+pub struct Transcript {
+    pub text: String,
+    pub events: Vec<Event>,
+}
+
+/// Runs everything that stands on the standard input.
+pub fn run(input: &[u8]) -> Transcript {
+    let mut transcript = Transcript::default();
+    let Some((mut machine, mut script)) = start(input) else {
+        return transcript.broken_off();
+    };
+    while !script.at_end() {
+        let Some(operation) = script.operation() else {
+            return transcript.broken_off();
+        };
+        let event = machine.apply(&operation, &mut transcript.text);
+        transcript.events.push(event);
+    }
+    transcript
+}
+
+/// The machine that a script starts with and the script's operations, unless
+/// the script is too long or too short to be started.
+pub fn start(input: &[u8]) -> Option<(Machine, Script<'_>)> {
+    if input.len() > LONGEST_SCRIPT * size_of::<u32>() {
+        return None;
+    }
+    let mut words = Words { ahead: input };
+    let machine = Machine::new(words.word()?, words.word()?);
+    Some((machine, Script { words }))
+}
+
+impl Transcript {
+    fn broken_off(mut self) -> Self {
+        self.text.push_str("Script\n");
+        self.events.push(Event::Script);
+        self
+    }
+}
+
+/// The operations of a script that are still to be read.
+pub struct Script<'a> {
+    words: Words<'a>,
+}
+
+impl Script<'_> {
+    pub fn at_end(&self) -> bool {
+        self.unread() == 0
+    }
+
+    /// The bytes that are still to be read.
+    pub fn unread(&self) -> usize {
+        self.words.ahead.len()
+    }
+
+    /// The next operation, if it is whole and known.
+    pub fn operation(&mut self) -> Option<Operation> {
+        let words = &mut self.words;
+        Some(match words.word()? {
+            1 => Operation::Load {
+                side: side(words)?,
+                table: words.table()?,
+            },
+            2 => Operation::Press {
+                scratch: words.length()?,
+                lengths: (words.word()?, words.word()?),
+                budget: words.word()?,
+            },
+            3 => Operation::Show {
+                lengths: (words.word()?, words.word()?),
+            },
+            4 => Operation::Write {
+                side: side(words)?,
+                length: words.word()?,
+                table: words.length()?,
+            },
+            5 => Operation::SetSession(Session {
+                total: words.word()?,
+                left: words.word()?,
+                right: words.word()?,
+                verdict: *VERDICTS.get(words.word()? as usize)?,
+            }),
+            6 => Operation::Store {
+                side: side(words)?,
+                at: words.word()?,
+                word: words.word()?,
+            },
+            7 => Operation::Print,
+            _ => return None,
+        })
+    }
+}
+
+fn side(words: &mut Words<'_>) -> Option<Side> {
+    match words.word()? {
+        0 => Some(Side::Left),
+        1 => Some(Side::Right),
+        _ => None,
+    }
+}
+
+/// Everything that is lent to the calls of a script.
+#[derive(Clone, Debug, PartialEq, Eq)]
+pub struct Machine {
+    pub left: Vec<u32>,
+    pub right: Vec<u32>,
+    /// The last press's scratch at its exit.
+    pub scratch: Vec<u32>,
+    pub session: Session,
+}
+
+impl Machine {
+    pub fn new(left: u32, right: u32) -> Self {
+        Machine {
+            left: workspace(left),
+            right: workspace(right),
+            scratch: Vec::new(),
+            session: Session::fresh(),
+        }
+    }
+
+    fn workspace(&mut self, side: Side) -> &mut Vec<u32> {
+        match side {
+            Side::Left => &mut self.left,
+            Side::Right => &mut self.right,
+        }
+    }
+
+    /// Makes one call and adds what is printed about it.
+    pub fn apply(&mut self, operation: &Operation, text: &mut String) -> Event {
+        match operation {
+            Operation::Load { side, table } => self.load(*side, table, text),
+            Operation::Press {
+                scratch,
+                lengths,
+                budget,
+            } => self.press(*scratch, *lengths, *budget, text),
+            Operation::Show { lengths } => self.show(*lengths, text),
+            Operation::Write {
+                side,
+                length,
+                table,
+            } => self.write(*side, *length, *table, text),
+            Operation::SetSession(session) => {
+                self.session = *session;
+                line(text, "session", &[]);
+                Event::SetSession
+            }
+            Operation::Store { side, at, word } => {
+                if let Some(place) = self.workspace(*side).get_mut(*at as usize) {
+                    *place = *word;
+                }
+                line(text, "store", &[]);
+                Event::Store
+            }
+            Operation::Print => self.print(text),
+        }
+    }
+
+    fn load(&mut self, side: Side, table: &[u32], text: &mut String) -> Event {
+        let answer = load(table, self.workspace(side));
+        line(text, &returned("load", answer), &[]);
+        Event::Load(answer)
+    }
+
+    fn press(
+        &mut self,
+        scratch: usize,
+        lengths: (u32, u32),
+        budget: u32,
+        text: &mut String,
+    ) -> Event {
+        self.scratch = vec![FILLING; scratch];
+        let answer = press(
+            &mut self.left,
+            &mut self.right,
+            &mut self.scratch,
+            lengths,
+            budget,
+            &mut self.session,
+        );
+        let head = match answer {
+            Ok(answer) => answer.to_string(),
+            Err(refusal) => format!("refused {refusal}"),
+        };
+        line(text, &head, &[]);
+        Event::Press(answer)
+    }
+
+    fn show(&self, lengths: (u32, u32), text: &mut String) -> Event {
+        let part = show(&self.left, &self.right, lengths);
+        match part {
+            Some((Side::Left, length)) => line(text, "show 0", &self.left[..length]),
+            Some((Side::Right, length)) => line(text, "show 1", &self.right[..length]),
+            None => line(text, "show 0", &[]),
+        }
+        Event::Show(part)
+    }
+
+    fn write(&mut self, side: Side, length: u32, table: usize, text: &mut String) -> Event {
+        let mut table = vec![FILLING; table];
+        let answer = write(self.workspace(side), length, &mut table);
+        line(text, &returned("write", answer), &table);
+        Event::Write(answer)
+    }
+
+    fn print(&self, text: &mut String) -> Event {
+        line(text, "left", &self.left);
+        line(text, "right", &self.right);
+        line(text, "scratch", &self.scratch);
+        let Session {
+            total,
+            left,
+            right,
+            verdict,
+        } = self.session;
+        line(
+            text,
+            &format!("session {total} {left} {right} {verdict}"),
+            &[],
+        );
+        Event::Print
+    }
+}
+
+fn returned(call: &str, answer: Result<u32, Refusal>) -> String {
+    match answer {
+        Ok(number) => format!("{call} {number}"),
+        Err(refusal) => format!("refused {refusal}"),
+    }
+}
+
+/// Adds one line: its head and then words, separated by single spaces.
+fn line(text: &mut String, head: &str, words: &[u32]) {
+    text.push_str(head);
+    for word in words {
+        text.push(' ');
+        text.push_str(&word.to_string());
+    }
+    text.push('\n');
+}

@@ -1,0 +1,72 @@
+//! Short ways to say what the tests expect.
+#![allow(dead_code)]
+
+pub mod census;
+
+use reference::contraction::step;
+use reference::press::{press, Answer, Session, Verdict};
+use reference::refusal::Refusal;
+use reference::table::load;
+use reference::term::Term;
+use reference::words::{read, words};
+
+/// The term of words that a test takes from the rules or derives.
+pub fn term(words: &[u32]) -> Term {
+    read(words).expect("the test's words are one whole term")
+}
+
+/// The words after the leftmost outermost contraction; none if normal.
+pub fn next(of: &[u32]) -> Option<Vec<u32>> {
+    step(&term(of)).map(|term| words(&term))
+}
+
+/// A workspace of `capacity` words that starts with the given ones and goes
+/// on with words that must not matter.
+pub fn workspace(words: &[u32], capacity: usize) -> Vec<u32> {
+    let mut all = words.to_vec();
+    all.resize(capacity, 77);
+    all
+}
+
+/// One press with a fresh session on two lists of words.
+pub fn pressed(
+    left: &[u32],
+    right: &[u32],
+    capacity: usize,
+    budget: u32,
+) -> Result<Answer, Refusal> {
+    press(
+        &mut workspace(left, capacity),
+        &mut workspace(right, capacity),
+        &mut vec![7; capacity],
+        (left.len() as u32, right.len() as u32),
+        budget,
+        &mut Session::fresh(),
+    )
+}
+
+pub fn answer(verdict: Verdict, spent: u32, left: u32, right: u32) -> Result<Answer, Refusal> {
+    Ok(Answer {
+        verdict,
+        spent,
+        left,
+        right,
+    })
+}
+
+/// A table whose root is record 1.
+pub fn table(records: &[[u32; 4]]) -> Vec<u32> {
+    let header = [1, records.len() as u32, 1, 0];
+    std::iter::once(&header)
+        .chain(records)
+        .flatten()
+        .copied()
+        .collect()
+}
+
+/// Loads into a workspace of `capacity` words; the answer and the words.
+pub fn loaded(table: &[u32], capacity: usize) -> (Result<u32, Refusal>, Vec<u32>) {
+    let mut workspace = vec![77; capacity];
+    let answer = load(table, &mut workspace);
+    (answer, workspace)
+}

@@ -1,0 +1,201 @@
+//! The two rules and the order of contraction, each expectation worked out
+//! from the rules as its comment says.
+
+mod common;
+
+use common::{answer, next, pressed, term};
+use reference::contraction::{contractum, shift, step, substitute};
+use reference::press::Verdict::{Budget, Different, Same};
+use reference::term::{abs, app, branch, case, con, var};
+use reference::words::words;
+
+#[test]
+fn argument_rises_under_a_binder() {
+    // (\ \ 1) f0: f0 stands under one binder afterwards, so its index is 1.
+    assert_eq!(next(&[2, 1, 1, 8, 0]), Some(vec![1, 8]));
+}
+
+#[test]
+fn argument_rises_under_all_binders_of_a_branch() {
+    // (\ case 0 of 1/2 -> 2) f3: in the branch the argument stands under two
+    // binders, so f3 becomes index 5; the scrutinee is under none.
+    let redex = app(abs(case(var(0), vec![branch(1, 2, var(2))])), var(3));
+    let result = case(var(3), vec![branch(1, 2, var(5))]);
+    assert_eq!(step(&redex), Some(result));
+}
+
+#[test]
+fn indices_bound_inside_the_argument_stay() {
+    // (\ \ 1) (\ 0 f3): f3 is index 4 inside, and 5 under one more binder.
+    assert_eq!(next(&[2, 1, 1, 8, 1, 2, 0, 32]), Some(vec![1, 1, 2, 0, 40]));
+}
+
+#[test]
+fn indices_past_the_removed_binder_fall() {
+    // (\ 2) f9: index 2 under one binder is f1.
+    assert_eq!(next(&[2, 1, 16, 72]), Some(vec![8]));
+    // (\ \ 0 1 3) f9: 0 is bound inside, 1 becomes f9 under one binder, which
+    // is 10, and 3 is f1, which is 2 under the binder that stays.
+    let body = app(app(var(0), var(1)), var(3));
+    let redex = app(abs(abs(body)), var(9));
+    let result = abs(app(app(var(0), var(10)), var(2)));
+    assert_eq!(step(&redex), Some(result));
+}
+
+#[test]
+fn all_arguments_replace_together() {
+    // case 1(f7, f8) of 1/2 -> 2(0, 1, 2): 0 is the last argument, 1 the
+    // first, and 2 is f0. Constructor 2 with three arguments is the word
+    // (2 x 16 + 3) x 8 + 3 = 283.
+    assert_eq!(
+        next(&[12, 147, 56, 64, 149, 283, 0, 8, 16]),
+        Some(vec![283, 64, 56, 0])
+    );
+    // An argument that looks like a bound index is not replaced again:
+    // case 1(f0, f1) of 1/2 -> 1 gives the first argument f0.
+    assert_eq!(next(&[12, 147, 0, 8, 149, 8]), Some(vec![0]));
+}
+
+#[test]
+fn fifteen_arguments_in_order() {
+    // Argument i is f(100 + i); index j is argument 14 - j, and index 15 is f0.
+    let args: Vec<_> = (0..15).map(|i| var(100 + i)).collect();
+    for (index, free) in [(0, 114), (1, 113), (14, 100), (15, 0)] {
+        let redex = case(con(255, args.clone()), vec![branch(255, 15, var(index))]);
+        assert_eq!(step(&redex), Some(var(free)));
+    }
+}
+
+#[test]
+fn stuck_terms() {
+    let stuck = [
+        // Another count of arguments, in both directions.
+        case(con(1, vec![]), vec![branch(1, 1, var(0))]),
+        case(con(1, vec![var(0)]), vec![branch(1, 0, var(0))]),
+        // No branch of the tag, or none at all.
+        case(
+            con(2, vec![]),
+            vec![branch(1, 0, var(0)), branch(3, 0, var(0))],
+        ),
+        case(con(1, vec![]), vec![]),
+        // A scrutinee that is no constructor.
+        case(var(0), vec![branch(1, 0, var(0))]),
+        case(abs(var(0)), vec![branch(1, 0, var(0))]),
+        // An application of something other than an abstraction.
+        app(con(1, vec![]), var(0)),
+        app(var(0), abs(var(0))),
+    ];
+    for term in stuck {
+        assert_eq!(step(&term), None, "{term:?}");
+        assert_eq!(contractum(&term), None, "{term:?}");
+    }
+}
+
+#[test]
+fn outermost_before_the_parts() {
+    // (\ f0) ((\ 0) f1): the outer redex throws the inner one away.
+    assert_eq!(next(&[2, 1, 8, 2, 1, 0, 8]), Some(vec![0]));
+    // case 1((\ 0) f1) of 1/1 -> 2(0, 0): the argument is copied as it is.
+    // Constructor 1 with one argument is 139, its branch 141, constructor 2
+    // with two arguments (2 x 16 + 2) x 8 + 3 = 275.
+    assert_eq!(
+        next(&[12, 139, 2, 1, 0, 8, 141, 275, 0, 0]),
+        Some(vec![275, 2, 1, 0, 8, 2, 1, 0, 8])
+    );
+}
+
+#[test]
+fn function_before_argument() {
+    // ((\ 0) f0) ((\ 0) f1)
+    let first = [2, 2, 1, 0, 0, 2, 1, 0, 8];
+    assert_eq!(next(&first), Some(vec![2, 0, 2, 1, 0, 8]));
+    assert_eq!(next(&[2, 0, 2, 1, 0, 8]), Some(vec![2, 0, 8]));
+}
+
+#[test]
+fn arguments_and_branches_in_their_order() {
+    let redex = || app(abs(var(0)), var(0));
+    let args = con(1, vec![var(0), redex(), redex()]);
+    assert_eq!(step(&args), Some(con(1, vec![var(0), var(0), redex()])));
+    let arms = |first, second| vec![branch(1, 0, first), branch(2, 3, second)];
+    let all = case(redex(), arms(redex(), redex()));
+    let scrutinee = case(var(0), arms(redex(), redex()));
+    let one = case(var(0), arms(var(0), redex()));
+    let both = case(var(0), arms(var(0), var(0)));
+    assert_eq!(step(&all), Some(scrutinee.clone()));
+    assert_eq!(step(&scrutinee), Some(one.clone()));
+    assert_eq!(step(&one), Some(both.clone()));
+    assert_eq!(step(&both), None);
+}
+
+#[test]
+fn a_case_of_a_redex_waits_for_its_scrutinee() {
+    // case (\ 0) 1() of 1/0 -> f0: the application is the leftmost redex,
+    // then the case rule applies. Constructor 1 without arguments is 131.
+    assert_eq!(
+        next(&[12, 2, 1, 0, 131, 133, 0]),
+        Some(vec![12, 131, 133, 0])
+    );
+    assert_eq!(next(&[12, 131, 133, 0]), Some(vec![0]));
+}
+
+#[test]
+fn shift_is_exact_around_zero() {
+    // \ 0 1 2 moved up by 2: only 1 and 2 are free.
+    let open = abs(app(app(var(0), var(1)), var(2)));
+    let risen = abs(app(app(var(0), var(3)), var(4)));
+    assert_eq!(shift(&open, 2), risen);
+    assert_eq!(shift(&risen, -2), open);
+    assert_eq!(shift(&var(1), -1), var(0));
+    assert_eq!(shift(&var(0), 0), var(0));
+}
+
+#[test]
+fn substitution_without_arguments_moves_nothing() {
+    let body = abs(app(var(0), var(1)));
+    assert_eq!(substitute(&body, &[]), body);
+}
+
+// The plausible errors that the rules shut out, as presses.
+
+#[test]
+fn arguments_are_not_reduced_first() {
+    // (\ f0) Loop against f0 needs one contraction.
+    let left = [&[2, 1, 8][..], &[2, 1, 2, 0, 0, 1, 2, 0, 0]].concat();
+    assert_eq!(pressed(&left, &[0], 16, 1), answer(Same, 1, 1, 1));
+}
+
+#[test]
+fn an_outermost_abstraction_is_no_end() {
+    // \ (\ 0) 0 against \ 0: the left makes one contraction.
+    assert_eq!(
+        pressed(&[1, 2, 1, 0, 0], &[1, 0], 16, 1),
+        answer(Same, 1, 2, 2)
+    );
+    assert_eq!(
+        pressed(&[1, 2, 1, 0, 0], &[1, 0], 16, 0),
+        answer(Budget, 0, 5, 2)
+    );
+}
+
+#[test]
+fn a_spent_budget_is_not_different() {
+    // (\ 0) f0 against f1: Different only once the contraction is made.
+    assert_eq!(pressed(&[2, 1, 0, 0], &[8], 16, 0), answer(Budget, 0, 4, 1));
+    assert_eq!(
+        pressed(&[2, 1, 0, 0], &[8], 16, 1),
+        answer(Different, 1, 1, 1)
+    );
+}
+
+#[test]
+fn example_of_paper_000() {
+    // Section 2.2: (\x.x)(\y.(\z.z) y (\t.t)) has the normal form
+    // \u.u(\w.w). Words: 2, 1,0, 1,2,2,1,0,0,1,0 and 1,2,0,1,0. Contractions:
+    // the outer one, then (\z.z) y.
+    let left = [2, 1, 0, 1, 2, 2, 1, 0, 0, 1, 0];
+    let right = [1, 2, 0, 1, 0];
+    assert_eq!(next(&left), Some(vec![1, 2, 2, 1, 0, 0, 1, 0]));
+    assert_eq!(pressed(&left, &right, 16, 2), answer(Same, 2, 5, 5));
+    assert_eq!(words(&term(&right)), right);
+}

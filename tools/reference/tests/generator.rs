@@ -1,0 +1,195 @@
+//! What the generated inputs are made to be, checked against the reference.
+
+mod common;
+
+use common::loaded;
+use reference::generate::damage::{faulty_table, FAULTS};
+use reference::generate::inputs::{self, Aim, AIMS};
+use reference::generate::pairs::{pair, trial};
+use reference::generate::tables::{term_table, Order};
+use reference::generate::terms::{replace, subterms, term, Style};
+use reference::generate::{families, scripts};
+use reference::on_large_stack;
+use reference::press::rounds;
+use reference::random::Random;
+use reference::replay::VERDICTS;
+use reference::table::write;
+use reference::term::{abs, app, con, var, Term};
+use reference::verdict::{outcome, Outcome};
+use reference::words::{read, words};
+use std::collections::HashSet;
+
+/// Runs `check` with the random numbers of so many cases.
+fn for_cases(count: u64, check: impl Fn(&mut Random) + Sync) {
+    on_large_stack(|| (0..count).for_each(|case| check(&mut Random::new(7, case))));
+}
+
+#[test]
+fn equal_seeds_give_equal_inputs() {
+    on_large_stack(|| {
+        for case in 0..32 {
+            assert_eq!(inputs::input(5, case), inputs::input(5, case));
+            assert_eq!(scripts::script(5, case), scripts::script(5, case));
+        }
+        let distinct: HashSet<_> = (0..32).map(|case| scripts::script(5, case)).collect();
+        assert_eq!(distinct.len(), 32);
+        assert_ne!(scripts::script(5, 0), scripts::script(6, 0));
+    });
+}
+
+#[test]
+fn random_terms_are_accepted_and_have_their_size() {
+    for_cases(600, |random| {
+        let size = random.between(1, 300);
+        let style = Style::random(random);
+        let term = term(random, size, 0, style);
+        let list = words(&term);
+        assert_eq!(list.len(), size);
+        assert_eq!(term.size(), size);
+        assert_eq!(read(&list), Some(term));
+    });
+}
+
+#[test]
+fn families_are_accepted() {
+    for_cases(600, |random| {
+        let (left, right) = families::pair(random);
+        for term in [left, right] {
+            assert_eq!(read(&words(&term)), Some(term));
+        }
+        let size = random.between(8, 2_048);
+        let deep = families::deep(random, size);
+        assert_eq!(words(&deep).len(), size);
+        assert_eq!(read(&words(&deep)), Some(deep));
+    });
+}
+
+#[test]
+fn numerals() {
+    // Church 2 is \ \ 1 (1 0), Peano 2 is 2(2(1())).
+    let two = abs(abs(app(var(1), app(var(1), var(0)))));
+    assert_eq!(families::church(2), two);
+    let two = con(2, vec![con(2, vec![con(1, vec![])])]);
+    assert_eq!(families::peano(2), two);
+}
+
+#[test]
+fn parts_are_found_and_replaced() {
+    // \ 0 (\ 1): the parts are the whole, 0 1-application, 0, \ 1 and 1.
+    let whole = abs(app(var(0), abs(var(1))));
+    let parts = subterms(&whole);
+    let binders: Vec<u32> = parts.iter().map(|part| part.1).collect();
+    assert_eq!(binders, [0, 1, 1, 1, 2]);
+    assert_eq!(parts[3].0, &abs(var(1)));
+    let changed = abs(app(var(0), var(9)));
+    assert_eq!(replace(&whole, 3, &var(9)), changed);
+    assert_eq!(replace(&whole, 0, &var(9)), var(9));
+}
+
+#[test]
+fn tables_in_every_order_mean_their_term() {
+    for_cases(300, |random| {
+        let (term, _) = pair(random);
+        let mut list = words(&term);
+        let length = list.len() as u32;
+        list.resize(2_048, 0);
+        let prefix = term_table(random, &term, Order::Prefix);
+        for order in [Order::Prefix, Order::Oldest, Order::Any] {
+            let table = term_table(random, &term, order);
+            assert_eq!(loaded(&table, 2_048), (Ok(length), list.clone()));
+            // Writing gives back exactly the tables in prefix order.
+            let mut written = vec![7; table.len()];
+            assert_eq!(write(&list, length, &mut written), Ok(length));
+            assert_eq!(written, prefix);
+        }
+    });
+}
+
+#[test]
+fn other_orders_differ_from_prefix_order() {
+    let random = &mut Random::new(7, 0);
+    // \ 0 0 applied to 0: the argument is record 2, 3 or later.
+    let term = app(abs(app(var(0), var(0))), var(0));
+    let prefix = term_table(random, &term, Order::Prefix);
+    assert_ne!(term_table(random, &term, Order::Oldest), prefix);
+    let orders: HashSet<_> = (0..200)
+        .map(|_| term_table(random, &term, Order::Any))
+        .collect();
+    // Record 1 is the application, 2 the abstraction. Behind it come the
+    // inner application with its two variables, in this order, and the
+    // argument at any of four places among them.
+    assert_eq!(orders.len(), 4);
+}
+
+#[test]
+fn a_faulty_table_is_refused_by_its_fault() {
+    for_cases(4_000, |random| {
+        let fault = random.pick(&FAULTS);
+        let capacity = random.pick(&[16, 17, 40, 300, 2_047]);
+        let table = faulty_table(random, &[fault], capacity);
+        assert_eq!(loaded(&table, capacity).0, Err(fault), "{table:?}");
+    });
+}
+
+#[test]
+fn of_two_faults_the_first_is_met() {
+    for_cases(200, |random| {
+        for (first, fault) in FAULTS.iter().enumerate() {
+            for later in &FAULTS[first + 1..] {
+                let table = faulty_table(random, &[*later, *fault], 20);
+                assert_eq!(loaded(&table, 20).0, Err(*fault), "and {later:?}");
+            }
+        }
+    });
+}
+
+#[test]
+fn inputs_meet_their_aims() {
+    on_large_stack(|| {
+        let mut missed = 0;
+        for case in 0..640 {
+            let met = match (
+                AIMS[case % AIMS.len()],
+                outcome(&inputs::input(3, case as u64)),
+            ) {
+                (Aim::Verdict(verdict), Outcome::Answered(answer)) => answer.verdict == verdict,
+                (Aim::Refused(refusal), Outcome::Refused(number)) => refusal == number,
+                (Aim::Input, outcome) => outcome == Outcome::Input,
+                (Aim::Mixed, _) => true,
+                _ => false,
+            };
+            missed += usize::from(!met);
+        }
+        assert!(missed <= 6, "{missed}");
+    });
+}
+
+#[test]
+fn trials_reach_every_verdict_after_some_rounds() {
+    let counts = on_large_stack(|| {
+        let mut counts = [0; 4];
+        for case in 0..1_200 {
+            let random = &mut Random::new(11, case);
+            let wish = random.pick(&VERDICTS);
+            let trial = trial(random, Some(wish));
+            let end = rounds(trial.left, trial.right, trial.capacity, trial.budget);
+            if end.verdict == wish && end.spent > 2 {
+                counts[wish as usize] += 1;
+            }
+        }
+        counts
+    });
+    for (verdict, count) in VERDICTS.iter().zip(counts) {
+        assert!(count >= 20, "{verdict} {count}");
+    }
+}
+
+#[test]
+fn changed_terms_stay_terms() {
+    // A pair is always accepted, whatever was done to make its right side.
+    for_cases(400, |random| {
+        let (left, right) = pair(random);
+        let whole = |term: &Term| term.size() <= 2_048 && read(&words(term)).is_some();
+        assert!(whole(&left) && whole(&right));
+    });
+}

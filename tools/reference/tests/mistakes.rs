@@ -1,0 +1,335 @@
+//! Judges with one mistake each: the generated inputs have to tell every one
+//! of them from the reference. The judge without a mistake must agree.
+
+use reference::generate::inputs::{self, Aim};
+use reference::on_large_stack;
+use reference::press::{Answer, Verdict};
+use reference::random::Random;
+use reference::replay::VERDICTS;
+use reference::table::load;
+use reference::term::{abs, app, branch, case, con, var, Branch, Term};
+use reference::verdict::{outcome, Outcome, Request};
+use reference::words::read;
+
+#[derive(Clone, Copy, Debug, PartialEq, Eq)]
+enum Mistake {
+    Nothing,
+    // The plausible errors that the rules shut out.
+    ArgumentNotRaised,
+    ArgumentsFirst,
+    StopsAtAbstraction,
+    BudgetAsDifferent,
+    FirstArgumentIsIndex0,
+    AnyCountContracts,
+    // Others.
+    IndicesNotLowered,
+    LoweredByOne,
+    BoundIndicesRaised,
+    RaisedByOnePerBranch,
+    BranchesNotReduced,
+    ArgumentsNotReduced,
+    RightmostFirst,
+    FullBeforeBudget,
+    FullFromC,
+    DifferentBeforeSame,
+    OneSideAtATime,
+    CountedByRounds,
+}
+
+const MISTAKES: [Mistake; 18] = [
+    Mistake::ArgumentNotRaised,
+    Mistake::ArgumentsFirst,
+    Mistake::StopsAtAbstraction,
+    Mistake::BudgetAsDifferent,
+    Mistake::FirstArgumentIsIndex0,
+    Mistake::AnyCountContracts,
+    Mistake::IndicesNotLowered,
+    Mistake::LoweredByOne,
+    Mistake::BoundIndicesRaised,
+    Mistake::RaisedByOnePerBranch,
+    Mistake::BranchesNotReduced,
+    Mistake::ArgumentsNotReduced,
+    Mistake::RightmostFirst,
+    Mistake::FullBeforeBudget,
+    Mistake::FullFromC,
+    Mistake::DifferentBeforeSame,
+    Mistake::OneSideAtATime,
+    Mistake::CountedByRounds,
+];
+
+/// Steps and rounds written apart from the reference's, with room for one
+/// mistake.
+struct Judge(Mistake);
+
+impl Judge {
+    fn is(&self, mistake: Mistake) -> bool {
+        self.0 == mistake
+    }
+
+    /// Binders that a branch adds around its body.
+    fn bound(&self, branch: &Branch) -> u32 {
+        if self.is(Mistake::RaisedByOnePerBranch) {
+            branch.bound.min(1)
+        } else {
+            branch.bound
+        }
+    }
+
+    /// The term with arguments put in for the binders removed around it,
+    /// under `depth` binders of its own; `crossed` is how far they rise.
+    fn fill(&self, term: &Term, depth: u32, crossed: u32, args: &[Term]) -> Term {
+        let count = args.len() as u32;
+        let inside =
+            |part: &Term, more, crossing| self.fill(part, depth + more, crossed + crossing, args);
+        match term {
+            Term::Var(index) if *index < depth => var(*index),
+            Term::Var(index) if *index < depth + count => {
+                let from_last = (index - depth) as usize;
+                let place = if self.is(Mistake::FirstArgumentIsIndex0) {
+                    from_last
+                } else {
+                    args.len() - 1 - from_last
+                };
+                match self.0 {
+                    Mistake::ArgumentNotRaised => args[place].clone(),
+                    Mistake::BoundIndicesRaised => raise(&args[place], 0, 0, crossed),
+                    _ => raise(&args[place], 0, 1, crossed),
+                }
+            }
+            Term::Var(index) if self.is(Mistake::IndicesNotLowered) => var(*index),
+            Term::Var(index) if self.is(Mistake::LoweredByOne) => var(index - count.min(1)),
+            Term::Var(index) => var(index - count),
+            Term::Abs(body) => abs(inside(body, 1, 1)),
+            Term::App(f, a) => app(inside(f, 0, 0), inside(a, 0, 0)),
+            Term::Con { tag, args } => con(*tag, args.iter().map(|a| inside(a, 0, 0)).collect()),
+            Term::Case {
+                scrutinee,
+                branches,
+            } => {
+                let arms = branches.iter();
+                let arms =
+                    arms.map(|b| branch(b.tag, b.bound, inside(&b.body, b.bound, self.bound(b))));
+                case(inside(scrutinee, 0, 0), arms.collect())
+            }
+        }
+    }
+
+    fn contractum(&self, term: &Term) -> Option<Term> {
+        match term {
+            Term::App(f, a) => match f.as_ref() {
+                Term::Abs(body) => Some(self.fill(body, 0, 0, &[a.as_ref().clone()])),
+                _ => None,
+            },
+            Term::Case {
+                scrutinee,
+                branches,
+            } => match scrutinee.as_ref() {
+                Term::Con { tag, args } => {
+                    let arm = branches.iter().find(|arm| arm.tag == *tag)?;
+                    let fits = arm.bound as usize == args.len();
+                    let any = self.is(Mistake::AnyCountContracts);
+                    (fits || any).then(|| self.fill(&arm.body, 0, 0, args))
+                }
+                _ => None,
+            },
+            _ => None,
+        }
+    }
+
+    /// The next term by the judge's order of places.
+    fn step(&self, term: &Term) -> Option<Term> {
+        let own = self.contractum(term);
+        if self.is(Mistake::ArgumentsFirst) {
+            return self.step_part(term).or(own);
+        }
+        own.or_else(|| self.step_part(term))
+    }
+
+    fn step_part(&self, term: &Term) -> Option<Term> {
+        let mut places: Vec<usize> = (0..parts(term).len()).collect();
+        match term {
+            Term::Abs(_) if self.is(Mistake::StopsAtAbstraction) => return None,
+            Term::Case { .. } if self.is(Mistake::BranchesNotReduced) => places.truncate(1),
+            Term::Con { .. } if self.is(Mistake::ArgumentsNotReduced) => return None,
+            _ => {}
+        }
+        if self.is(Mistake::RightmostFirst) {
+            places.reverse();
+        }
+        let parts = parts(term);
+        places.into_iter().find_map(|place| {
+            let next = self.step(parts[place])?;
+            let (before, after) = (&parts[..place], &parts[place + 1..]);
+            let copies =
+                |parts: &[&Term]| -> Vec<Term> { parts.iter().copied().cloned().collect() };
+            Some(with_parts(
+                term,
+                [copies(before), vec![next], copies(after)].concat(),
+            ))
+        })
+    }
+
+    /// The answer, or none where the judge runs on for too long.
+    fn judge(&self, mut sides: [Term; 2], capacity: usize, budget: u32) -> Option<Answer> {
+        let mut spent = 0;
+        for _ in 0..MOST_ROUNDS {
+            let next = sides.each_ref().map(|side| self.step(side));
+            let end = self.end(&sides, &next, capacity, budget - spent);
+            if let Some(verdict) = end {
+                let [left, right] = sides.map(|side| side.size() as u32);
+                return Some(Answer {
+                    verdict,
+                    spent,
+                    left,
+                    right,
+                });
+            }
+            spent += self.cost(&next);
+            for (side, next) in sides.iter_mut().zip(next) {
+                let Some(next) = next else { continue };
+                *side = next;
+                if self.is(Mistake::OneSideAtATime) {
+                    break;
+                }
+            }
+        }
+        None
+    }
+
+    fn cost(&self, next: &[Option<Term>; 2]) -> u32 {
+        let moving = next.iter().flatten().count() as u32;
+        let one = self.is(Mistake::CountedByRounds) || self.is(Mistake::OneSideAtATime);
+        if one {
+            moving.min(1)
+        } else {
+            moving
+        }
+    }
+
+    fn end(
+        &self,
+        sides: &[Term; 2],
+        next: &[Option<Term>; 2],
+        capacity: usize,
+        left: u32,
+    ) -> Option<Verdict> {
+        let same = (sides[0] == sides[1]).then_some(Verdict::Same);
+        let normal = (self.cost(next) == 0).then_some(Verdict::Different);
+        let spent = if self.is(Mistake::BudgetAsDifferent) {
+            Verdict::Different
+        } else {
+            Verdict::Budget
+        };
+        let budget = (self.cost(next) > left).then_some(spent);
+        let most = capacity - usize::from(self.is(Mistake::FullFromC));
+        let long = next.iter().flatten().any(|term| term.size() > most);
+        let full = long.then_some(Verdict::Full);
+        match self.0 {
+            Mistake::FullBeforeBudget => same.or(normal).or(full).or(budget),
+            Mistake::DifferentBeforeSame => normal.or(same).or(budget).or(full),
+            _ => same.or(normal).or(budget).or(full),
+        }
+    }
+}
+
+/// Indices from `depth` on raised; each binder adds `binder` to the depth.
+fn raise(term: &Term, depth: u32, binder: u32, by: u32) -> Term {
+    let inside = |part: &Term, binders| raise(part, depth + binder * binders, binder, by);
+    match term {
+        Term::Var(index) => var(index + if *index < depth { 0 } else { by }),
+        Term::Abs(body) => abs(inside(body, 1)),
+        Term::App(f, a) => app(inside(f, 0), inside(a, 0)),
+        Term::Con { tag, args } => con(*tag, args.iter().map(|a| inside(a, 0)).collect()),
+        Term::Case {
+            scrutinee,
+            branches,
+        } => {
+            let arms = branches.iter();
+            let arms = arms.map(|b| branch(b.tag, b.bound, inside(&b.body, b.bound)));
+            case(inside(scrutinee, 0), arms.collect())
+        }
+    }
+}
+
+fn parts(term: &Term) -> Vec<&Term> {
+    match term {
+        Term::Var(_) => vec![],
+        Term::Abs(body) => vec![body],
+        Term::App(f, a) => vec![f, a],
+        Term::Con { args, .. } => args.iter().collect(),
+        Term::Case {
+            scrutinee,
+            branches,
+        } => {
+            let bodies = branches.iter().map(|branch| &branch.body);
+            std::iter::once(scrutinee.as_ref()).chain(bodies).collect()
+        }
+    }
+}
+
+/// The term with other parts in place of its own.
+fn with_parts(term: &Term, parts: Vec<Term>) -> Term {
+    let mut parts = parts.into_iter();
+    let mut next = || parts.next().expect("as many parts as the term has");
+    match term {
+        Term::Var(index) => var(*index),
+        Term::Abs(_) => abs(next()),
+        Term::App(..) => app(next(), next()),
+        Term::Con { tag, args } => con(*tag, args.iter().map(|_| next()).collect()),
+        Term::Case { branches, .. } => {
+            let scrutinee = next();
+            let arms = branches.iter().map(|b| branch(b.tag, b.bound, next()));
+            case(scrutinee, arms.collect())
+        }
+    }
+}
+
+/// Longer runs and workspaces than these are left out here.
+const MOST_ROUNDS: usize = 300;
+const MOST_WORDS: usize = 300;
+
+/// Pairs of the generated inputs that are judged, with the reference's answer.
+fn judged() -> Vec<([Term; 2], usize, u32, Answer)> {
+    (0..600)
+        .filter_map(|case| {
+            let verdict = VERDICTS[case % VERDICTS.len()];
+            let random = &mut Random::new(4, case as u64);
+            let input = inputs::aimed(random, Aim::Verdict(verdict));
+            let request = Request::read(&input)?;
+            let Outcome::Answered(answer) = outcome(&input) else {
+                return None;
+            };
+            let capacity = request.capacity as usize;
+            let terms = [request.left, request.right].map(|table| {
+                let mut words = vec![0; capacity];
+                let length = load(&table, &mut words).ok()?;
+                read(&words[..length as usize])
+            });
+            let [Some(left), Some(right)] = terms else {
+                return None;
+            };
+            let short = (answer.spent as usize) < MOST_ROUNDS && capacity <= MOST_WORDS;
+            short.then_some(([left, right], capacity, request.budget, answer))
+        })
+        .collect()
+}
+
+#[test]
+fn inputs_tell_every_mistake() {
+    on_large_stack(|| {
+        let judged = judged();
+        assert!(judged.len() > 300, "{}", judged.len());
+        let differences = |mistake| {
+            let judge = Judge(mistake);
+            let differs = |(sides, capacity, budget, answer): &&([Term; 2], usize, u32, Answer)| {
+                judge.judge(sides.clone(), *capacity, *budget) != Some(*answer)
+            };
+            judged.iter().filter(differs).count()
+        };
+        assert_eq!(differences(Mistake::Nothing), 0);
+        for mistake in MISTAKES {
+            let found = differences(mistake);
+            assert!(found >= 6, "{mistake:?}: {found} of {}", judged.len());
+        }
+    });
+}

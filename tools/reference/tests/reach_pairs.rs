@@ -1,0 +1,506 @@
+//! The generators of terms and pairs reach every shape, every place of a
+//! redex, every limit and every way in which rounds end.
+
+mod common;
+
+use common::census::Census;
+use reference::contraction::step;
+use reference::generate::families;
+use reference::generate::inputs::{self, Aim};
+use reference::generate::pairs::{pair, trial};
+use reference::on_large_stack;
+use reference::press::{rounds, Verdict};
+use reference::random::Random;
+use reference::replay::VERDICTS;
+use reference::term::{Branch, Term};
+use reference::verdict::{outcome, Outcome, Request};
+
+/// Where a part stands in its term.
+#[derive(Clone, Copy)]
+struct Place {
+    binders: u32,
+    depth: usize,
+    within: &'static str,
+}
+
+fn parts<'a>(term: &'a Term, place: Place, found: &mut Vec<(&'a Term, Place)>) {
+    found.push((term, place));
+    let inside = |binders, within| Place {
+        binders: place.binders + binders,
+        depth: place.depth + 1,
+        within,
+    };
+    match term {
+        Term::Var(_) => {}
+        Term::Abs(body) => parts(body, inside(1, "an abstraction"), found),
+        Term::App(function, argument) => {
+            parts(function, inside(0, "a function"), found);
+            parts(argument, inside(0, "an argument"), found);
+        }
+        Term::Con { args, .. } => args
+            .iter()
+            .for_each(|arg| parts(arg, inside(0, "a constructor"), found)),
+        Term::Case {
+            scrutinee,
+            branches,
+        } => {
+            parts(scrutinee, inside(0, "a subject"), found);
+            for branch in branches {
+                parts(&branch.body, inside(branch.bound, "a branch"), found);
+            }
+        }
+    }
+}
+
+fn all_parts(term: &Term) -> Vec<(&Term, Place)> {
+    let top = Place {
+        binders: 0,
+        depth: 0,
+        within: "nothing",
+    };
+    let mut found = Vec::new();
+    parts(term, top, &mut found);
+    found
+}
+
+fn few_or_many(count: usize) -> &'static str {
+    match count {
+        0 => "no",
+        1 => "one",
+        15 => "fifteen",
+        _ => "several",
+    }
+}
+
+/// What a variable is: bound near or far, or free at the limit or below.
+fn look_at_variable(index: u32, binders: u32, census: &mut Census) {
+    match index.checked_sub(binders) {
+        None => census.meet(match binders - 1 - index {
+            _ if index == 0 => "variable bound next",
+            0 => "variable bound first",
+            _ => "variable bound between",
+        }),
+        Some(255) => census.meet(match binders {
+            0 => "free number 255",
+            _ => "free number 255 under binders",
+        }),
+        Some(_) => census.meet(match binders {
+            0 => "free number",
+            _ => "free number under binders",
+        }),
+    }
+}
+
+fn look_at_case(scrutinee: &Term, branches: &[Branch], place: Place, census: &mut Census) {
+    census.meet(format!("case of {} branches", few_or_many(branches.len())));
+    for branch in branches {
+        census.meet_if(branch.tag == 255, "branch of tag 255");
+        let bound = few_or_many(branch.bound as usize);
+        census.meet(format!("branch that binds {bound}"));
+    }
+    let Term::Con { tag, args } = scrutinee else {
+        return;
+    };
+    let found = branches.iter().position(|branch| branch.tag == *tag);
+    match found {
+        None => census.meet("stuck by the tag"),
+        Some(at) if branches[at].bound as usize == args.len() => {
+            let count = few_or_many(args.len());
+            census.meet(format!("case redex of {count} arguments"));
+            census.meet(format!("case redex within {}", place.within));
+            census.meet_if(at > 0, "case redex by a later branch");
+            census.meet_if(at + 1 < branches.len(), "case redex by an earlier branch");
+        }
+        Some(at) if (branches[at].bound as usize) < args.len() => {
+            census.meet("stuck by too few bound");
+        }
+        Some(_) => census.meet("stuck by too many bound"),
+    }
+}
+
+fn look_at(term: &Term, census: &mut Census) {
+    let size = term.size();
+    census.meet(match size {
+        1 => "one word",
+        2..=15 => "few words",
+        16..=400 => "some words",
+        401..=2_047 => "many words",
+        _ => "2,048 words",
+    });
+    for (part, place) in all_parts(term) {
+        census.meet_if(place.depth == 500, "deeper than 500");
+        census.meet_if(place.binders > 1_000, "under more than 1,000 binders");
+        match part {
+            Term::Var(index) => look_at_variable(*index, place.binders, census),
+            Term::Abs(_) => census.meet("abstraction"),
+            Term::App(function, _) => match function.as_ref() {
+                Term::Abs(_) => census.meet(format!("beta redex within {}", place.within)),
+                Term::Con { .. } => census.meet("application of a constructor"),
+                _ => census.meet("application"),
+            },
+            Term::Con { tag, args } => {
+                let name = match place.within {
+                    "a subject" => "subject",
+                    _ => "constructor",
+                };
+                census.meet(format!("{name} of {} arguments", few_or_many(args.len())));
+                census.meet_if(*tag == 255, "constructor of tag 255");
+            }
+            Term::Case {
+                scrutinee,
+                branches,
+            } => look_at_case(scrutinee, branches, place, census),
+        }
+    }
+}
+
+#[test]
+fn pairs_reach_every_shape() {
+    let census = on_large_stack(|| {
+        let mut census = Census::default();
+        for case in 0..1_500 {
+            let (left, right) = pair(&mut Random::new(31, case));
+            look_at(&left, &mut census);
+            look_at(&right, &mut census);
+        }
+        census
+    });
+    census.assert_reaches(
+        10,
+        &[
+            "one word",
+            "few words",
+            "some words",
+            "many words",
+            "2,048 words",
+            "deeper than 500",
+            "under more than 1,000 binders",
+            "variable bound next",
+            "variable bound first",
+            "variable bound between",
+            "free number",
+            "free number 255",
+            "free number under binders",
+            "free number 255 under binders",
+            "abstraction",
+            "application",
+            "application of a constructor",
+            "constructor of no arguments",
+            "constructor of one arguments",
+            "constructor of several arguments",
+            "constructor of fifteen arguments",
+            "subject of no arguments",
+            "subject of one arguments",
+            "subject of several arguments",
+            "subject of fifteen arguments",
+            "constructor of tag 255",
+            "case of no branches",
+            "case of one branches",
+            "case of several branches",
+            "case of fifteen branches",
+            "branch of tag 255",
+            "branch that binds no",
+            "branch that binds one",
+            "branch that binds several",
+            "branch that binds fifteen",
+            "beta redex within nothing",
+            "beta redex within an abstraction",
+            "beta redex within a function",
+            "beta redex within an argument",
+            "beta redex within a constructor",
+            "beta redex within a subject",
+            "beta redex within a branch",
+            "case redex within nothing",
+            "case redex within an abstraction",
+            "case redex within a function",
+            "case redex within an argument",
+            "case redex within a constructor",
+            "case redex within a subject",
+            "case redex within a branch",
+            "case redex of no arguments",
+            "case redex of one arguments",
+            "case redex of several arguments",
+            "case redex of fifteen arguments",
+            "case redex by a later branch",
+            "case redex by an earlier branch",
+            "stuck by the tag",
+            "stuck by too few bound",
+            "stuck by too many bound",
+        ],
+    );
+}
+
+/// How the two terms of a pair are related at the start and after a step.
+fn look_at_relation(left: &Term, right: &Term, census: &mut Census) {
+    let next = (step(left), step(right));
+    census.meet_if(left == right, "equal at once");
+    census.meet_if(next.0.is_none() && next.1.is_none(), "both normal");
+    census.meet_if(next.0.is_some() && next.1.is_some(), "both move");
+    census.meet_if(next.0.is_some() != next.1.is_some(), "one moves");
+    census.meet_if(
+        next.0.as_ref() == Some(right),
+        "the left's next is the right",
+    );
+    census.meet_if(
+        next.1.as_ref() == Some(left),
+        "the right's next is the left",
+    );
+    census.meet_if(next.0.as_ref() == Some(left), "the left is its own next");
+    census.meet_if(
+        left.size() == right.size() && left != right,
+        "equal lengths",
+    );
+    for (term, next) in [(left, next.0), (right, next.1)] {
+        if let Some(next) = next {
+            census.meet(match next.size().cmp(&term.size()) {
+                std::cmp::Ordering::Less => "a step shortens",
+                std::cmp::Ordering::Equal => "a step keeps the length",
+                std::cmp::Ordering::Greater => "a step lengthens",
+            });
+        }
+    }
+}
+
+#[test]
+fn pairs_reach_every_relation() {
+    let census = on_large_stack(|| {
+        let mut census = Census::default();
+        for case in 0..1_500 {
+            let (left, right) = pair(&mut Random::new(32, case));
+            look_at_relation(&left, &right, &mut census);
+        }
+        census
+    });
+    census.assert_reaches(
+        20,
+        &[
+            "equal at once",
+            "both normal",
+            "both move",
+            "one moves",
+            "the left's next is the right",
+            "the right's next is the left",
+            "the left is its own next",
+            "equal lengths",
+            "a step shortens",
+            "a step keeps the length",
+            "a step lengthens",
+        ],
+    );
+}
+
+/// The sides that a round moves at the end of rounds, and the longest of
+/// their next terms.
+fn ahead(left: &Term, right: &Term) -> (u32, usize) {
+    let next = [step(left), step(right)];
+    let sizes = next.iter().flatten().map(Term::size);
+    (
+        next.iter().flatten().count() as u32,
+        sizes.max().unwrap_or(0),
+    )
+}
+
+#[test]
+fn trials_reach_every_edge() {
+    let census = on_large_stack(|| {
+        let mut census = Census::default();
+        for case in 0..2_400 {
+            let random = &mut Random::new(33, case);
+            let wish = VERDICTS[case as usize % VERDICTS.len()];
+            let trial = trial(random, Some(wish));
+            let (capacity, budget) = (trial.capacity, trial.budget);
+            let end = rounds(trial.left, trial.right, capacity, budget);
+            let (moving, longest) = ahead(&end.left, &end.right);
+            let over = longest.saturating_sub(capacity);
+            let size = end.left.size().max(end.right.size());
+            let unspent = budget - end.spent;
+            let verdict = end.verdict;
+            census.meet(format!(
+                "{verdict} after {}",
+                match end.spent {
+                    0 => "no contraction",
+                    1..=3 => "a few",
+                    4..=50 => "some",
+                    _ => "many",
+                }
+            ));
+            match end.verdict {
+                Verdict::Same | Verdict::Different => {
+                    census.meet_if(unspent == 0, format!("{verdict}, all spent"));
+                    census.meet_if(unspent == 1, format!("{verdict}, one unspent"));
+                    census.meet_if(unspent > 1_000, format!("{verdict}, much unspent"));
+                }
+                Verdict::Budget => {
+                    census.meet(format!("Budget, {unspent} unspent where {moving} move"));
+                    census.meet_if(over > 0, "Budget before Full");
+                    census.meet_if(longest == capacity, "Budget, C words next");
+                }
+                Verdict::Full => {
+                    census.meet_if(unspent == moving, "Full, the budget just enough");
+                    census.meet_if(unspent > moving, "Full, budget left");
+                    census.meet_if(over == 1, "Full by one word");
+                    census.meet_if(over == 1 && longest > size + 2, "Full by one of many words");
+                    census.meet_if(over > 1, "Full by more");
+                    census.meet_if(size == capacity, "Full with a term of C words");
+                    census.meet(format!("Full where {moving} move"));
+                    census.meet_if(capacity == 16, "Full in 16 words");
+                }
+            }
+        }
+        census
+    });
+    let mut features: Vec<String> = VERDICTS
+        .iter()
+        .flat_map(|verdict| {
+            ["no contraction", "a few", "some", "many"]
+                .map(|spent| format!("{verdict} after {spent}"))
+        })
+        .collect();
+    for verdict in ["Same", "Different"] {
+        features.extend(
+            ["all spent", "one unspent", "much unspent"].map(|rest| format!("{verdict}, {rest}")),
+        );
+    }
+    features.extend(
+        [
+            "Budget, 0 unspent where 1 move",
+            "Budget, 0 unspent where 2 move",
+            "Budget, 1 unspent where 2 move",
+            "Budget before Full",
+            "Budget, C words next",
+            "Full, the budget just enough",
+            "Full, budget left",
+            "Full by one word",
+            "Full by one of many words",
+            "Full by more",
+            "Full with a term of C words",
+            "Full where 1 move",
+            "Full where 2 move",
+            "Full in 16 words",
+        ]
+        .map(str::to_string),
+    );
+    let features: Vec<&str> = features.iter().map(String::as_str).collect();
+    census.assert_reaches(4, &features);
+}
+
+#[test]
+fn inputs_reach_the_limits_of_a_press() {
+    let census = on_large_stack(|| {
+        let mut census = Census::default();
+        for case in 0..1_200 {
+            let random = &mut Random::new(34, case);
+            let verdict = VERDICTS[case as usize % VERDICTS.len()];
+            let input = inputs::aimed(random, Aim::Verdict(verdict));
+            let (Some(request), Outcome::Answered(answer)) =
+                (Request::read(&input), outcome(&input))
+            else {
+                continue;
+            };
+            let (capacity, longest) = (request.capacity, answer.left.max(answer.right));
+            census.meet_if(capacity == 16, "C 16");
+            census.meet_if(capacity == 2_048, "C 2,048");
+            census.meet_if(longest == capacity, "a term of C words");
+            census.meet_if(longest == 2_048, "a term of 2,048 words");
+            census.meet_if(request.budget == 0, "budget 0");
+            census.meet_if(request.budget == 1_000_000, "budget 1,000,000");
+            census.meet_if(answer.spent >= 999_999, "all of the largest budget spent");
+        }
+        census
+    });
+    census.assert_reaches(
+        2,
+        &[
+            "C 16",
+            "C 2,048",
+            "a term of C words",
+            "a term of 2,048 words",
+            "budget 0",
+            "budget 1,000,000",
+            "all of the largest budget spent",
+        ],
+    );
+}
+
+/// The way in which a deep term goes on, by its outermost level.
+fn way(term: &Term) -> &'static str {
+    match term {
+        Term::Abs(_) => "abstractions",
+        Term::Con { args, .. } if args.len() == 1 => "constructors",
+        Term::Con { .. } => "last arguments",
+        Term::Case { branches, .. } if branches.is_empty() => "subjects",
+        Term::Case { .. } => "branches",
+        Term::App(function, _) if function.size() > 1 => "functions",
+        _ => "arguments",
+    }
+}
+
+/// The innermost variable and the binders around it.
+fn innermost(term: &Term, functions: bool, binders: u32) -> (u32, u32) {
+    match term {
+        Term::Var(index) => (*index, binders),
+        Term::Abs(body) => innermost(body, functions, binders + 1),
+        Term::Con { args, .. } => innermost(&args[args.len() - 1], functions, binders),
+        Term::Case {
+            scrutinee,
+            branches,
+        } => match branches.first() {
+            Some(branch) => innermost(&branch.body, functions, binders + branch.bound),
+            None => innermost(scrutinee, functions, binders),
+        },
+        // The identity is applied to the innermost variable.
+        Term::App(function, argument) => match function.as_ref() {
+            Term::Abs(body) if **body == Term::Var(0) => innermost(argument, functions, binders),
+            _ if functions => innermost(function, functions, binders),
+            _ => innermost(argument, functions, binders),
+        },
+    }
+}
+
+#[test]
+fn deep_terms_go_every_way() {
+    let census = on_large_stack(|| {
+        let mut census = Census::default();
+        for case in 0..400 {
+            let random = &mut Random::new(35, case);
+            let size = random.between(100, 2_048);
+            let term = families::deep(random, size);
+            let way = way(&term);
+            let (index, binders) = innermost(&term, way == "functions", 0);
+            census.meet(match index.checked_sub(binders) {
+                Some(free) => format!("{way} around free number {free}"),
+                None => format!("{way} around a bound variable"),
+            });
+            census.meet(match step(&term) {
+                Some(_) => format!("{way} around a redex"),
+                None => format!("{way} without a redex"),
+            });
+        }
+        census
+    });
+    let mut features = Vec::new();
+    for way in [
+        "abstractions",
+        "constructors",
+        "last arguments",
+        "subjects",
+        "branches",
+        "functions",
+        "arguments",
+    ] {
+        let around = ["free number 0", "free number 255", "a redex"];
+        features.extend(around.map(|inside| format!("{way} around {inside}")));
+        features.push(format!("{way} without a redex"));
+    }
+    // Levels of two words may have an abstraction inside, which makes up the size.
+    let binding = [
+        "abstractions",
+        "branches",
+        "functions",
+        "arguments",
+        "last arguments",
+    ];
+    features.extend(binding.map(|way| format!("{way} around a bound variable")));
+    let features: Vec<&str> = features.iter().map(String::as_str).collect();
+    census.assert_reaches(3, &features);
+}

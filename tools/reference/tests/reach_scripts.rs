@@ -1,0 +1,403 @@
+//! The generators of inputs and scripts reach every way in which bytes are
+//! broken, every call with every answer, and calls at their limits.
+
+mod common;
+
+use common::census::Census;
+use reference::generate::inputs::{self, Aim};
+use reference::generate::scripts;
+use reference::on_large_stack;
+use reference::press::{Side, Verdict};
+use reference::random::Random;
+use reference::refusal::Refusal;
+use reference::replay::{self, Event, Machine, Operation};
+use reference::verdict::{outcome, Outcome};
+use reference::words::read;
+
+/// The word at a place, if all its bytes are there.
+fn word(bytes: &[u8], place: usize) -> Option<u32> {
+    let bytes = bytes.get(4 * place..4 * place + 4)?;
+    Some(u32::from_le_bytes([bytes[0], bytes[1], bytes[2], bytes[3]]))
+}
+
+/// Why bytes are no input, by the side whose table is wrong first.
+fn look_at_bytes(bytes: &[u8], census: &mut Census) {
+    census.meet_if(bytes.is_empty(), "no byte");
+    census.meet_if(bytes.len() % 4 != 0, "no whole words");
+    let mut at = 2;
+    for side in ["left", "right"] {
+        let Some(count) = word(bytes, at) else {
+            census.meet(format!("{side}: no count"));
+            return;
+        };
+        census.meet_if(count == 8_197, format!("{side}: count 8,197"));
+        census.meet_if(count > 1 << 29, format!("{side}: far count"));
+        if count > 8_196 {
+            return;
+        }
+        census.meet_if(count == 8_196, format!("{side}: count 8,196"));
+        at += 1 + count as usize;
+        let missing = (4 * at).saturating_sub(bytes.len());
+        census.meet(match missing {
+            0 => continue,
+            1..=3 => format!("{side}: some bytes missing"),
+            4 => format!("{side}: one word missing"),
+            _ => format!("{side}: more missing"),
+        });
+        return;
+    }
+    census.meet(match bytes.len() - 4 * at {
+        0 => "nothing",
+        1..=3 => "some bytes too many",
+        4 => "one word too many",
+        _ => "more too many",
+    });
+}
+
+#[test]
+fn broken_inputs_are_broken_in_every_way() {
+    let census = on_large_stack(|| {
+        let mut census = Census::default();
+        for case in 0..1_500 {
+            let bytes = inputs::aimed(&mut Random::new(41, case), Aim::Input);
+            if outcome(&bytes) == Outcome::Input {
+                look_at_bytes(&bytes, &mut census);
+            }
+        }
+        census
+    });
+    census.assert_reaches(
+        8,
+        &[
+            "no byte",
+            "no whole words",
+            "left: no count",
+            "left: count 8,196",
+            "left: count 8,197",
+            "left: far count",
+            "left: some bytes missing",
+            "left: one word missing",
+            "left: more missing",
+            "right: no count",
+            "right: count 8,196",
+            "right: count 8,197",
+            "right: far count",
+            "right: some bytes missing",
+            "right: one word missing",
+            "right: more missing",
+            "some bytes too many",
+            "one word too many",
+            "more too many",
+        ],
+    );
+}
+
+/// Each call of a script with the machine before it, and what is left unread.
+fn each_call(input: &[u8], mut look: impl FnMut(&Machine, &Operation, Event)) -> Option<usize> {
+    let (mut machine, mut script) = replay::start(input)?;
+    let mut unread = input.len();
+    while let Some(operation) = script.operation() {
+        unread = script.unread();
+        let before = machine.clone();
+        let event = machine.apply(&operation, &mut String::new());
+        look(&before, &operation, event);
+    }
+    Some(unread)
+}
+
+fn name(side: Side) -> &'static str {
+    match side {
+        Side::Left => "left",
+        Side::Right => "right",
+    }
+}
+
+fn look_at_call(before: &Machine, operation: &Operation, event: Event, census: &mut Census) {
+    match (operation, event) {
+        (Operation::Load { side, .. }, Event::Load(answer)) => census.meet(match answer {
+            Ok(_) => format!("load {}", name(*side)),
+            Err(refusal) => format!("load {}, {refusal}", name(*side)),
+        }),
+        (
+            Operation::Press {
+                scratch, lengths, ..
+            },
+            Event::Press(answer),
+        ) => {
+            let answer = match answer {
+                Ok(answer) => answer.verdict.to_string(),
+                Err(Refusal::Workspace) => wrong_workspace(before, *scratch).to_string(),
+                Err(Refusal::NotATerm) => format!("10 by the {}", wrong_term(before, *lengths)),
+                Err(refusal) => refusal.to_string(),
+            };
+            census.meet(format!("press, {answer}"));
+        }
+        (Operation::Show { lengths }, Event::Show(part)) => census.meet(match part {
+            Some((Side::Left, _)) if lengths.0 == lengths.1 => "show left of equals",
+            Some((Side::Left, _)) => "show left",
+            Some((Side::Right, _)) => "show right",
+            None => "show nothing",
+        }),
+        (
+            Operation::Write {
+                side,
+                length,
+                table,
+            },
+            Event::Write(answer),
+        ) => {
+            let fitting = 4 * (*length as usize).saturating_add(1);
+            let answer = match answer {
+                Ok(_) => String::new(),
+                Err(Refusal::TableLength) if *table < fitting => ", 1 by too short".to_string(),
+                Err(Refusal::TableLength) => ", 1 by too long".to_string(),
+                Err(refusal) => format!(", {refusal}"),
+            };
+            census.meet(format!("write {}{answer}", name(*side)));
+        }
+        (Operation::SetSession(session), _) => {
+            census.meet(format!("set session, {}", session.verdict));
+        }
+        (Operation::Store { side, at, .. }, _) => {
+            let workspace = match side {
+                Side::Left => &before.left,
+                Side::Right => &before.right,
+            };
+            let within = (*at as usize) < workspace.len();
+            census.meet(match within {
+                true => format!("store {}", name(*side)),
+                false => "store outside".to_string(),
+            });
+        }
+        (Operation::Print, _) => census.meet("print"),
+        other => panic!("another event than the call's: {other:?}"),
+    }
+}
+
+fn wrong_workspace(before: &Machine, scratch: usize) -> &'static str {
+    let fits = |length: usize| (16..=2_048).contains(&length);
+    let (left, right) = (before.left.len(), before.right.len());
+    match (fits(left), fits(right), fits(scratch)) {
+        (false, _, _) => "7 by the left",
+        (true, false, _) => "7 by the right",
+        (true, true, _) if left != right => "7 by unequal workspaces",
+        (true, true, false) => "7 by the scratch",
+        (true, true, true) => "7 by an unequal scratch",
+    }
+}
+
+fn wrong_term(before: &Machine, lengths: (u32, u32)) -> &'static str {
+    let words = before.left.get(..lengths.0 as usize);
+    match words.and_then(read) {
+        None if lengths.0 == 0 => "left's length 0",
+        None if words.is_none() => "left's length above C",
+        None => "left's words",
+        Some(_) if lengths.1 == 0 => "right's length 0",
+        Some(_) if lengths.1 as usize > before.right.len() => "right's length above C",
+        Some(_) => "right's words",
+    }
+}
+
+#[test]
+fn scripts_reach_every_call_and_answer() {
+    let census = on_large_stack(|| {
+        let mut census = Census::default();
+        for case in 0..1_200 {
+            let input = scripts::script(42, case);
+            each_call(&input, |before, operation, event| {
+                look_at_call(before, operation, event, &mut census);
+            });
+        }
+        census
+    });
+    let mut features = Vec::new();
+    for side in ["left", "right"] {
+        features.push(format!("load {side}"));
+        features.extend((1..=8).map(|number| format!("load {side}, {number}")));
+        features.push(format!("write {side}"));
+        let refusals = ["1 by too short", "1 by too long", "7", "10"];
+        features.extend(refusals.map(|refusal| format!("write {side}, {refusal}")));
+        features.push(format!("store {side}"));
+        let lengths = ["length 0", "length above C", "words"];
+        features.extend(lengths.map(|wrong| format!("press, 10 by the {side}'s {wrong}")));
+    }
+    for verdict in ["Same", "Different", "Budget", "Full"] {
+        features.push(format!("press, {verdict}"));
+        features.push(format!("set session, {verdict}"));
+    }
+    let others = [
+        "press, 7 by the left",
+        "press, 7 by the right",
+        "press, 7 by unequal workspaces",
+        "press, 7 by the scratch",
+        "press, 7 by an unequal scratch",
+        "press, 9",
+        "show left",
+        "show left of equals",
+        "show right",
+        "show nothing",
+        "store outside",
+        "print",
+    ];
+    features.extend(others.map(str::to_string));
+    let features: Vec<&str> = features.iter().map(String::as_str).collect();
+    census.assert_reaches(4, &features);
+}
+
+/// Why the words at the break are no operation.
+fn broken(bytes: &[u8]) -> String {
+    let Some(code) = word(bytes, 0) else {
+        return "some bytes".to_string();
+    };
+    let (first, second, third) = (word(bytes, 1), word(bytes, 2), word(bytes, 3));
+    match code {
+        0 => "operation 0".to_string(),
+        8 => "operation 8".to_string(),
+        9.. => "far operation".to_string(),
+        1 | 4 | 6 if first.is_some_and(|side| side > 1) => format!("{code}: side"),
+        1 if second.is_some_and(|count| count > 8_196) => "1: count".to_string(),
+        2 if first.is_some_and(|count| count > 8_196) => "2: count".to_string(),
+        4 if third.is_some_and(|count| count > 8_196) => "4: count".to_string(),
+        5 if word(bytes, 4).is_some_and(|verdict| verdict > 3) => "5: verdict".to_string(),
+        _ => format!("{code}: cut"),
+    }
+}
+
+#[test]
+fn broken_scripts_are_broken_in_every_way() {
+    let census = on_large_stack(|| {
+        let mut census = Census::default();
+        for case in 0..9_600 {
+            // Scripts that may break are those of five cases in twenty-four.
+            if !matches!(case / 8 % 24, 1 | 6 | 11 | 16 | 21 | 3) {
+                continue;
+            }
+            let input = scripts::script(43, case);
+            census.meet_if(input.len() == 4 * 32_768, "32,768 words");
+            census.meet_if(input.len() == 4 * 32_769, "32,769 words");
+            census.meet_if(input.len() < 8, "no start");
+            let transcript = replay::run(&input);
+            if transcript.events.last() != Some(&Event::Script) {
+                continue;
+            }
+            if let Some(unread) = each_call(&input, |_, _, _| {}) {
+                let unread = unread.min(input.len() - 8);
+                census.meet(broken(&input[input.len() - unread..]));
+            }
+        }
+        census
+    });
+    census.assert_reaches(
+        2,
+        &[
+            "32,768 words",
+            "32,769 words",
+            "no start",
+            "some bytes",
+            "operation 0",
+            "operation 8",
+            "far operation",
+            "1: side",
+            "1: count",
+            "1: cut",
+            "2: count",
+            "2: cut",
+            "3: cut",
+            "4: side",
+            "4: count",
+            "4: cut",
+            "5: verdict",
+            "5: cut",
+            "6: side",
+            "6: cut",
+        ],
+    );
+}
+
+/// Presses around the limits of budget and total, and words behind a term.
+fn look_at_limits(before: &Machine, operation: &Operation, event: Event, census: &mut Census) {
+    if let (Operation::Load { side, .. }, Event::Load(Ok(length))) = (operation, event) {
+        let workspace = match side {
+            Side::Left => &before.left,
+            Side::Right => &before.right,
+        };
+        let over = workspace[length as usize..].iter().any(|word| *word != 0);
+        census.meet_if(over, "loaded over other words");
+    }
+    let (
+        Operation::Press {
+            budget, lengths, ..
+        },
+        Event::Press(answer),
+    ) = (operation, event)
+    else {
+        return;
+    };
+    let mut behind = before.left.iter().skip(lengths.0 as usize);
+    let tail = behind.any(|word| *word != 0);
+    let total = u64::from(before.session.total);
+    let sum = total + u64::from(*budget);
+    match answer {
+        Ok(answer) => {
+            census.meet_if(tail && answer.spent > 0, "a tail becomes zeros");
+            census.meet_if(
+                tail && answer.spent == 0,
+                "a tail becomes zeros without a round",
+            );
+            census.meet_if(sum == 1_000_000_000, "sum at its limit");
+            census.meet_if(*budget == 1_000_000, "budget at its limit");
+            census.meet_if(*budget == 0, "budget 0");
+            let ended = matches!(before.session.verdict, Verdict::Same | Verdict::Different);
+            census.meet_if(total > 0 && ended, "pressed on after an end");
+            census.meet_if(
+                total > 0 && !ended && answer.spent > 0,
+                "pressed on after Budget",
+            );
+            census.meet_if(answer.left as usize == before.left.len(), "left of C words");
+        }
+        Err(Refusal::Budget) => {
+            census.meet_if(tail, "a tail kept by a refusal");
+            census.meet_if(*budget == 1_000_001, "budget just above");
+            census.meet_if(
+                *budget <= 1_000_000 && sum == 1_000_000_001,
+                "sum just above",
+            );
+            census.meet_if(*budget == 0, "total above alone");
+            census.meet_if(sum > u64::from(u32::MAX), "sum past 32 bits");
+        }
+        Err(_) => {}
+    }
+}
+
+#[test]
+fn scripts_reach_the_limits_of_a_press() {
+    let census = on_large_stack(|| {
+        let mut census = Census::default();
+        for case in 0..1_200 {
+            let input = scripts::script(44, case);
+            each_call(&input, |before, operation, event| {
+                look_at_limits(before, operation, event, &mut census);
+            });
+        }
+        census
+    });
+    census.assert_reaches(
+        8,
+        &[
+            "loaded over other words",
+            "a tail becomes zeros",
+            "a tail becomes zeros without a round",
+            "a tail kept by a refusal",
+            "sum at its limit",
+            "budget at its limit",
+            "budget 0",
+            "pressed on after an end",
+            "pressed on after Budget",
+            "left of C words",
+            "budget just above",
+            "sum just above",
+            "total above alone",
+            "sum past 32 bits",
+        ],
+    );
+}

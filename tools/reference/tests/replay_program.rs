@@ -1,0 +1,214 @@
+//! The replaying program on whole scripts; expectations follow from its
+//! table of operations and from the rules.
+
+mod common;
+
+use common::table;
+use reference::input::bytes;
+use reference::replay::run;
+
+/// 2,2,1,1,8,0,8 in prefix order.
+const K_F0_F1: [[u32; 4]; 7] = [
+    [2, 0, 2, 0],
+    [2, 0, 3, 7],
+    [1, 0, 4, 6],
+    [1, 0, 5, 0],
+    [0, 1, 0, 0],
+    [0, 0, 0, 0],
+    [0, 1, 0, 0],
+];
+const F0: [[u32; 4]; 1] = [[0, 0, 0, 0]];
+
+fn text(words: &[&[u32]]) -> String {
+    run(&bytes(&words.concat())).text
+}
+
+fn load(side: u32, records: &[[u32; 4]]) -> Vec<u32> {
+    let table = table(records);
+    [&[1, side, table.len() as u32][..], &table].concat()
+}
+
+/// A word and then `count` times another.
+fn row(head: &str, words: &[u32], count: usize, filling: &str) -> String {
+    let words: Vec<String> = words.iter().map(u32::to_string).collect();
+    let parts = words.into_iter().chain(vec![filling.to_string(); count]);
+    let line: Vec<String> = std::iter::once(head.to_string()).chain(parts).collect();
+    line.join(" ") + "\n"
+}
+
+#[test]
+fn a_run_with_every_operation() {
+    let printed = text(&[
+        &[16, 16],
+        &load(0, &K_F0_F1),
+        &load(1, &F0),
+        &[6, 1, 9, 55],    // a word behind the right term
+        &[2, 16, 7, 1, 1], // one contraction
+        &[3, 4, 1],        // the right form is shorter
+        &[4, 0, 4, 20],    // 2,1,8,8 as a table of four records
+        &[2, 16, 7, 1, 1], // the old length
+        &[2, 16, 4, 1, 1], // the second contraction
+        &[7],
+    ]);
+    let expected = [
+        "load 7\nload 1\nstore\nBudget 1 4 1\nshow 1 0\n",
+        // Header; application; abstraction; its body f0; the argument f1.
+        "write 4 1 4 1 0 2 0 2 0 1 0 3 4 0 1 0 0 0 1 0 0\n",
+        "refused 10\nSame 1 1 1\n",
+        &row("left", &[], 16, "0"),
+        &row("right", &[], 16, "0"),
+        &row("scratch", &[], 16, "0"),
+        "session 2 1 1 Same\n",
+    ];
+    assert_eq!(printed, expected.concat());
+}
+
+#[test]
+fn at_first_all_is_zero_and_the_session_fresh() {
+    let expected = [
+        row("left", &[], 3, "0"),
+        row("right", &[], 2_049, "0"),
+        "scratch\n".to_string(),
+        "session 0 0 0 Budget\n".to_string(),
+    ];
+    assert_eq!(text(&[&[3, u32::MAX, 7]]), expected.concat());
+    assert_eq!(text(&[&[0, 2_049]]), "");
+}
+
+#[test]
+fn a_refused_press_leaves_sevens_in_its_scratch() {
+    let printed = text(&[&[16, 16, 2, 5, 1, 1, 0, 7]]);
+    assert!(printed.starts_with("refused 7\nleft 0 "));
+    assert!(printed.ends_with("\nscratch 7 7 7 7 7\nsession 0 0 0 Budget\n"));
+    // The longest scratch is lent and refused, a longer one is not lent.
+    assert_eq!(text(&[&[16, 16, 2, 8_196, 1, 1, 0]]), "refused 7\n");
+    assert_eq!(text(&[&[16, 16, 2, 8_197, 1, 1, 0]]), "Script\n");
+}
+
+#[test]
+fn a_refused_press_keeps_words_and_session() {
+    let printed = text(&[
+        &[16, 16],
+        &[5, 999_999_999, 8, 9, 3],
+        &[6, 0, 0, 8],
+        &[6, 0, 1, 44],
+        &[2, 16, 1, 1, 2], // with the total too much
+        &[7],
+        &[2, 16, 1, 1, 1],
+        &[7],
+    ]);
+    let refused = [
+        "session\nstore\nstore\nrefused 9\n",
+        &row("left", &[8, 44], 14, "0"),
+        &row("right", &[], 16, "0"),
+        &row("scratch", &[], 16, "7"),
+        "session 999999999 8 9 Full\n",
+    ];
+    // f1 against f0; nothing is spent.
+    let unrefused = [
+        "Different 0 1 1\n",
+        &row("left", &[8], 15, "0"),
+        &row("right", &[], 16, "0"),
+        &row("scratch", &[], 16, "0"),
+        "session 999999999 1 1 Different\n",
+    ];
+    assert_eq!(printed, refused.concat() + &unrefused.concat());
+}
+
+#[test]
+fn showing() {
+    // f1 on the left, f0 on the right: the left one at equal lengths.
+    let start: [u32; 6] = [16, 16, 6, 0, 0, 8];
+    assert_eq!(text(&[&start, &[3, 1, 1]]), "store\nshow 0 8\n");
+    // Refused: the empty start of the left.
+    assert_eq!(text(&[&start, &[3, 1, 2]]), "store\nshow 0\n");
+    assert_eq!(text(&[&start, &[3, 0, 1]]), "store\nshow 0\n");
+    assert_eq!(text(&[&[16, 17, 3, 1, 1]]), "show 0\n");
+}
+
+#[test]
+fn writing_prints_the_whole_table() {
+    // An empty workspace holds f0 as its first word.
+    let start = [16, 15];
+    assert_eq!(text(&[&start, &[4, 0, 1, 8]]), "write 1 1 1 1 0 0 0 0 0\n");
+    assert_eq!(text(&[&start, &[4, 0, 1, 3]]), "refused 1 7 7 7\n");
+    assert_eq!(text(&[&start, &[4, 0, 2, 2]]), "refused 10 7 7\n");
+    assert_eq!(text(&[&start, &[4, 0, 1, 0]]), "refused 1\n");
+    assert_eq!(text(&[&start, &[4, 1, 1, 1]]), "refused 7 7\n");
+    let long = text(&[&start, &[4, 0, 1, 8_196]]);
+    assert_eq!(long, row("refused", &[1], 8_196, "7"));
+    assert_eq!(text(&[&start, &[4, 0, 1, 8_197]]), "Script\n");
+}
+
+#[test]
+fn each_side_is_loaded_by_its_own_length() {
+    let printed = text(&[&[15, 16], &load(0, &F0), &load(1, &F0)]);
+    assert_eq!(printed, "refused 7\nload 1\n");
+    assert_eq!(text(&[&[16, 16, 1, 0, 0]]), "refused 1\n");
+}
+
+#[test]
+fn verdicts_of_a_set_session() {
+    for (number, name) in ["Same", "Different", "Budget", "Full"].iter().enumerate() {
+        let printed = text(&[&[0, 0, 5, 1, 2, u32::MAX, number as u32, 7]]);
+        let end = format!("session 1 2 4294967295 {name}\n");
+        assert_eq!(printed, format!("session\nleft\nright\nscratch\n{end}"));
+    }
+    assert_eq!(text(&[&[0, 0, 5, 1, 2, 3, 4]]), "Script\n");
+}
+
+#[test]
+fn storing_outside_does_nothing() {
+    let printed = text(&[&[2, 1, 6, 0, 1, 9, 6, 0, 2, 9, 6, 1, 1, 9, 7]]);
+    let lines = "store\nstore\nstore\nleft 0 9\nright 0\nscratch\nsession 0 0 0 Budget\n";
+    assert_eq!(printed, lines);
+}
+
+#[test]
+fn a_broken_operation_ends_the_run() {
+    // What was printed before it stays.
+    for end in [
+        &[0][..],
+        &[8],
+        &[u32::MAX],
+        &[1],
+        &[1, 2, 0],
+        &[1, 0, 4, 1, 1, 1],
+        &[1, 0, 8_197],
+        &[2, 16, 1, 1],
+        &[3, 1],
+        &[4, 2, 1, 8],
+        &[4, 0, 1],
+        &[5, 1, 1, 1],
+        &[6, 2, 0, 0],
+        &[6, 0, 0],
+    ] {
+        let printed = text(&[&[16, 16, 6, 0, 0, 8], end]);
+        assert_eq!(printed, "store\nScript\n", "{end:?}");
+    }
+    // Nothing after it is done.
+    assert_eq!(text(&[&[16, 16, 9, 6, 0, 0, 8]]), "Script\n");
+}
+
+#[test]
+fn missing_words_and_bytes() {
+    for length in 0..8 {
+        let script = &bytes(&[16, 16])[..length];
+        assert_eq!(run(script).text, "Script\n", "{length}");
+    }
+    let mut script = bytes(&[16, 16, 6, 0, 0, 8]);
+    script.push(7);
+    assert_eq!(run(&script).text, "store\nScript\n");
+}
+
+#[test]
+fn scripts_of_the_greatest_length() {
+    // Two lengths, 8,190 stores of four words and two shows of three.
+    let stores = [6, 0, 99, 0].repeat(8_190);
+    let mut script = [&[16, 16][..], &stores, &[3, 0, 0, 3, 0, 0]].concat();
+    assert_eq!(script.len(), 32_768);
+    let printed = run(&bytes(&script)).text;
+    assert_eq!(printed, "store\n".repeat(8_190) + "show 0\nshow 0\n");
+    script.push(7);
+    assert_eq!(run(&bytes(&script)).text, "Script\n");
+}

@@ -1,0 +1,23 @@
+//! The unit's limits.
+
+use std::ops::RangeInclusive;
+
+/// C: the words in a workspace.
+pub const WORKSPACE: RangeInclusive<usize> = 16..=2_048;
+
+/// The largest free number.
+pub const MAX_FREE: u32 = 255;
+
+/// Tags of constructors and branches.
+pub const TAGS: RangeInclusive<u32> = 1..=255;
+
+/// The most arguments, branches, or variables bound by a branch.
+pub const MAX_COUNT: u32 = 15;
+
+/// The largest index in a table.
+pub const MAX_INDEX: u32 = 32_767;
+
+pub const MAX_BUDGET: u32 = 1_000_000;
+
+/// The most words of a table that the program `verdict` reads.
+pub const MAX_TABLE: u32 = 8_196;

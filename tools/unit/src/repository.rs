@@ -1,0 +1,137 @@
+//! The repository that holds the unit, and its program built from the sources as they are.
+
+use std::fs::{self, File};
+use std::io::{self, BufRead, BufReader, ErrorKind, Write};
+use std::path::{Path, PathBuf};
+use std::process::{Child, Command, ExitStatus, Stdio};
+use std::sync::mpsc::{self, Receiver, RecvTimeoutError};
+use std::thread;
+use std::time::Duration;
+
+/// The list of crates, which stands at the root.
+const CRATES: &str = "crates.txt";
+const PROGRAM: &str = "target/bin/verdict";
+/// What makes rt take the program for built, even where it is gone.
+const STAMP: &str = "target/stamp/verdict";
+/// All that rt printed when it was last asked for the program.
+const LOG: &str = "target/log/judge.out";
+
+/// With nothing to prove, rt says its first word sooner than this.
+const SOON: Duration = Duration::from_secs(2);
+
+/// The root of the repository that the folder lies in.
+pub fn find(folder: &Path) -> Option<PathBuf> {
+    let mut roots = folder.ancestors();
+    let root = roots.find(|root| root.join(CRATES).is_file());
+    root.map(Path::to_path_buf)
+}
+
+/// The program of the repository, proved and linked by rt unless it is there already and nothing it
+/// depends on has changed. Lines for the user go to `tell`.
+pub fn program(root: &Path, tell: &mut dyn FnMut(&str)) -> Result<PathBuf, String> {
+    let program = root.join(PROGRAM);
+    if !program.is_file() {
+        // Where it cannot be removed rt builds nothing, and that is found below.
+        let _ = fs::remove_file(root.join(STAMP));
+    }
+    let checked = match start(root) {
+        Ok(child) => watch(child, &root.join(LOG), tell),
+        Err(error) if error.kind() == ErrorKind::NotFound => return unchecked(program, tell),
+        Err(error) => Err(error),
+    };
+    match checked {
+        Ok(status) if status.success() && program.is_file() => Ok(program),
+        Ok(status) => Err(format!(
+            "`rt check verdict` did not build {PROGRAM} from these sources: {status}\nIts log is {}",
+            root.join(LOG).display()
+        )),
+        Err(error) => Err(format!("`rt check verdict` cannot be followed: {error}")),
+    }
+}
+
+/// The program as it is, where rt is not installed.
+fn unchecked(program: PathBuf, tell: &mut dyn FnMut(&str)) -> Result<PathBuf, String> {
+    if program.is_file() {
+        tell("rt is not installed: nothing shows that the program is that of these sources");
+        return Ok(program);
+    }
+    Err(format!(
+        "there is no {PROGRAM}, and rt, which builds it, is not installed"
+    ))
+}
+
+fn start(root: &Path) -> io::Result<Child> {
+    let mut rt = Command::new("rt");
+    rt.args(["check", "verdict"]).current_dir(root);
+    rt.stdin(Stdio::null()).stdout(Stdio::piped());
+    rt.stderr(Stdio::piped()).spawn()
+}
+
+/// Waits for rt: all that it prints goes to the log, its progress to `tell`.
+fn watch(mut rt: Child, log: &Path, tell: &mut dyn FnMut(&str)) -> io::Result<ExitStatus> {
+    let lines = lines(&mut rt);
+    let mut progress = Progress {
+        log: log.to_path_buf(),
+        is_told: false,
+    };
+    fs::create_dir_all(log.parent().unwrap_or(log))?;
+    let mut log = File::create(log)?;
+    loop {
+        match lines.recv_timeout(SOON) {
+            Ok(line) => {
+                writeln!(log, "{line}")?;
+                progress.line(&line, tell);
+            }
+            Err(RecvTimeoutError::Timeout) => progress.start(tell),
+            Err(RecvTimeoutError::Disconnected) => return rt.wait(),
+        }
+    }
+}
+
+/// The lines that a process prints, on either stream.
+fn lines(child: &mut Child) -> Receiver<String> {
+    let (sender, receiver) = mpsc::channel();
+    let streams: [Option<Box<dyn io::Read + Send>>; 2] = [
+        child.stdout.take().map(|stream| Box::new(stream) as _),
+        child.stderr.take().map(|stream| Box::new(stream) as _),
+    ];
+    for stream in streams.into_iter().flatten() {
+        let sender = sender.clone();
+        thread::spawn(move || {
+            for line in BufReader::new(stream).split(b'\n').map_while(Result::ok) {
+                // The receiver is gone only where the log could not be written.
+                let _ = sender.send(String::from_utf8_lossy(&line).into_owned());
+            }
+        });
+    }
+    receiver
+}
+
+/// What of rt's log the user is told.
+struct Progress {
+    log: PathBuf,
+    is_told: bool,
+}
+
+impl Progress {
+    fn start(&mut self, tell: &mut dyn FnMut(&str)) {
+        if !self.is_told {
+            self.is_told = true;
+            let log = self.log.display();
+            tell(&format!(
+                "proving and building the program first, which can take minutes (log: {log})"
+            ));
+        }
+    }
+
+    fn line(&mut self, line: &str, tell: &mut dyn FnMut(&str)) {
+        let Some(said) = line.strip_prefix("rt: ") else {
+            return;
+        };
+        let is_new = said.contains(" proved (") && !said.contains("(unchanged");
+        if is_new || said.contains("NOT PROVED") {
+            self.start(tell);
+            tell(said);
+        }
+    }
+}
