@@ -3,14 +3,15 @@ use Prim.Native.Nat.{ℕ, _-_, _≤_, _<_}
 use mathlib.Core.Path.{_≡_, refl, sym, _∙_, ap}
 use mathlib.Core.List.{List, _++_}
 use native.Mathlib.Omega.{arith}
-use lib.ListN.{length, take, drop, replicate, set, length-append, length-drop}
-use lib.Seq.{take-at, length-take-le}
+use lib.ListN.{length, take, drop, replicate, set, length-append, length-drop, length-replicate}
+use lib.Seq.{sets, take-at, length-take-le}
 use Rattle.rounds.specs.declared.Pressed.{Pressed}
 use Rattle.rounds.specs.Press.{press}
 use Rattle.rounds.specs.Types.{memoryOf, callOf, pressedOf}
 use Rattle.tables.specs.declared.Answer.{Answer}
 use Rattle.tables.specs.Types.{writtenOf, answerOf as tableAnswerOf}
 use Rattle.tables.specs.Write.{write}
+use Rattle.words.proofs.PlacedLaws.{sets-whole}
 use Rattle.text.specs.Decode.{wordsFrom}
 use Rattle.replay.specs.declared.script.Call.{Call}
 use Rattle.replay.specs.declared.calls.Kept.{Kept}
@@ -74,6 +75,12 @@ module _ (kept : Kept) (l r s : List ℕ) (side : Side) where
         state = ap (λ ws. record { memory = replaced (memoryOf l r (kept .session)) ws; scratch = take (kept .scratch) s }) stores;
         told = refl;
       }
+
+-- A slice that is filled whole.
+pub filled-all : (l : List ℕ) → sets l 0 (replicate (length l - 0) filler) ≡ replicate (length l) filler
+filled-all l =
+    let e : length l - 0 ≡ length l = omega arith in
+    rw e (sets-whole (replicate (length l) filler) l (length-replicate (length l) filler))
 
 -- A call on the first words of an array keeps the array's length.
 pub part-kept : {n limit : ℕ} (xs new : List ℕ) → n ≤ limit → length xs ≡ limit → length new ≡ length (take n xs) → length (new ++ drop n xs) ≡ limit

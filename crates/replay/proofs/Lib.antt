@@ -2,3 +2,4 @@ pub mod ScriptLaws
 pub mod ShowLaws
 pub mod CallLaws
 pub mod WholeLaws
+pub mod Examples

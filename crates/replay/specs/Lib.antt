@@ -1,3 +1,4 @@
 -- What a script asks, and what its operations do and tell.
 pub mod Script
 pub mod Replay
+pub mod Examples

@@ -7,6 +7,7 @@ use rounds::Pressed;
 use rounds::Session;
 use session::press_owned;
 use text::bytes::words_from;
+use words::slices::fill;
 ghost use mathlib.Core.Path.{_≡_};
 ghost use Prim.Native.Nat.{_≤_, _+_, _*_};
 ghost use lib.ListN.{length, replicate, set};
@@ -58,14 +59,11 @@ pub struct Done {
     pub report: Report,
 }
 
-fn fill(words: &mut [u32])
-    ensures { λ r. ⌜ now (words .exit) ≡ replicate (length (now (words .entry))) filler ⌝ }
+fn fill_all(slice: &mut [u32])
+    ensures { λ r. ⌜ now (slice .exit) ≡ replicate (length (now (slice .entry))) filler ⌝ }
 {
-    let mut i = 0;
-    while i < words.len() {
-        words[i] = FILLER;
-        i += 1;
-    }
+    let end = slice.len();
+    fill(slice, 0, end, FILLER);
 }
 
 // A press with a scratch that is first filled.
@@ -78,7 +76,7 @@ fn press_filled(
 ) -> Pressed
     ensures { λ p. ⌜ pressedOf p (now (left .exit)) (now (right .exit)) (now (scratch .exit)) ≡ press (memoryOf (now (left .entry)) (now (right .entry)) session) (callOf (replicate (length (now (scratch .entry))) filler) (call .left) (call .right) (call .budget)) ⌝ }
 {
-    fill(scratch);
+    fill_all(scratch);
     press_owned(
         left,
         right,
@@ -177,7 +175,7 @@ fn write<'a>(
 ) -> tables::Answer
     ensures { λ r. ⌜ writtenOf r (now (table .exit)) ≡ write (chosen side (now (left .entry)) (now (right .entry))) length (replicate (List·length (now (table .entry))) filler) ⌝ }
 {
-    fill(table);
+    fill_all(table);
     tables::write(chosen(side, left, right), length, table)
 }
 

@@ -3,8 +3,9 @@ use mathlib.Core.Path.{refl}
 use mathlib.Core.Logic.{Dec·and}
 use mathlib.Core.Option.{bind, orElse}
 use native.Mathlib.Decide.{ℕ-discrete, decLe, decLt}
-use Rattle.calculus.specs.Decide.{both₃, both₄, isTag?, startsAbove?, rising?, accepted?}
+use Rattle.calculus.specs.Decide.{both₃, isTag?, startsAbove?, rising?, everywhere?, tagged?, accepted?}
 use Rattle.calculus.specs.Read.{takeTerm, takeTerms, takeBranches, readLam, readApp, readCon, readCase, readBranch, item, items, oneTerm, read}
+use Rattle.calculus.specs.Step.{firstStep}
 use Rattle.calculus.specs.Leftmost.{leftmost}
 use Rattle.calculus.specs.Equality.{tree, from-trees, equal?}
 use Rattle.calculus.specs.Workspace.{termAt}
@@ -17,11 +18,11 @@ use Rattle.text.specs.Bytes.{wordsOf}
 use Rattle.text.specs.Decimal.{digits, decimal}
 use Rattle.verdict_line.specs.Request.{request}
 use Rattle.verdict_line.specs.Line.{printed}
-use Rattle.verdict_line.specs.Examples.{bytesOf, Examples}
+use Rattle.verdict_line.specs.Examples.{bytesOf, Printed-examples}
 
-pub examples : Examples
-unfolding printed request wordsOf bytesOf digits decimal load wrongLength wrongHeader valueFits wrongValue namings wrongLink childrenFit wrongChildren termOf meantTerm meantTerms meantBranch meantBranches meant meaning press termAt read items item takeTerm takeTerms takeBranches readLam readApp readCon readCase readBranch oneTerm accepted? both₃ both₄ isTag? startsAbove? rising? Dec·and decLe decLt bind orElse leftmost tree from-trees equal? ℕ-discrete round rounds
-examples =
+pub printed-examples : Printed-examples
+unfolding printed request wordsOf bytesOf digits decimal load wrongLength wrongHeader valueFits wrongValue namings wrongLink childrenFit wrongChildren termOf meantTerm meantTerms meantBranch meantBranches meant meaning press termAt read items item takeTerm takeTerms takeBranches readLam readApp readCon readCase readBranch oneTerm accepted? everywhere? tagged? both₃ isTag? startsAbove? rising? Dec·and decLe decLt bind orElse firstStep leftmost tree from-trees equal? ℕ-discrete round rounds
+printed-examples =
     record {
       same = refl;
       different = refl;

@@ -5,8 +5,8 @@ use borrow.Author.Needs.{needs}
 use Rattle.replay.proofs.calls.write.Statement.{statement}
 use Rattle.replay.proofs.calls.write.Tie as tie
 
-fill-requires : tie.Need-fill-requires
-fill-requires c κs = search needs
+fill-all-requires : tie.Need-fill-all-requires
+fill-all-requires c κs = search needs
 
 chosen-requires : tie.Need-chosen-requires
 chosen-requires c κs = search needs
@@ -18,7 +18,7 @@ same-length : tie.Need-same-length
 same-length c = search needs
 
 returns : tie.Need-returns
-returns c = c .before .before .write .ensures ∙ ap₂ (λ w t. write w (c .before .before .before .before .before .before .before .before .before .before .before .before .args .length) t) (c .before .before .before .before .chosen .ensures) (c .before .before .before .before .before .before .before .fill .ensures)
+returns c = c .before .before .write .ensures ∙ ap₂ (λ w t. write w (c .before .before .before .before .before .before .before .before .before .before .before .before .args .length) t) (c .before .before .before .before .chosen .ensures) (c .before .before .before .before .before .before .before .fill-all .ensures)
 
 pub write-spec : {M : Type 1} → statement M
-write-spec = tie.close (tie.spec fill-requires chosen-requires write-requires same-length returns)
+write-spec = tie.close (tie.spec fill-all-requires chosen-requires write-requires same-length returns)
