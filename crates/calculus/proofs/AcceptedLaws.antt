@@ -5,10 +5,10 @@
 use Prim.Native.Nat.{ℕ, suc, _+_, _-_, _≤_}
 use mathlib.Core.Path.{_≡_, refl}
 use mathlib.Core.Bool.{Bool, true, false, cond}
-use mathlib.Core.Option.{Option, some, none}
-use lib.Dec.{ltb, eqb}
+use mathlib.Core.Option.{Option, some}
+use lib.Dec.{ltb}
 use lib.IntN.{pos}
-use borrow.Author.Tests.{ltb-true, eqb-true}
+use borrow.Author.Tests.{ltb-true}
 use native.Mathlib.Omega.{arith}
 use Rattle.calculus.specs.Term.{Sort, Exp, nil, cons, end, branch, Term, Terms, Branches, count}
 use Rattle.calculus.specs.Accepted.{freeLimit, InScope, acceptance, Accepted}
@@ -18,6 +18,7 @@ use Rattle.calculus.specs.Contraction.{Rule, select, Contracts, at-beta,
 use Rattle.calculus.specs.Contraction.{in-arguments, in-subject, in-branches, in-first, in-later, in-branch, in-later-branch}
 use Rattle.calculus.specs.Leftmost.{leftmost}
 use Rattle.calculus.specs.Theorems.{Contraction-keeps-accepted}
+use Rattle.calculus.proofs.All.{All, nothing, holds, all-eqb, all-some}
 use Rattle.calculus.proofs.Move.{move-down}
 use Rattle.calculus.proofs.Spine.{spine-contraction, count-kept, rising-kept}
 use Rattle.calculus.proofs.EverywhereLaws.{Implies, everywhere-traverse}
@@ -45,22 +46,16 @@ accepted-shift k cutoff d d′ le e h =
     (λ d d′ c i r g. chosen (λ j. InScope d′ j) (ltb i c) (λ q. omega arith) (omega arith))
     d d′ cutoff le e h
 
--- The value, if there is one, has the property.
-abbrev pub Every : {A : Type 0} → (A → Type 0) → Option A → Type 0
-Every P none = Unit {0}
-Every P (some a) = P a
-
-accepted-argument : (d : ℕ) (xs : Terms) (k : ℕ) → Accepted d xs → Every (Accepted d) (argument xs k)
-accepted-argument d nil k h = tt
-accepted-argument d (cons a xs) k h =
-    chosen (Every (Accepted d)) (eqb k (count xs)) (λ q. h .0) (accepted-argument d xs k (h .1))
+accepted-argument : (d : ℕ) (xs : Terms) (k : ℕ) → Accepted d xs → All (Accepted d) (argument xs k)
+accepted-argument d nil k h = nothing
+accepted-argument d (cons a xs) k h = all-eqb k (count xs) (λ q. holds (h .0)) (accepted-argument d xs k (h .1))
 
 -- With arguments that are accepted under d₀ binders put for its indices, an expression is accepted under as many binders fewer.
 module _ (xs : Terms) (d₀ : ℕ) (h₀ : Accepted d₀ xs) where
-  accepted-replaced : (depth i d′ : ℕ) → depth + d₀ ≤ d′ → i ≤ d′ + count xs + freeLimit → (o : Option Term) → Every (Accepted d₀) o
+  accepted-replaced : (depth i d′ : ℕ) → depth + d₀ ≤ d′ → i ≤ d′ + count xs + freeLimit → {o : Option Term} → All (Accepted d₀) o
       → Accepted d′ (replaced xs depth i o)
-  accepted-replaced depth i d′ le h none k = omega (arith, move-down (count xs) i)
-  accepted-replaced depth i d′ le h (some a) k = accepted-shift depth 0 d₀ d′ (omega arith) a k
+  accepted-replaced depth i d′ le h nothing = omega (arith, move-down (count xs) i)
+  accepted-replaced depth i d′ le h (holds {a = a} k) = accepted-shift depth 0 d₀ d′ (omega arith) a k
 
   pub accepted-subst : {s : Sort} (depth d d′ : ℕ) → depth + d₀ ≤ d′ → d ≤ d′ + count xs → (e : Exp s) → Accepted d e
       → Accepted d′ (subst xs depth e)
@@ -69,25 +64,21 @@ module _ (xs : Terms) (d₀ : ℕ) (h₀ : Accepted d₀ xs) where
       (record { abstractions = λ d d′ c r. (omega arith, omega arith); bodies = λ d d′ c n r. (omega arith, omega arith) })
       (λ d d′ depth i r g.
       chosen (Accepted d′) (ltb i depth) (λ q. omega (arith, ltb-true i depth q))
-      (accepted-replaced depth i d′ (r .0) (omega arith) (argument xs (i - depth)) (accepted-argument d₀ xs (i - depth) h₀)))
+      (accepted-replaced depth i d′ (r .0) (omega arith) (accepted-argument d₀ xs (i - depth) h₀)))
       d d′ depth (le, fits) e h
 
-pub accepted-select : (d t : ℕ) (xs : Terms) → Accepted d xs → (bs : Branches) → Accepted d bs → Every (Accepted d) (select t xs bs)
-accepted-select d t xs k end h = tt
+pub accepted-select : (d t : ℕ) (xs : Terms) → Accepted d xs → (bs : Branches) → Accepted d bs → All (Accepted d) (select t xs bs)
+accepted-select d t xs k end h = nothing
 accepted-select d t xs k (branch u n b bs) h =
-    chosen (Every (Accepted d)) (eqb t u) (λ q. body) (accepted-select d t xs k bs (h .2))
-  where
-    body : Every (Accepted d) (cond (eqb (count xs) n) (some (subst xs 0 b)) none)
-    body =
-        chosen (Every (Accepted d)) (eqb (count xs) n)
-        (λ q. accepted-subst xs d k 0 (d + n) d (omega arith) (omega (arith, eqb-true (count xs) n q)) b (h .1))
-        tt
+    all-eqb t u
+    (λ q. all-eqb (count xs) n (λ q. holds (accepted-subst xs d k 0 (d + n) d (omega arith) (omega arith) b (h .1))) nothing)
+    (accepted-select d t xs k bs (h .2))
 
 -- Contraction at every sort.
 pub contraction-accepted : {s : Sort} {p : ℕ} {r : Rule} {e g : Exp s} (d : ℕ) → Contracts s p r e g → Accepted d e → Accepted d g
 contraction-accepted d (at-beta {b = b} {a = a}) h =
     accepted-subst (cons a nil) d (h .1, tt) 0 (suc d) d (omega arith) (omega arith) b (h .0)
-contraction-accepted d (at-case {t = t} {xs = xs} {bs = bs} c) h = rw c at (accepted-select d t xs (h .1 .1) bs (h .2))
+contraction-accepted d (at-case {t = t} {xs = xs} {bs = bs} c) h = all-some (rw c at (accepted-select d t xs (h .1 .1) bs (h .2)))
 contraction-accepted d (in-body c) h = contraction-accepted (suc d) c h
 contraction-accepted d (in-function c) h = (contraction-accepted d c (h .0), h .1)
 contraction-accepted d (in-argument c) h = (h .0, contraction-accepted d c (h .1))

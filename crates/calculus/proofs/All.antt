@@ -4,7 +4,7 @@ use Prim.Native.Nat.{ℕ, _≤_, _<_}
 use mathlib.Core.Path.{_≡_, refl}
 use mathlib.Core.Bool.{Bool, true, false, cond}
 use mathlib.Core.Logic.{ite}
-use mathlib.Core.Option.{Option, some, none, Option·map, bind}
+use mathlib.Core.Option.{Option, some, none, Option·map, Option·getD, bind, Option·some-ne-none}
 use lib.Dec.{T, ltb, eqb, eqb→eq}
 use borrow.Author.Tests.{ltb-true, ltb-false}
 
@@ -49,3 +49,36 @@ all-itself (some a) = holds refl
 
 pub all-some : {A : Type 0} {P : A → Type 0} {a : A} → All P (some a) → P a
 all-some (holds p) = p
+
+-- A relation of what two options hold: both hold something and it is related, or neither does.
+pub data Both {A B : Type 0} (R : A → B → Type 0) : Option A → Option B → Type 0 where
+  neither : Both R none none
+  each : {a : A} {b : B} → R a b → Both R (some a) (some b)
+
+pub both-map : {A B C D : Type 0} {R : A → B → Type 0} {S : C → D → Type 0} (f : A → C) (g : B → D) {o : Option A} {o′ : Option B}
+    → Both R o o′ → ((a : A) (b : B) → R a b → S (f a) (g b)) → Both S (Option·map f o) (Option·map g o′)
+both-map f g neither h = neither
+both-map f g (each {a} {b} r) h = each (h a b r)
+
+pub both-cond : {A B : Type 0} {R : A → B → Type 0} (t : Bool) {x y : Option A} {x′ y′ : Option B} → Both R x x′ → Both R y y′
+    → Both R (cond t x y) (cond t x′ y′)
+both-cond true p q = p
+both-cond false p q = q
+
+pub both-getD : {A B : Type 0} {R : A → B → Type 0} {o : Option A} {o′ : Option B} {a : A} {b : B} → Both R o o′ → R a b
+    → R (Option·getD o a) (Option·getD o′ b)
+both-getD neither r = r
+both-getD (each r) s = r
+
+pub both-sym : {A B : Type 0} {R : A → B → Type 0} {S : B → A → Type 0} {o : Option A} {o′ : Option B} → Both R o o′
+    → ((a : A) (b : B) → R a b → S b a) → Both S o′ o
+both-sym neither h = neither
+both-sym (each {a} {b} r) h = each (h a b r)
+
+-- What the one holds, the other does too; where the one holds nothing, neither does the other.
+pub both-some : {A B : Type 0} {R : A → B → Type 0} {o : Option A} {b : B} → Both R o (some b) → (a : A) × (o ≡ some a) × R a b
+both-some (each {a} r) = (a, refl, r)
+
+pub both-none : {A B : Type 0} {R : A → B → Type 0} {o : Option A} {o′ : Option B} → Both R o o′ → o ≡ none → o′ ≡ none
+both-none neither q = refl
+both-none (each {a} r) q = absurd (Option·some-ne-none a q)

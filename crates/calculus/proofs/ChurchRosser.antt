@@ -5,13 +5,13 @@ use Rattle.calculus.specs.Term.{Sort, term, branches, Exp, lam, app, con
 use Rattle.calculus.specs.Words.{size}
 use Rattle.calculus.specs.Contraction.{Rule, by-beta, by-case, Contracts, at-beta, at-case, in-body, in-function, in-argument, in-arguments, in-subject, in-branches, in-first, in-later, in-branch, in-later-branch}
 use Rattle.calculus.specs.Relation.{Star, stop, step}
-use Rattle.calculus.specs.Conversion.{Contracts₁}
+use Rattle.calculus.specs.Conversion.{Contraction, Contracts₁}
 use Rattle.calculus.specs.Theorems.{Church-Rosser, Joined-normal-equal, Reaches-exact, Joined-exact, Contraction-reaches, Reaching-joins, Normal-reaches-itself}
 use Rattle.calculus.proofs.Rewriting.{star-append, star-map, chain-of-star, star-along, along-star, chain-along, along-chain, normal-stays, meet-joined, meeting-normal-equal, joined-meet}
 use Rattle.calculus.proofs.Parallel.{Par, par-var, par-lam, par-app, par-beta, par-con, par-case, par-inspect, par-nil, par-cons, par-end, par-branch, par-refl, develop, triangle}
 
 -- A contraction is a parallel reduction.
-parallel : {s : Sort} {p : ℕ} {r : Rule} {e g : Exp s} → Contracts s p r e g → Par s e g
+pub parallel : {s : Sort} {p : ℕ} {r : Rule} {e g : Exp s} → Contracts s p r e g → Par s e g
 parallel (at-beta {b = b} {a = a}) = par-beta (par-refl (lam b)) (par-refl a)
 parallel (at-case {t = t} {xs = xs} {bs = bs} h) = par-inspect (par-refl (con t xs)) (par-refl bs) h
 parallel (in-body c) = par-lam (parallel c)
@@ -25,11 +25,8 @@ parallel (in-later {a = a} c) = par-cons (par-refl a) (parallel c)
 parallel (in-branch {bs = bs} c) = par-branch (parallel c) (par-refl bs)
 parallel (in-later-branch {b = b} c) = par-branch (par-refl b) (parallel c)
 
--- One contraction of an expression of any sort, and any number of them.
-abbrev Contraction : (s : Sort) → Exp s → Exp s → Type 0
-Contraction s e g = (p : ℕ) × (r : Rule) × Contracts s p r e g
-
-abbrev Contractions : (s : Sort) → Exp s → Exp s → Type 0
+-- Any number of contractions, at every sort.
+abbrev pub Contractions : (s : Sort) → Exp s → Exp s → Type 0
 Contractions s = Star (Contraction s)
 
 app-contractions : {f f′ a a′ : Term} → Contractions term f f′ → Contractions term a a′ → Contractions term (app f a) (app f′ a′)
@@ -46,7 +43,7 @@ case-contractions {e′ = e} {bs = bs} p q =
     (star-map (case e) (λ _ _ (p, r, c). (suc (size e + p), r, in-branches c)) q)
 
 -- Contractions one after the other do what a parallel reduction does.
-sequential : {s : Sort} {e g : Exp s} → Par s e g → Contractions s e g
+pub sequential : {s : Sort} {e g : Exp s} → Par s e g → Contractions s e g
 sequential par-var = stop
 sequential (par-lam p) = star-map lam (λ _ _ (p, r, c). (suc p, r, in-body c)) (sequential p)
 sequential (par-app p q) = app-contractions (sequential p) (sequential q)

@@ -14,11 +14,13 @@ pub mod Indices
 pub mod Earliest
 pub mod PositionLaws
 pub mod LeftmostLaws
+pub mod Inversion
 pub mod RedexWord
 pub mod Decidable
 pub mod AcceptedLaws
 pub mod Rewriting
 pub mod Substitution
+pub mod Members
 pub mod Parallel
 pub mod ChurchRosser
 pub mod Instances

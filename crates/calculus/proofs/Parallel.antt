@@ -1,7 +1,7 @@
 -- Parallel reduction: any of the redexes of an expression contracted at once. Its rules contract an application whose function reduces to an
 -- abstraction, and a case whose subject reduces to a constructor, so some redexes that arise on the way may be contracted too. It is closed under
 -- substitution (`par-subst`), and every reduct of an expression reduces on to the complete development of that expression (`triangle`).
-use Prim.Native.Nat.{ℕ, suc, _+_, _-_}
+use Prim.Native.Nat.{ℕ, suc, _+_}
 use mathlib.Core.Path.{_≡_, refl, sym, _∙_, ap}
 use mathlib.Core.Bool.{Bool, true, false, cond}
 use mathlib.Core.Option.{Option, some, none, Option·map, Option·getD}
@@ -11,12 +11,14 @@ use lib.IntN.{pos}
 use borrow.Author.Tests.{eqb-true}
 use Rattle.calculus.specs.Term.{Sort, term, terms, branches, Exp, var, lam, app, con, case, nil, cons, end, branch, Term, Terms, Branches, count}
 use Rattle.calculus.specs.Shift.{shift}
-use Rattle.calculus.specs.Substitution.{argument, subst}
-use Rattle.calculus.specs.Contraction.{Rule, by-case, select}
+use Rattle.calculus.specs.Substitution.{subst}
+use Rattle.calculus.specs.Contraction.{by-case, select}
 use Rattle.calculus.specs.Step.{contractum}
+use Rattle.calculus.proofs.All.{Both, neither, each}
+use Rattle.calculus.proofs.Inversion.{result}
 use Rattle.calculus.proofs.Spine.{count-traverse}
-use Rattle.calculus.proofs.Traversal.{below-or-above}
-use Rattle.calculus.proofs.Substitution.{lift, sub, lift-below, lift-above, shift-is-sub, put, subst-is-sub, sub-subst}
+use Rattle.calculus.proofs.Substitution.{lift, sub, shift-is-sub, put, subst-is-sub, sub-subst}
+use Rattle.calculus.proofs.Members.{Members, no-terms, a-term, no-branches, a-branch, members-put, members-select, lift-related}
 
 pub data Par : (s : Sort) → Exp s → Exp s → Type 0 where
   par-var : {i : ℕ} → Par term (var i) (var i)
@@ -44,7 +46,7 @@ par-refl end = par-end
 par-refl (branch t n b bs) = par-branch (par-refl b) (par-refl bs)
 
 -- The case rule commutes with substitution.
-select-sub : (σ : ℕ → Term) (d t : ℕ) (xs : Terms) (bs : Branches) → select t (sub σ d xs) (sub σ d bs) ≡ Option·map (sub σ d) (select t xs bs)
+pub select-sub : (σ : ℕ → Term) (d t : ℕ) (xs : Terms) (bs : Branches) → select t (sub σ d xs) (sub σ d bs) ≡ Option·map (sub σ d) (select t xs bs)
 select-sub σ d t xs end = refl
 select-sub σ d t xs (branch u n b bs) = rw (count-traverse (lift σ) d xs, select-sub σ d t xs bs) (by (eqb t u) (eqb (count xs) n) refl)
   where
@@ -71,80 +73,47 @@ module _ (σ τ : ℕ → Term) (variable : (d i : ℕ) → Par term (lift σ d 
   par-traverse d par-end = par-end
   par-traverse d (par-branch {n = n} p q) = par-branch (par-traverse (d + n) p) (par-traverse d q)
 
-par-shift : {s : Sort} {e e′ : Exp s} (n d : ℕ) → Par s e e′ → Par s (shift (pos n) d e) (shift (pos n) d e′)
+pub par-shift : {s : Sort} {e e′ : Exp s} (n d : ℕ) → Par s e e′ → Par s (shift (pos n) d e) (shift (pos n) d e′)
 par-shift {e = e} {e′ = e′} n d p =
     rw (shift-is-sub n d e, shift-is-sub n d e′) (par-traverse up up (λ d i. par-refl (lift up d i)) d p)
   where
     up : ℕ → Term
     up i = var (i + n)
 
-par-sub : (σ τ : ℕ → Term) → ((i : ℕ) → Par term (σ i) (τ i)) → {s : Sort} {e e′ : Exp s} (d : ℕ) → Par s e e′ → Par s (sub σ d e) (sub τ d e′)
-par-sub σ τ h d p = par-traverse σ τ variable d p
-  where
-    variable : (d i : ℕ) → Par term (lift σ d i) (lift τ d i)
-    variable d i =
-        below-or-above i d
-        (λ l. rw (lift-below σ d i l, lift-below τ d i l) par-var)
-        (λ l. rw (lift-above σ d i l, lift-above τ d i l) (par-shift d 0 (h (i - d))))
+pub par-sub : (σ τ : ℕ → Term) → ((i : ℕ) → Par term (σ i) (τ i)) → {s : Sort} {e e′ : Exp s} (d : ℕ) → Par s e e′ → Par s (sub σ d e) (sub τ d e′)
+par-sub σ τ h d p = par-traverse σ τ (lift-related {R = Par term} (λ i. par-var) (λ n t u. par-shift n 0) σ τ h) d p
 
--- Both are none, or the one term reduces to the other.
-abbrev ParOption : Option Term → Option Term → Type 0
-ParOption none none = Unit {0}
-ParOption none (some v) = ⊥
-ParOption (some u) none = ⊥
-ParOption (some u) (some v) = Par term u v
+pub par-arguments : {xs xs′ : Terms} → Par terms xs xs′ → Members (Par term) terms xs xs′
+par-arguments par-nil = no-terms
+par-arguments (par-cons p q) = a-term p (par-arguments q)
 
-par-getD : (o o′ : Option Term) {u u′ : Term} → ParOption o o′ → Par term u u′ → Par term (Option·getD o u) (Option·getD o′ u′)
-par-getD none none h p = p
-par-getD none (some v) h p = absurd h
-par-getD (some u) none h p = absurd h
-par-getD (some u) (some v) h p = h
-
-par-count : {xs xs′ : Terms} → Par terms xs xs′ → count xs ≡ count xs′
-par-count par-nil = refl
-par-count (par-cons p q) = ap suc (par-count q)
-
-par-argument : {xs xs′ : Terms} (i : ℕ) → Par terms xs xs′ → ParOption (argument xs i) (argument xs′ i)
-par-argument i par-nil = tt
-par-argument i (par-cons {a = a} {a′ = a′} {xs = xs} {xs′ = xs′} p q) = rw (par-count q) (by (eqb i (count xs′)) (par-argument i q))
-  where
-    by : (here : Bool) → ParOption (argument xs i) (argument xs′ i)
-        → ParOption (cond here (some a) (argument xs i)) (cond here (some a′) (argument xs′ i))
-    by true h = p
-    by false h = h
-
-par-put : {xs xs′ : Terms} (i : ℕ) → Par terms xs xs′ → Par term (put xs i) (put xs′ i)
-unfolding put
-par-put {xs} {xs′} i p = rw (par-count p) (par-getD (argument xs i) (argument xs′ i) (par-argument i p) par-var)
+pub par-branches : {bs bs′ : Branches} → Par branches bs bs′ → Members (Par term) branches bs bs′
+par-branches par-end = no-branches
+par-branches (par-branch p q) = a-branch p (par-branches q)
 
 -- Parallel reduction is closed under substitution.
 pub par-subst : {xs xs′ : Terms} {s : Sort} {e e′ : Exp s} (d : ℕ) → Par terms xs xs′ → Par s e e′ → Par s (subst xs d e) (subst xs′ d e′)
 par-subst {xs} {xs′} {e = e} {e′ = e′} d p q =
-    rw (subst-is-sub xs d e, subst-is-sub xs′ d e′) (par-sub (put xs) (put xs′) (λ i. par-put i p) d q)
+    rw (subst-is-sub xs d e, subst-is-sub xs′ d e′)
+    (par-sub (put xs) (put xs′) (λ i. members-put {R = Par term} (λ i. par-var) i (par-arguments p)) d q)
 
-par-select : {xs xs′ : Terms} {bs bs′ : Branches} (t : ℕ) → Par terms xs xs′ → Par branches bs bs′ → ParOption (select t xs bs) (select t xs′ bs′)
-par-select t p par-end = tt
-par-select {xs} {xs′} t p (par-branch {t = u} {n = n} {b = b} {b′ = b′} {bs = bs} {bs′ = bs′} q r) =
-    rw (par-count p) (by (eqb t u) (eqb (count xs′) n) (par-select t p r))
-  where
-    by : (tag arity : Bool) → ParOption (select t xs bs) (select t xs′ bs′)
-        → ParOption
-        (cond tag (cond arity (some (subst xs 0 b)) none) (select t xs bs))
-        (cond tag (cond arity (some (subst xs′ 0 b′)) none) (select t xs′ bs′))
-    by true true h = par-subst 0 p q
-    by true false h = tt
-    by false arity h = h
+-- What the case rule selects reduces to what it selects from the reducts.
+pub par-select : {xs xs′ : Terms} {bs bs′ : Branches} (t : ℕ) → Par terms xs xs′ → Par branches bs bs′
+    → Both (Par term) (select t xs bs) (select t xs′ bs′)
+par-select t p q = members-select {R = Par term} (λ b b′. par-subst 0 p) t (par-arguments p) (par-branches q)
 
--- A term contracted if it is itself a redex, by what the rule function gives.
-abbrev result : Option (Rule × Term) → Option Term
-result o = Option·map (λ c. c .1) o
-
+-- A term contracted if it is itself a redex.
 abbrev fired : Term → Term
 fired t = Option·getD (result (contractum t)) t
 
 -- What the case rule gives.
 abbrev selected : Option Term → Option Term
 selected o = result (Option·map (λ u. (by-case, u)) o)
+
+par-selected : {o o′ : Option Term} {u u′ : Term} → Both (Par term) o o′ → Par term u u′
+    → Par term (Option·getD (selected o) u) (Option·getD (selected o′) u′)
+par-selected neither p = p
+par-selected (each h) p = h
 
 -- The complete development: the parts developed, then the whole contracted if it is a redex.
 unfoldable pub develop : {s : Sort} → Exp s → Exp s
@@ -191,13 +160,7 @@ par-fired-case (par-lam p) r = case-to-fired (par-lam p) r
 par-fired-case (par-app p q) r = case-to-fired (par-app p q) r
 par-fired-case (par-beta p q) r = case-to-fired (par-beta p q) r
 par-fired-case {bs = bs} {bs′ = bs′} (par-con {t = t} {xs = xs} {xs′ = xs′} p) r =
-    by (select t xs bs) (select t xs′ bs′) (par-select t p r)
-  where
-    by : (o o′ : Option Term) → ParOption o o′ → Par term (Option·getD (selected o) (case (con t xs) bs)) (Option·getD (selected o′) (case (con t xs′) bs′))
-    by none none h = par-case (par-con p) r
-    by none (some v) h = absurd h
-    by (some u) none h = absurd h
-    by (some u) (some v) h = h
+    par-selected (par-select t p r) (par-case (par-con p) r)
 par-fired-case (par-case p q) r = case-to-fired (par-case p q) r
 par-fired-case (par-inspect p q h) r = case-to-fired (par-inspect p q h) r
 

@@ -17,34 +17,24 @@ use Rattle.calculus.specs.Contraction.{in-arguments, in-subject, in-bran
 use Rattle.calculus.specs.Step.{contractum}
 use Rattle.calculus.specs.Position.{through, stepAt, contractAt, redexAt}
 use Rattle.calculus.specs.Theorems.{Redexes-before-kept}
+use Rattle.calculus.proofs.All.{Both, neither, each, both-map, both-cond, both-sym, both-none}
 use Rattle.calculus.proofs.WordLaws.{size-positive}
 use Rattle.calculus.proofs.Spine.{count-contraction}
 use Rattle.calculus.proofs.PositionLaws.{contraction-within, contract-at-position, contractAt-none, redex-none}
 
 -- Both hold something, or neither does.
-data Alike {A B : Type 0} : Option A → Option B → Type 0 where
-  neither : Alike none none
-  both : {a : A} {b : B} → Alike (some a) (some b)
+abbrev pub Alike : {A B : Type 0} → Option A → Option B → Type 0
+Alike o o′ = Both (λ a b. Unit {0}) o o′
 
 alike-itself : {A : Type 0} (o : Option A) → Alike o o
 alike-itself none = neither
-alike-itself (some a) = both
-
-alike-none : {A B : Type 0} {o : Option A} {o′ : Option B} → Alike o o′ → o ≡ none → o′ ≡ none
-alike-none neither e = refl
-alike-none both e = absurd (let z : _≡_ {A = ℕ} 0 1 = cc in omega arith)
+alike-itself (some a) = each tt
 
 alike-sym : {A B : Type 0} {o : Option A} {o′ : Option B} → Alike o o′ → Alike o′ o
-alike-sym neither = neither
-alike-sym both = both
+alike-sym h = both-sym {S = λ b a. Unit {0}} h (λ a b r. r)
 
 alike-map : {A B C D : Type 0} (f : A → C) (g : B → D) {o : Option A} {o′ : Option B} → Alike o o′ → Alike (Option·map f o) (Option·map g o′)
-alike-map f g neither = neither
-alike-map f g both = both
-
-alike-cond : {A B : Type 0} (t : Bool) (x y : Option A) (x′ y′ : Option B) → Alike x x′ → Alike y y′ → Alike (cond t x y) (cond t x′ y′)
-alike-cond true x y x′ y′ a b = a
-alike-cond false x y x′ y′ a b = b
+alike-map f g h = both-map f g h (λ a b r. tt)
 
 -- Of two parts, the position lies in the first, which may change; or the first stays.
 alike-part : {A B : Type 0} (q m n : ℕ) (x y : Option A) (x′ y′ : Option B) → q < m → q < n → Alike x x′ → Alike (cond (ltb q m) x y) (cond (ltb q n) x′ y′)
@@ -58,7 +48,7 @@ alike-behind q m x y x′ y′ a b = go (ltb q m) refl
     go false e = b (ltb-false q m e)
 
 -- A contraction leaves a word at its position, and as many arguments as there were.
-contraction-leaves : {s : Sort} {p : ℕ} {r : Rule} {e g : Exp s} → Contracts s p r e g → p < size g
+pub contraction-leaves : {s : Sort} {p : ℕ} {r : Rule} {e g : Exp s} → Contracts s p r e g → p < size g
 contraction-leaves (at-beta {b = b} {a = a}) = size-positive (subst (cons a nil) 0 b)
 contraction-leaves (at-case {u = u} h) = size-positive u
 contraction-leaves (in-body c) = omega (arith, contraction-leaves c)
@@ -73,37 +63,37 @@ contraction-leaves (in-branch {b′ = b} {bs = bs} c) = omega (arith, contractio
 contraction-leaves (in-later-branch {b = b} {bs′ = bs} c) = omega (arith, contraction-leaves c, length-append (words b) (words bs))
 
 -- At the word before a contraction's redex and further in front: the application's function and the case's subject keep what tells a redex.
-function-kept : {p : ℕ} {r : Rule} {f f′ : Term} (a : Term) → Contracts term p r f f′ → 1 ≤ p → Alike (contractum (app f a)) (contractum (app f′ a))
+pub function-kept : {p : ℕ} {r : Rule} {f f′ : Term} (a : Term) → Contracts term p r f f′ → 1 ≤ p → Alike (contractum (app f a)) (contractum (app f′ a))
 function-kept a at-beta h = absurd (omega arith)
 function-kept a (at-case k) h = absurd (omega arith)
-function-kept a (in-body c) h = both
+function-kept a (in-body c) h = each tt
 function-kept a (in-function c) h = neither
 function-kept a (in-argument c) h = neither
 function-kept a (in-arguments c) h = neither
 function-kept a (in-subject c) h = neither
 function-kept a (in-branches c) h = neither
 
-argument-kept : (f a a′ : Term) → Alike (contractum (app f a)) (contractum (app f a′))
+pub argument-kept : (f a a′ : Term) → Alike (contractum (app f a)) (contractum (app f a′))
 argument-kept (var i) a a′ = neither
-argument-kept (lam b) a a′ = both
+argument-kept (lam b) a a′ = each tt
 argument-kept (app f g) a a′ = neither
 argument-kept (con t xs) a a′ = neither
 argument-kept (case e bs) a a′ = neither
 
 alike-found : {A : Type 0} (t : Bool) (x y : A) → Alike (cond t (some x) none) (cond t (some y) none)
-alike-found true x y = both
+alike-found true x y = each tt
 alike-found false x y = neither
 
 select-arguments : (t : ℕ) (xs ys : Terms) → count xs ≡ count ys → (bs : Branches) → Alike (select t xs bs) (select t ys bs)
 select-arguments t xs ys e end = neither
 select-arguments t xs ys e (branch u n b bs) =
-    alike-cond (eqb t u) _ _ _ _ (rw e (alike-found (eqb (count ys) n) _ _)) (select-arguments t xs ys e bs)
+    both-cond (eqb t u) (rw e (alike-found (eqb (count ys) n) _ _)) (select-arguments t xs ys e bs)
 
 select-branches : {p : ℕ} {r : Rule} (t : ℕ) (xs : Terms) {bs bs′ : Branches} → Contracts branches p r bs bs′ → Alike (select t xs bs) (select t xs bs′)
-select-branches t xs (in-branch {t = u} {n = n} {bs = bs} c) = alike-cond (eqb t u) _ _ _ _ (alike-found (eqb (count xs) n) _ _) (alike-itself (select t xs bs))
-select-branches t xs (in-later-branch {t = u} {n = n} c) = alike-cond (eqb t u) _ _ _ _ (alike-found (eqb (count xs) n) _ _) (select-branches t xs c)
+select-branches t xs (in-branch {t = u} {n = n} {bs = bs} c) = both-cond (eqb t u) (alike-found (eqb (count xs) n) _ _) (alike-itself (select t xs bs))
+select-branches t xs (in-later-branch {t = u} {n = n} c) = both-cond (eqb t u) (alike-found (eqb (count xs) n) _ _) (select-branches t xs c)
 
-subject-kept : {p : ℕ} {r : Rule} {e e′ : Term} (bs : Branches) → Contracts term p r e e′ → 1 ≤ p → Alike (contractum (case e bs)) (contractum (case e′ bs))
+pub subject-kept : {p : ℕ} {r : Rule} {e e′ : Term} (bs : Branches) → Contracts term p r e e′ → 1 ≤ p → Alike (contractum (case e bs)) (contractum (case e′ bs))
 subject-kept bs at-beta h = absurd (omega arith)
 subject-kept bs (at-case k) h = absurd (omega arith)
 subject-kept bs (in-body c) h = neither
@@ -113,7 +103,7 @@ subject-kept bs (in-arguments {t = t} {xs = xs} {xs′ = ys} c) h = alike-map _ 
 subject-kept bs (in-subject c) h = neither
 subject-kept bs (in-branches c) h = neither
 
-branches-kept : {p : ℕ} {r : Rule} (e : Term) {bs bs′ : Branches} → Contracts branches p r bs bs′ → Alike (contractum (case e bs)) (contractum (case e bs′))
+pub branches-kept : {p : ℕ} {r : Rule} (e : Term) {bs bs′ : Branches} → Contracts branches p r bs bs′ → Alike (contractum (case e bs)) (contractum (case e bs′))
 branches-kept (var i) c = neither
 branches-kept (lam b) c = neither
 branches-kept (app f a) c = neither
@@ -160,8 +150,8 @@ starts-alike (in-later-branch {t = t} {n = n} {b = b} {bs = bs} {bs′ = bs′} 
 
 alike-starts : {s : Sort} {p : ℕ} {r : Rule} {e g : Exp s} → Contracts s p r e g → (q : ℕ) → q + 1 < p → (contractAt q e ≡ none) ↔ (contractAt q g ≡ none)
 alike-starts {e = e} {g} c q h = (
-  λ n. contractAt-none q g .1 (alike-none (starts-alike c q h) (contractAt-none q e .0 n)),
-  λ n. contractAt-none q e .1 (alike-none (alike-sym (starts-alike c q h)) (contractAt-none q g .0 n)),
+  λ n. contractAt-none q g .1 (both-none (starts-alike c q h) (contractAt-none q e .0 n)),
+  λ n. contractAt-none q e .1 (both-none (alike-sym (starts-alike c q h)) (contractAt-none q g .0 n)),
 )
 
 pub redexes-before-kept : Redexes-before-kept

@@ -5,70 +5,39 @@ use mathlib.Core.Path.{_≡_, refl, sym, _∙_, ap, transport}
 use mathlib.Core.List.{List, [], _∷_}
 use lib.ListN.{length}
 use native.Mathlib.Omega.{arith}
-use Rattle.calculus.specs.Term.{Sort, Exp, var, lam, app, con, case, nil, cons, end, branch, Term, Branches, count}
+use Rattle.calculus.specs.Term.{Sort, term, terms, branches, Exp, nil, cons, end, branch, Term, Branches, count}
 use Rattle.calculus.specs.Accepted.{StartsAbove, Rising}
 use Rattle.calculus.specs.Traverse.{traverse}
-use Rattle.calculus.specs.Substitution.{subst}
-use Rattle.calculus.specs.Contraction.{Rule, Contracts, at-beta, at-case, in-body, in-function, in-argument}
-use Rattle.calculus.specs.Contraction.{in-arguments, in-subject, in-branches, in-first, in-later, in-branch, in-later-branch}
+use Rattle.calculus.specs.Contraction.{Rule, Contracts, in-first, in-later, in-branch, in-later-branch}
 
 -- An entry for each member: the tag of a branch, 0 for an argument. A term has none.
 abbrev pub spine : {s : Sort} → Exp s → List ℕ
-spine (var i) = []
-spine (lam b) = []
-spine (app f a) = []
-spine (con t xs) = []
-spine (case e bs) = []
-spine nil = []
-spine (cons a xs) = 0 ∷ spine xs
-spine end = []
-spine (branch t n b bs) = t ∷ spine bs
-
-pub spine-term : (t u : Term) → spine t ≡ spine u
-spine-term t u = empty t ∙ sym (empty u)
-  where
-    empty : (t : Term) → spine t ≡ []
-    empty (var i) = refl
-    empty (lam b) = refl
-    empty (app f a) = refl
-    empty (con t xs) = refl
-    empty (case e bs) = refl
+spine {s = term} e = []
+spine {s = terms} nil = []
+spine {s = terms} (cons a xs) = 0 ∷ spine xs
+spine {s = branches} end = []
+spine {s = branches} (branch t n b bs) = t ∷ spine bs
 
 pub spine-traverse : {s : Sort} (f : ℕ → ℕ → Term) (d : ℕ) (e : Exp s) → spine e ≡ spine (traverse f d e)
-spine-traverse f d (var i) = spine-term (var i) (f d i)
-spine-traverse f d (lam b) = refl
-spine-traverse f d (app g a) = refl
-spine-traverse f d (con t xs) = refl
-spine-traverse f d (case e bs) = refl
-spine-traverse f d nil = refl
-spine-traverse f d (cons a xs) = ap (_∷_ 0) (spine-traverse f d xs)
-spine-traverse f d end = refl
-spine-traverse f d (branch t n b bs) = ap (_∷_ t) (spine-traverse f d bs)
+spine-traverse {s = term} f d e = refl
+spine-traverse {s = terms} f d nil = refl
+spine-traverse {s = terms} f d (cons a xs) = ap (_∷_ 0) (spine-traverse f d xs)
+spine-traverse {s = branches} f d end = refl
+spine-traverse {s = branches} f d (branch t n b bs) = ap (_∷_ t) (spine-traverse f d bs)
 
 pub spine-contraction : {s : Sort} {p : ℕ} {r : Rule} {e g : Exp s} → Contracts s p r e g → spine e ≡ spine g
-spine-contraction (at-beta {b = b} {a = a}) = spine-term (app (lam b) a) (subst (cons a nil) 0 b)
-spine-contraction (at-case {t = t} {xs = xs} {bs = bs} {u = u} h) = spine-term (case (con t xs) bs) u
-spine-contraction (in-body c) = refl
-spine-contraction (in-function c) = refl
-spine-contraction (in-argument c) = refl
-spine-contraction (in-arguments c) = refl
-spine-contraction (in-subject c) = refl
-spine-contraction (in-branches c) = refl
-spine-contraction (in-first c) = refl
-spine-contraction (in-later c) = ap (_∷_ 0) (spine-contraction c)
-spine-contraction (in-branch c) = refl
-spine-contraction (in-later-branch {t = t} c) = ap (_∷_ t) (spine-contraction c)
+spine-contraction {s = term} c = refl
+spine-contraction {s = terms} (in-first c) = refl
+spine-contraction {s = terms} (in-later c) = ap (_∷_ 0) (spine-contraction c)
+spine-contraction {s = branches} (in-branch c) = refl
+spine-contraction {s = branches} (in-later-branch {t = t} c) = ap (_∷_ t) (spine-contraction c)
 
 count-spine : {s : Sort} (e : Exp s) → count e ≡ length (spine e)
-count-spine (var i) = refl
-count-spine (lam b) = refl
-count-spine (app f a) = refl
-count-spine (con t xs) = refl
-count-spine (case e bs) = refl
-count-spine nil = refl
-count-spine (cons a xs) = ap suc (count-spine xs)
-count-spine end = refl
-count-spine (branch t n b bs) = ap suc (count-spine bs)
+count-spine {s = term} e = refl
+count-spine {s = terms} nil = refl
+count-spine {s = terms} (cons a xs) = ap suc (count-spine xs)
+count-spine {s = branches} end = refl
+count-spine {s = branches} (branch t n b bs) = ap suc (count-spine bs)
 
 pub count-kept : {s : Sort} {n : ℕ} (e g : Exp s) → spine e ≡ spine g → count e ≤ n → count g ≤ n
 count-kept e g h le = omega (arith, count-spine e, count-spine g, ap length h)

@@ -3,21 +3,14 @@ use Prim.Native.Nat.{ℕ}
 use mathlib.Core.Path.{_≡_}
 use mathlib.Core.List.{List, [], _∷_, _++_}
 use mathlib.Core.Option.{Option, some, none, Option·map, bind}
-use Rattle.calculus.specs.Words.{words, size}
+use Rattle.calculus.specs.Words.{words}
 use Rattle.calculus.specs.Read.{read}
 use Rattle.calculus.specs.Leftmost.{leftmost}
-use Rattle.calculus.specs.Rounds.{Verdict, Same, Different, Budget, rounds}
+use Rattle.calculus.specs.Rounds.{Verdict, Same, Different, Budget, Shown, shows, rounds}
 
 -- The words after one leftmost contraction of the term that these words are: none where they are no term, and none inside where it is normal.
 unfoldable pub contracted : List ℕ → Option (Option (List ℕ))
 contracted ws = Option·map (λ t. Option·map words (leftmost t)) (read ws)
-
--- What a press shows: verdict, spent and both lengths.
-pub record Shown : Type 0 where
-  pub verdict : Verdict
-  pub spent : ℕ
-  pub left : ℕ
-  pub right : ℕ
 
 abbrev pub shown : Verdict → ℕ → ℕ → ℕ → Shown
 shown v s l r = record { verdict = v; spent = s; left = l; right = r }
@@ -25,7 +18,7 @@ shown v s l r = record { verdict = v; spent = s; left = l; right = r }
 -- What the rounds show for two lists of words, none where one of them is no term.
 unfoldable pub judged : (left right : List ℕ) (C budget : ℕ) → Option Shown
 judged left right C budget =
-    bind (read left) (λ t. Option·map (λ u. let o = rounds C budget t u in shown (o .verdict) (o .spent) (size (o .left)) (size (o .right))) (read right))
+    bind (read left) (λ t. Option·map (λ u. shows (rounds C budget t u)) (read right))
 
 -- The document's Loop, and the variables of free number 0 and 1.
 abbrev pub loop : List ℕ

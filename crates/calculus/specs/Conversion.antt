@@ -1,12 +1,15 @@
 -- Reducts, chains and normal forms of terms ("Contraction").
 use Prim.Native.Nat.{ℕ}
-use Rattle.calculus.specs.Term.{term, Term}
+use Rattle.calculus.specs.Term.{Sort, term, Exp, Term}
 use Rattle.calculus.specs.Contraction.{Rule, Contracts}
 use Rattle.calculus.specs.Relation.{Star, Chain, NormalForm}
 
--- One contraction, at some redex.
+-- One contraction, at some redex: of an expression of any sort, and of a term.
+abbrev pub Contraction : (s : Sort) → Exp s → Exp s → Type 0
+Contraction s e g = (p : ℕ) × (r : Rule) × Contracts s p r e g
+
 abbrev pub Contracts₁ : Term → Term → Type 0
-Contracts₁ t u = (p : ℕ) × (r : Rule) × Contracts term p r t u
+Contracts₁ = Contraction term
 
 -- Contractions reach u from t (u is a reduct of t).
 abbrev pub Reaches : Term → Term → Type 0

@@ -20,6 +20,20 @@ pub record Outcome : Type 0 where
   pub left : Term
   pub right : Term
 
+-- What is shown of it: verdict, spent and both lengths.
+pub record Shown : Type 0 where
+  pub verdict : Verdict
+  pub spent : ℕ
+  pub left : ℕ
+  pub right : ℕ
+
+abbrev pub shows : Outcome → Shown
+shows o = record { verdict = o .verdict; spent = o .spent; left = size (o .left); right = size (o .right) }
+
+-- The same with another spent.
+abbrev pub withSpent : ℕ → Shown → Shown
+withSpent n a = record { verdict = a .verdict; spent = n; left = a .left; right = a .right }
+
 -- A round ends in a verdict, or one or two contractions give the next two terms.
 pub data Round : Type 0 where
   ends : Verdict → Round

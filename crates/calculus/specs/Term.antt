@@ -33,12 +33,8 @@ Branches = Exp branches
 
 -- How many terms a list of arguments has, and how many branches a list of branches has; 0 of a term.
 abbrev pub count : {s : Sort} → Exp s → ℕ
-count (var i) = 0
-count (lam b) = 0
-count (app f a) = 0
-count (con t xs) = 0
-count (case e bs) = 0
-count nil = 0
-count (cons a xs) = suc (count xs)
-count end = 0
-count (branch t n b bs) = suc (count bs)
+count {s = term} e = 0
+count {s = terms} nil = 0
+count {s = terms} (cons a xs) = suc (count xs)
+count {s = branches} end = 0
+count {s = branches} (branch t n b bs) = suc (count bs)

@@ -2,7 +2,7 @@
 use Prim.Native.Nat.{ℕ, zero, suc}
 use mathlib.Core.Path.{_≡_, refl, _∙_, ap, ap₂}
 use mathlib.Core.Bool.{Bool, true, false, cond}
-use mathlib.Core.List.{List}
+use mathlib.Core.List.{List, [], _∷_}
 use mathlib.Core.Option.{Option, some, none, Option·none-ne-some, bind}
 use native.Mathlib.Omega.{arith}
 use lib.Dec.{leb, eqb}
@@ -11,8 +11,7 @@ use lib.Seq.{length-take-le}
 use borrow.Author.Tests.{leb-true, leb-false, le-leb, lt-ltb, le-ltb, ne-eqb}
 use Rattle.calculus.specs.Term.{Term}
 use Rattle.calculus.specs.Read.{read, items, oneTerm}
-use Rattle.calculus.specs.Workspace.{termAt}
-use Rattle.rounds.specs.Press.{sized}
+use Rattle.calculus.specs.Workspace.{sized, termAt}
 use Rattle.rounds.specs.Show.{Part, show, showTerms, nothing, partBy}
 use Rattle.rounds.specs.Show as shown
 use Rattle.rounds.proofs.PressCode.{term-within}
@@ -62,7 +61,7 @@ module _ (ws vs : List ℕ) (l r : ℕ) where
 
   show-told : Told (show ws vs l r)
   unfolding show
-  show-told = sized-told (sized (length ws) (length vs) (length ws))
+  show-told = sized-told (sized (length ws ∷ length vs ∷ []))
 
   -- Words that are the shown part tell it.
   pub part-told : (words : List ℕ) → words ≡ part (show ws vs l r) → {s : Side} → s ≡ sideShown (length words) l r

@@ -10,7 +10,7 @@ use Rattle.rounds.specs.declared.Verdict.{Verdict}
 use Rattle.rounds.specs.declared.Verdict.the-variants as verdict
 use Rattle.text.specs.Bytes.{wordBytes}
 use Rattle.text.specs.Decode.{wordAt}
-use Rattle.tables.specs.Records.{recordWords}
+use Rattle.tables.specs.Records.{form1}
 use Rattle.replay.specs.declared.script.Side.{Side}
 use Rattle.replay.specs.declared.script.Side.the-variants as side
 use Rattle.replay.specs.declared.script.Operands.{Operands}
@@ -47,7 +47,7 @@ verdictNumbered n =
 
 -- The most words of a table and of a scratch: those of a header and of as many records as a workspace has words.
 abbrev pub tableLimit : ℕ
-tableLimit = recordWords * (workspaceMost + 1)
+tableLimit = form1 .recordWords * (workspaceMost + 1)
 
 -- A workspace is lent by at most one word more than it may have.
 abbrev pub lentMost : ℕ

@@ -48,7 +48,7 @@ fn print_table(name: &[u8], answer: tables::Answer, words: &[u32], count: usize)
     match answer {
         tables::Answer::Refused(number) => {
             print(b"refused");
-            print_number(number as usize);
+            print_word(number);
         }
         tables::Answer::Returned(number) => {
             print(name);
@@ -61,20 +61,16 @@ fn print_table(name: &[u8], answer: tables::Answer, words: &[u32], count: usize)
 // Verdict, spent and lengths, or the refusal's number.
 fn print_answer(answer: Answer) {
     match answer {
-        Answer::Refused(number) => {
+        Answer::Refused(refusal) => {
             print(b"refused");
-            print_number(number as usize);
+            print_word(refusal.number());
         }
-        Answer::Shown {
-            verdict,
-            spent,
-            left,
-            right,
-        } => {
+        Answer::Shown(shown) => {
+            let verdict = shown.verdict;
             print_verdict(verdict);
-            print_number(spent as usize);
-            print_number(left);
-            print_number(right);
+            print_word(shown.spent);
+            print_number(shown.left);
+            print_number(shown.right);
         }
     }
     print(b"\n");
@@ -98,7 +94,7 @@ fn print_state(left: &[u32], right: &[u32], scratch: &[u32], kept: Kept) {
     let session = kept.session;
     let verdict = session.verdict;
     print(b"session");
-    print_number(session.total as usize);
+    print_word(session.total);
     print_number(session.left);
     print_number(session.right);
     print(b" ");

@@ -1,5 +1,4 @@
 -- Demand 3: the claim about every list of presses.
-use mathlib.Core.Path.{refl}
 use Rattle.rounds.specs.Runs.{history}
 use Rattle.rounds.specs.Claim.{Every-list-of-presses}
 use Rattle.rounds.proofs.PressLaws.{stands-first}
@@ -15,10 +14,10 @@ every-list-of-presses C t u start lh rh calls =
       leaves = each-leaves stands calls;
       all-refused = all-refused reached;
       in-one-go = λ B. in-one-go (history start calls) B reached;
-      stays = λ v l r e. settled-stays lh rh (stopped-by lh rh calls e);
-      on-first-terms = λ v l r e. settled-on-first-terms (stopped-by lh rh calls e);
-      agree = λ v l r e d C′ start′ calls′ lh′ rh′ v′ l′ r′ e′ d′.
+      stays = λ a e. settled-stays lh rh (stopped-by lh rh calls e);
+      on-first-terms = λ a e. settled-on-first-terms (stopped-by lh rh calls e);
+      agree = λ a e d C′ start′ calls′ lh′ rh′ a′ e′ d′.
           settled-agree (stopped-by lh rh calls e) (stopped-by lh′ rh′ calls′ e′) d d′;
-      same = λ l r e. settled-same (stopped-by lh rh calls e) refl;
-      different = λ l r e. settled-different (stopped-by lh rh calls e) refl;
+      same = λ a e. settled-same (stopped-by lh rh calls e);
+      different = λ a e. settled-different (stopped-by lh rh calls e);
     }

@@ -16,6 +16,8 @@ use Rattle.calculus.specs.Leftmost.{leftmost}
 use Rattle.calculus.specs.Equality.{tree, from-trees, equal?}
 use Rattle.calculus.specs.Workspace.{termAt}
 use Rattle.calculus.specs.Rounds.{Same, Budget, Full, round, rounds}
+use Rattle.calculus.specs.Refusal.{WrongWorkspace, OverBudget, NoTerm}
+use Rattle.calculus.specs.Bench.{shown as showing}
 use Rattle.rounds.specs.Press.{refused, shown, Memory, Call, press}
 use Rattle.rounds.specs.Runs.{final, history, spentIn, budgetInOneGo}
 use Rattle.rounds.specs.Claim.{Holds, Ended, Claim}
@@ -48,7 +50,7 @@ abbrev calls : List Call
 calls = call 15 7 1 1 ∷ call 16 7 1 1 ∷ call 16 7 1 1 ∷ call 16 4 1 1000001 ∷ call 16 4 1 1 ∷ []
 
 pub record Computed : Type 0 where
-  pub answers : map (λ e. e .1) (history start calls) ≡ refused 7 ∷ shown Budget 1 4 1 ∷ refused 10 ∷ refused 9 ∷ shown Same 1 1 1 ∷ []
+  pub answers : map (λ e. e .1) (history start calls) ≡ refused WrongWorkspace ∷ shown (showing Budget 1 4 1) ∷ refused NoTerm ∷ refused OverBudget ∷ shown (showing Same 1 1 1) ∷ []
   pub after-two-calls :
       final start (take 2 calls)
       ≡ record {
@@ -65,11 +67,11 @@ pub record Computed : Type 0 where
       }
   pub budget-in-one-go : budgetInOneGo (history start calls) ≡ some 2
   pub spent : spentIn (history start calls) ≡ 2
-  pub ended : Ended start calls Same 1 1
+  pub ended : Ended start calls (showing Same 1 1 1)
 
 pub computed : Computed
 unfolding press termAt read items item takeTerm takeTerms takeBranches readLam readApp readCon readCase readBranch oneTerm accepted? everywhere? tagged? both₃ isTag? startsAbove? rising? Dec·and decLe decLt bind orElse firstStep leftmost tree from-trees equal? ℕ-discrete round rounds
-computed = record { answers = refl; after-two-calls = refl; after-all = refl; budget-in-one-go = refl; spent = refl; ended = (1, refl) }
+computed = record { answers = refl; after-two-calls = refl; after-all = refl; budget-in-one-go = refl; spent = refl; ended = refl }
 
 pub left-holds : Holds 16 leftTerm (start .left)
 left-holds = record { accepted = omega arith; others = replicate 9 7; contents = refl; length-is = refl }

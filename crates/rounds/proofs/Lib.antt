@@ -4,6 +4,7 @@ pub mod Verdicts
 pub mod Workspaces
 pub mod PressLaws
 pub mod TurnLaws
+pub mod AgreeLaws
 pub mod RunCode
 pub mod RunLoop
 pub mod PressCode

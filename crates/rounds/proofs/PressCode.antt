@@ -1,8 +1,8 @@
 -- A press as the code makes it: the refusals by their tests, and what is concluded from the words that the rounds leave.
 use Prim.Native.Nat.{ℕ, _+_, _-_, _≤_}
 use mathlib.Core.Path.{_≡_, refl, sym, _∙_, ap, ap₂}
-use mathlib.Core.Bool.{Bool, true, false, cond, _&&_, true≢false, false≢true}
-use mathlib.Core.List.{List, _++_}
+use mathlib.Core.Bool.{Bool, true, false, cond, _&&_, and-eq-true-iff, true≢false, false≢true}
+use mathlib.Core.List.{List, [], _∷_, _++_}
 use mathlib.Core.Option.{Option, some, none, Option·getD, Option·elim, Option·none-ne-some}
 use native.Mathlib.Nat.{le-trans}
 use native.Mathlib.Omega.{arith}
@@ -11,16 +11,17 @@ use lib.ListN.{length, take, replicate, length-append}
 use lib.Seq.{take-append-seam}
 use borrow.Author.Tests.{le-leb, leb-true, eqb-true}
 use Rattle.calculus.specs.Term.{Term, var}
-use Rattle.calculus.specs.Words.{words, size, workspaceLeast, workspaceMost}
+use Rattle.calculus.specs.Words.{words, size, workspaceMost}
 use Rattle.calculus.specs.Read.{read}
-use Rattle.calculus.specs.Workspace.{termAt, padded}
-use Rattle.calculus.specs.Refusal.{wrongWorkspaceNumber, overBudgetNumber, noTermNumber}
-use Rattle.calculus.specs.Rounds.{Verdict, Outcome, rounds}
+use Rattle.calculus.specs.Workspace.{sized, termAt, padded}
+use Rattle.calculus.specs.Refusal.{WrongWorkspace, OverBudget, NoTerm}
+use Rattle.calculus.specs.Rounds.{Outcome, Shown, rounds}
+use Rattle.calculus.proofs.WorkspaceLaws.{sized-most, sized-equal, first-equal, others-equal}
 use Rattle.step.specs.Held.{held, Holds}
 use Rattle.rounds.specs.Run.{Runs, Ran}
 use Rattle.words.specs.IsTerm.{isTerm}
 use Rattle.rounds.specs.Session.{Session}
-use Rattle.rounds.specs.Press.{shown, Memory, Call, Pressed, budgetLimit, totalLimit, sized, affordable, refuse, conclude, pressTerms, press}
+use Rattle.rounds.specs.Press.{shown, Memory, Call, Pressed, budgetLimit, totalLimit, affordable, refuse, conclude, pressTerms, press}
 
 take-zero-append : (xs ys : List ℕ) → take 0 xs ++ ys ≡ ys
 take-zero-append xs ys = refl
@@ -33,38 +34,42 @@ cleared-padded C ws others t m e s l =
     ap₂ (λ xs k. xs ++ replicate k 0) f (ap₂ _-_ l s)
 
 -- What the rounds leave: each term fits its workspace, and with the words after the terms cleared it is what `conclude` says.
-module _ {budget : ℕ} {o : Outcome} {v : Verdict} {spent m n : ℕ} {ws vs cs : List ℕ} (h : Ran budget o v spent m n ws vs cs) where
-  pub ran-left-fits : m ≤ length ws
-  ran-left-fits = omega (arith, h .left-length, ap length (h .left-words), length-append (words (o .left)) (h .left-others))
+module _ {budget : ℕ} {o : Outcome} {a : Shown} {ws vs cs : List ℕ} (h : Ran budget o a ws vs cs) where
+  left-length : a .left ≡ size (o .left)
+  left-length = ap (λ a. a .left) (h .shown-is)
 
-  pub ran-right-fits : n ≤ length vs
-  ran-right-fits = omega (arith, h .right-length, ap length (h .right-words), length-append (words (o .right)) (h .right-others))
+  right-length : a .right ≡ size (o .right)
+  right-length = ap (λ a. a .right) (h .shown-is)
+
+  pub ran-left-fits : a .left ≤ length ws
+  ran-left-fits = omega (arith, left-length, ap length (h .left-words), length-append (words (o .left)) (h .left-others))
+
+  pub ran-right-fits : a .right ≤ length vs
+  ran-right-fits = omega (arith, right-length, ap length (h .right-words), length-append (words (o .right)) (h .right-others))
 
   pub ran-concludes : (C : ℕ) (s : Session) {l r c : List ℕ} → length ws ≡ C → length vs ≡ C
-      → l ≡ take m ws ++ replicate (length ws - m) 0 → r ≡ take n vs ++ replicate (length vs - n) 0 → c ≡ take 0 cs ++ replicate (length cs - 0) 0
+      → l ≡ take (a .left) ws ++ replicate (length ws - a .left) 0 → r ≡ take (a .right) vs ++ replicate (length vs - a .right) 0 → c ≡ take 0 cs ++ replicate (length cs - 0) 0
       → _≡_ {A = Pressed}
       (record {
-        answer = shown v spent m n;
-        memory = record { left = l; right = r; session = record { total = s .total + spent; left = m; right = n; verdict = v } };
+        answer = shown a;
+        memory =
+            record { left = l; right = r; session = record { total = s .total + a .spent; left = a .left; right = a .right; verdict = a .verdict } };
         scratch = c;
       })
       (conclude C s o)
   ran-concludes C s {l} {r} {c} lw lv el er ec i =
-      let left : l ≡ padded C (words (o .left)) = el ∙ cleared-padded C ws (h .left-others) (o .left) m (h .left-words) (h .left-length) lw in
-      let right : r ≡ padded C (words (o .right)) = er ∙ cleared-padded C vs (h .right-others) (o .right) n (h .right-words) (h .right-length) lv in
+      let left : l ≡ padded C (words (o .left)) = el ∙ cleared-padded C ws (h .left-others) (o .left) (a .left) (h .left-words) left-length lw in
+      let right : r ≡ padded C (words (o .right)) = er ∙ cleared-padded C vs (h .right-others) (o .right) (a .right) (h .right-words) right-length lv in
       let zeros : length cs - 0 ≡ C = omega (arith, h .scratch-length) in
       let scratch : c ≡ replicate C 0 = ec ∙ take-zero-append cs (replicate (length cs - 0) 0) ∙ ap (λ k. replicate k 0) zeros in
-      let verdict = h .verdict-is in
-      let spent′ = h .spent-is in
-      let m′ = h .left-length in
-      let n′ = h .right-length in
+      let a′ = h .shown-is in
       record {
-        answer = shown (verdict i) (spent′ i) (m′ i) (n′ i);
+        answer = shown (a′ i);
         memory =
             record {
               left = left i;
               right = right i;
-              session = record { total = s .total + spent′ i; left = m′ i; right = n′ i; verdict = verdict i };
+              session = record { total = s .total + a′ i .spent; left = a′ i .left; right = a′ i .right; verdict = a′ i .verdict };
             };
         scratch = scratch i;
       }
@@ -103,35 +108,22 @@ module _ (ws : List ℕ) (n : ℕ) (limit : length ws ≤ workspaceMost) where
   is-held h = record { term = tells-some (leb n workspaceMost) (termAt ws n) h; limit = limit }
 
 -- What the tests behind refusals 7 and 9 say.
-both : (a b : Bool) → (a && b) ≡ true → (a ≡ true) × (b ≡ true)
-both true b e = (refl, e)
-both false b e = absurd (false≢true e)
-
-module _ (l r s : ℕ) (fits : sized l r s ≡ true) where
-  below : leb l workspaceMost && (eqb r l && eqb s l) ≡ true
-  below = both (leb workspaceLeast l) (leb l workspaceMost && (eqb r l && eqb s l)) fits .1
-
-  equal : eqb r l && eqb s l ≡ true
-  equal = both (leb l workspaceMost) (eqb r l && eqb s l) below .1
-
-  pub sized-limit : l ≤ workspaceMost
-  sized-limit = leb-true l workspaceMost (both (leb l workspaceMost) (eqb r l && eqb s l) below .0)
-
+module _ (l r s : ℕ) (fits : sized (l ∷ r ∷ s ∷ []) ≡ true) where
   pub sized-right : r ≡ l
-  sized-right = eqb-true r l (both (eqb r l) (eqb s l) equal .0)
+  sized-right = first-equal l r (s ∷ []) (sized-equal l (r ∷ s ∷ []) fits)
 
   pub sized-scratch : s ≡ l
-  sized-scratch = eqb-true s l (both (eqb r l) (eqb s l) equal .1)
+  sized-scratch = first-equal l s [] (others-equal l r (s ∷ []) (sized-equal l (r ∷ s ∷ []) fits))
 
 pub affords-total : (budget total : ℕ) → affordable budget total ≡ true → total + budget ≤ totalLimit
 affords-total budget total e =
-    leb-true (total + budget) totalLimit (both (leb budget budgetLimit) (leb (total + budget) totalLimit) e .1)
+    leb-true (total + budget) totalLimit (and-eq-true-iff (leb budget budgetLimit) (leb (total + budget) totalLimit) .0 e .1)
 
 -- What the press on two terms asks, from the four tests.
-pub runs : (left right scratch : List ℕ) (l r : ℕ) → sized (length left) (length right) (length scratch) ≡ true → isTerm left l ≡ true
+pub runs : (left right scratch : List ℕ) (l r : ℕ) → sized (length left ∷ length right ∷ length scratch ∷ []) ≡ true → isTerm left l ≡ true
     → isTerm right r ≡ true → Runs left right scratch l r
 runs left right scratch l r fits is-left is-right =
-    let limit = sized-limit (length left) (length right) (length scratch) fits in
+    let limit = sized-most (length left) (length right ∷ length scratch ∷ []) fits in
     let right-limit : length right ≤ workspaceMost = rw (sized-right (length left) (length right) (length scratch) fits) limit in
     record {
       left-holds = is-held left l limit is-left;
@@ -142,12 +134,12 @@ runs left right scratch l r fits is-left is-right =
 
 -- A press, by its tests in their order.
 module _ (m : Memory) (c : Call) where
-  pub refused-workspace : sized (length (m .left)) (length (m .right)) (length (c .scratch)) ≡ false → press m c ≡ refuse m c wrongWorkspaceNumber
+  pub refused-workspace : sized (length (m .left) ∷ length (m .right) ∷ length (c .scratch) ∷ []) ≡ false → press m c ≡ refuse m c WrongWorkspace
   unfolding press
   refused-workspace e = rw e
 
-  module _ (fits : sized (length (m .left)) (length (m .right)) (length (c .scratch)) ≡ true) where
-    pub refused-budget : affordable (c .budget) (m .session .total) ≡ false → press m c ≡ refuse m c overBudgetNumber
+  module _ (fits : sized (length (m .left) ∷ length (m .right) ∷ length (c .scratch) ∷ []) ≡ true) where
+    pub refused-budget : affordable (c .budget) (m .session .total) ≡ false → press m c ≡ refuse m c OverBudget
     unfolding press
     refused-budget e = rw (fits, e)
 
@@ -157,17 +149,17 @@ module _ (m : Memory) (c : Call) where
       by-terms = rw (fits, affords)
 
       limit : length (m .left) ≤ workspaceMost
-      limit = sized-limit (length (m .left)) (length (m .right)) (length (c .scratch)) fits
+      limit = sized-most (length (m .left)) (length (m .right) ∷ length (c .scratch) ∷ []) fits
 
       right-limit : length (m .right) ≤ workspaceMost
       right-limit = rw (sized-right (length (m .left)) (length (m .right)) (length (c .scratch)) fits) limit
 
-      pub refused-left : isTerm (m .left) (c .leftLength) ≡ false → press m c ≡ refuse m c noTermNumber
+      pub refused-left : isTerm (m .left) (c .leftLength) ≡ false → press m c ≡ refuse m c NoTerm
       refused-left e =
           by-terms ∙ ap (λ t. pressTerms m c t (termAt (m .right) (c .rightLength))) (not-term (m .left) (c .leftLength) limit e)
 
       module _ (is-left : isTerm (m .left) (c .leftLength) ≡ true) where
-        pub refused-right : isTerm (m .right) (c .rightLength) ≡ false → press m c ≡ refuse m c noTermNumber
+        pub refused-right : isTerm (m .right) (c .rightLength) ≡ false → press m c ≡ refuse m c NoTerm
         refused-right e =
             by-terms
             ∙ ap₂ (pressTerms m c) (is-held (m .left) (c .leftLength) limit is-left .term) (not-term (m .right) (c .rightLength) right-limit e)

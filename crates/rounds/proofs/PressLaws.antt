@@ -3,21 +3,22 @@
 use Prim.Native.Nat.{ℕ, _+_}
 use mathlib.Core.Path.{_≡_, refl, sym, _∙_, ap, subst}
 use mathlib.Core.Bool.{Bool, true, false, cond, not, _&&_, _||_}
-use mathlib.Core.List.{List}
+use mathlib.Core.List.{List, [], _∷_}
 use mathlib.Core.Option.{some, none}
-use mathlib.Mathlib.Data.Bool.Basic.{or-eq-false-eq-eq-false-and-eq-false as or-false-iff}
 use native.Mathlib.Omega.{arith}
 use lib.Dec.{leb, ltb, eqb}
 use lib.ListN.{length, replicate}
-use borrow.Author.Tests.{ltb-true, ltb-false, le-leb, lt-leb, eq-eqb, eqb-true, not-false}
+use borrow.Author.Tests.{ltb-true, ltb-false, le-leb, lt-leb}
 use Rattle.calculus.specs.Term.{Term}
-use Rattle.calculus.specs.Words.{words, size, workspaceLeast, workspaceMost}
-use Rattle.calculus.specs.Workspace.{padded}
-use Rattle.calculus.specs.Rounds.{Verdict, Outcome, rounds}
-use Rattle.rounds.specs.Press.{refused, shown, Memory, Call, Pressed, budgetLimit, totalLimit, sized, affordable, refuse, conclude, pressTerms, press}
+use Rattle.calculus.specs.Words.{words, size}
+use Rattle.calculus.specs.Workspace.{sized, padded}
+use Rattle.calculus.specs.Refusal.{Refusal, WrongWorkspace, OverBudget, NoTerm}
+use Rattle.calculus.specs.Rounds.{Outcome, Shown, rounds}
+use Rattle.rounds.specs.Press.{refused, shown, Memory, Call, Pressed, budgetLimit, totalLimit, affordable, refuse, conclude, pressTerms, press}
 use Rattle.rounds.specs.Claim.{Holds, Reply, refuses, spends, replyOf, Standing, replyTo, advance, LeavesBy}
 use Rattle.rounds.proofs.Walk.{Walk, walked, walk-fits}
 use Rattle.rounds.proofs.Verdicts.{walk-accepted}
+use Rattle.rounds.proofs.PressCode.{sized-scratch}
 use Rattle.rounds.proofs.Workspaces.{termAt-holds, holds-padded, holds-fits}
 
 -- The memory is where the list of calls stands.
@@ -26,9 +27,9 @@ pub record Stands (C : ℕ) (s : Standing) (m : Memory) : Type 0 where
   pub left-holds : Holds C (s .left) (m .left)
   pub right-holds : Holds C (s .right) (m .right)
 
--- A press refused with the number of the reply, or made with the rounds that spend what the reply says.
+-- A press refused as the reply says, or made with the rounds that spend what the reply says.
 pub data Answered (C : ℕ) (s : Standing) (m : Memory) (c : Call) : Reply → Pressed → Type 0 where
-  turned-down : (n : ℕ) → Answered C s m c (refuses n) (refuse m c n)
+  turned-down : (why : Refusal) → Answered C s m c (refuses why) (refuse m c why)
   made : length (c .scratch) ≡ C
       → Answered C s m c (spends (rounds C (c .budget) (s .left) (s .right) .spent)) (conclude C (m .session) (rounds C (c .budget) (s .left) (s .right)))
 
@@ -40,57 +41,37 @@ leb-not-ltb a b = by (ltb b a) refl
     by true e = lt-leb a b (ltb-true b a e)
     by false e = le-leb a b (ltb-false b a e)
 
-none-of-three : (a b c : Bool) → (not a && (not b && c)) ≡ not (a || (b || not c))
-none-of-three true b c = refl
-none-of-three false true c = refl
-none-of-three false false true = refl
-none-of-three false false false = refl
-
 none-of-two : (a b : Bool) → (not a && not b) ≡ not (a || b)
 none-of-two true b = refl
 none-of-two false b = refl
 
-abbrev wrongSize : (C scratch : ℕ) → Bool
-wrongSize C scratch = ltb C workspaceLeast || (ltb workspaceMost C || not (eqb scratch C))
-
 abbrev overspent : (budget total : ℕ) → Bool
 overspent budget total = ltb budgetLimit budget || ltb totalLimit (total + budget)
-
-sized-not : (C scratch : ℕ) → sized C C scratch ≡ not (wrongSize C scratch)
-sized-not C scratch =
-    rw (leb-not-ltb workspaceLeast C, leb-not-ltb C workspaceMost, eq-eqb C C refl)
-    (none-of-three (ltb C workspaceLeast) (ltb workspaceMost C) (eqb scratch C))
 
 affordable-not : (budget total : ℕ) → affordable budget total ≡ not (overspent budget total)
 affordable-not budget total =
     rw (leb-not-ltb budget budgetLimit, leb-not-ltb (total + budget) totalLimit) (none-of-two (ltb budgetLimit budget) (ltb totalLimit (total + budget)))
 
-right-size : (C scratch : ℕ) → wrongSize C scratch ≡ false → scratch ≡ C
-right-size C scratch e =
-    eqb-true scratch C (not-false (eqb scratch C) (or-false-iff (ltb workspaceMost C) _ .0 (or-false-iff (ltb C workspaceLeast) _ .0 e .1) .1))
-
-answered-tests : (s : Standing) (m : Memory) (c : Call) (wrong over l r : Bool) → (wrong ≡ false → length (c .scratch) ≡ length (m .left))
+answered-tests : (s : Standing) (m : Memory) (c : Call) (fits over l r : Bool) → (fits ≡ true → length (c .scratch) ≡ length (m .left))
     → Answered (length (m .left)) s m c
-    (cond wrong (refuses 7) (cond over (refuses 9) (cond (not l || not r) (refuses 10) (spends (rounds (length (m .left)) (c .budget) (s .left) (s .right) .spent)))))
-    (cond (not wrong) (cond (not over) (pressTerms m c (cond l (some (s .left)) none) (cond r (some (s .right)) none)) (refuse m c 9)) (refuse m c 7))
-answered-tests s m c true over l r h = turned-down 7
-answered-tests s m c false true l r h = turned-down 9
-answered-tests s m c false false false r h = turned-down 10
-answered-tests s m c false false true false h = turned-down 10
-answered-tests s m c false false true true h = made (h refl)
+    (cond (not fits) (refuses WrongWorkspace) (cond over (refuses OverBudget) (cond (not l || not r) (refuses NoTerm) (spends (rounds (length (m .left)) (c .budget) (s .left) (s .right) .spent)))))
+    (cond fits (cond (not over) (pressTerms m c (cond l (some (s .left)) none) (cond r (some (s .right)) none)) (refuse m c OverBudget)) (refuse m c WrongWorkspace))
+answered-tests s m c false over l r h = turned-down WrongWorkspace
+answered-tests s m c true true l r h = turned-down OverBudget
+answered-tests s m c true false false r h = turned-down NoTerm
+answered-tests s m c true false true false h = turned-down NoTerm
+answered-tests s m c true false true true h = made (h refl)
 
 answered-here : (s : Standing) (m : Memory) (c : Call) → Stands (length (m .left)) s m
     → Answered (length (m .left)) s m c (replyTo (length (m .left)) s c) (press m c)
 unfolding press
 answered-here s m c h =
     let C = length (m .left) in
-    let size-test : sized C (length (m .right)) (length (c .scratch)) ≡ not (wrongSize C (length (c .scratch)))
-    = ap (λ n. sized C n (length (c .scratch))) (h .right-holds .length-is) ∙ sized-not C (length (c .scratch)) in
     let total-test : affordable (c .budget) (m .session .total) ≡ not (overspent (c .budget) (s .total))
     = ap (affordable (c .budget)) (h .total-is) ∙ affordable-not (c .budget) (s .total) in
-    rw (size-test, total-test, termAt-holds (h .left-holds) (c .leftLength), termAt-holds (h .right-holds) (c .rightLength))
-    (answered-tests s m c (wrongSize C (length (c .scratch))) (overspent (c .budget) (s .total))
-    (eqb (c .leftLength) (size (s .left))) (eqb (c .rightLength) (size (s .right))) (right-size C (length (c .scratch))))
+    rw (h .right-holds .length-is, total-test, termAt-holds (h .left-holds) (c .leftLength), termAt-holds (h .right-holds) (c .rightLength))
+    (answered-tests s m c (sized (C ∷ C ∷ length (c .scratch) ∷ [])) (overspent (c .budget) (s .total))
+    (eqb (c .leftLength) (size (s .left))) (eqb (c .rightLength) (size (s .right))) (sized-scratch C C (length (c .scratch))))
 
 pub answered : {C : ℕ} {s : Standing} {m : Memory} → Stands C s m → (c : Call) → Answered C s m c (replyTo C s c) (press m c)
 answered {C} {s} {m} h c =
@@ -126,20 +107,23 @@ stands-concluded {C} {t} {u} h k B total =
 -- After the press the memory is where `advance` says.
 pub stands-next : {C : ℕ} {s : Standing} {m : Memory} {c : Call} {r : Reply} {p : Pressed} → Stands C s m → Answered C s m c r p
     → Stands C (advance C s c r) (p .memory)
-stands-next h (turned-down n) = h
+stands-next h (turned-down why) = h
 stands-next {C} {s} {c = c} h (made e) =
     let o = rounds C (c .budget) (s .left) (s .right) in
     let (l, r) = holds-walk (h .left-holds) (h .right-holds) (walked C (c .budget) (s .left) (s .right) .walk) in
     record { total-is = ap (λ n. n + o .spent) (h .total-is); left-holds = l; right-holds = r }
 
-pub refused≢shown : {n s l r : ℕ} {v : Verdict} → refused n ≡ shown v s l r → ⊥
+pub refused≢shown : {why : Refusal} {a : Shown} → refused why ≡ shown a → ⊥
 refused≢shown e = let z : _≡_ {A = ℕ} 0 1 = cc in omega arith
+
+pub shown-injective : {a b : Shown} → shown a ≡ shown b → a ≡ b
+shown-injective e = cc
 
 -- The answer is the reply.
 pub reply-answered : {C : ℕ} {s : Standing} {m : Memory} {c : Call} {r : Reply} {p : Pressed} → Answered C s m c r p → replyOf (p .answer) ≡ r
-reply-answered (turned-down n) = refl
+reply-answered (turned-down why) = refl
 reply-answered (made e) = refl
 
 pub leaves-answered : {C : ℕ} {s : Standing} {m : Memory} {c : Call} {r : Reply} {p : Pressed} → Answered C s m c r p → LeavesBy m c p (p .answer)
-leaves-answered (turned-down n) = (refl, refl, refl, refl)
+leaves-answered (turned-down why) = (refl, refl, refl, refl)
 leaves-answered (made e) = ap (λ n. replicate n 0) (sym e)

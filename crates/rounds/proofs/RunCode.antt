@@ -1,5 +1,5 @@
 -- The rounds as the code makes them: what a side's plan tells of the workspace that holds its term, and a turn of the loop.
-use Prim.Native.Nat.{ℕ}
+use Prim.Native.Nat.{ℕ, _-_}
 use mathlib.Core.Path.{_≡_, sym, _∙_, ap}
 use mathlib.Core.List.{List, _++_}
 use mathlib.Core.Option.{Option, some, none, Option·none-ne-some, Option·some-ne-none, Option·some-injective}
@@ -18,6 +18,7 @@ use Rattle.step.specs.Search.{found, Searched}
 use Rattle.step.specs.Next.{HoldsRedex, HasRoom, Contracted}
 use Rattle.step.specs.Next as stepNext
 use Rattle.rounds.specs.Turn.{next, Plan, normal, contract, planAt, planned}
+use Rattle.rounds.specs.Resume.{resumeAt}
 use Rattle.rounds.specs.Advance.{Advances, scratchAfter, Advanced}
 use Rattle.step.proofs.HeldLaws.{next-term, Start, termAt-start}
 use Rattle.rounds.proofs.TurnLaws.{Planned, is-normal, contracts, planned-tells, next-is, next-normal}
@@ -66,14 +67,15 @@ module _ {ws scratch : List ℕ} {n : ℕ} {plan : Plan} (h : Advances ws n plan
   start : Start ws n (held ws n)
   start = termAt-start ws n (held ws n) (h .holds .term)
 
-  pub advance-normal : plan ≡ normal → Advanced ws n scratch n ws scratch
+  pub advance-normal : plan ≡ normal → Advanced ws n scratch n n ws scratch
   advance-normal e = by (planned-tells (held ws n)) (sym (h .plan-is) ∙ e)
     where
-      by : {q : Plan} → Planned (held ws n) q → q ≡ normal → Advanced ws n scratch n ws scratch
+      by : {q : Plan} → Planned (held ws n) q → q ≡ normal → Advanced ws n scratch n n ws scratch
       by (is-normal r l) f =
           let same = next-normal (held ws n) l in
           record {
             returned = sym (start .long) ∙ ap size (sym same);
+            resumes = ap (resumeAt n) (sym e ∙ h .plan-is);
             workspace = rw same (rw (start .long) (sym (start .start)));
             written = sym (ap (λ q. scratchAfter q (words (next (held ws n))) scratch) (sym (h .plan-is) ∙ e));
           }
@@ -93,11 +95,11 @@ module _ {ws scratch : List ℕ} {n : ℕ} {plan : Plan} (h : Advances ws n plan
             scratch-fits = rw (next-at ws n (h .holds) p d l) (h .scratch-fits);
           }
 
-  pub advance-contracted : {p m r : ℕ} {ws′ scratch′ : List ℕ} → plan ≡ contract p m → Contracted ws n p scratch r ws′ scratch′
-      → Advanced ws n scratch r ws′ scratch′
-  advance-contracted {p} {m} {r} {ws′} {scratch′} e d = by (planned-tells (held ws n)) (sym (h .plan-is) ∙ e)
+  pub advance-contracted : {p m r from : ℕ} {ws′ scratch′ : List ℕ} → plan ≡ contract p m → Contracted ws n p scratch r ws′ scratch′ → from ≡ p - 1
+      → Advanced ws n scratch r from ws′ scratch′
+  advance-contracted {p} {m} {r} {from} {ws′} {scratch′} e d k = by (planned-tells (held ws n)) (sym (h .plan-is) ∙ e)
     where
-      by : {q : Plan} → Planned (held ws n) q → q ≡ contract p m → Advanced ws n scratch r ws′ scratch′
+      by : {q : Plan} → Planned (held ws n) q → q ≡ contract p m → Advanced ws n scratch r from ws′ scratch′
       by (is-normal x l) f = absurd (Option·none-ne-some p (ap contracts-at f))
       by (contracts q u x c l) f =
           let same : q ≡ p = Option·some-injective q p (ap contracts-at f) in
@@ -105,6 +107,7 @@ module _ {ws scratch : List ℕ} {n : ℕ} {plan : Plan} (h : Advances ws n plan
           let to = next-at ws n (h .holds) p c′ l in
           record {
             returned = d .returned ∙ ap size to;
+            resumes = k ∙ ap (resumeAt r) (sym e ∙ h .plan-is);
             workspace = d .workspace ∙ ap (λ t. words t ++ drop (size t) ws) to;
             written = d .written ∙ ap (λ t. sets scratch 0 (drop p (words t))) to ∙ sym (ap (λ q. scratchAfter q (words (next (held ws n))) scratch) (sym (h .plan-is) ∙ e));
           }

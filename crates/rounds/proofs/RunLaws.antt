@@ -5,10 +5,9 @@ use mathlib.Core.List.{List, [], _∷_, map}
 use mathlib.Core.Option.{Option, some, none, Option·none-ne-some}
 use native.Mathlib.Nat.{zero-add, add-zero, add-assoc}
 use Rattle.calculus.specs.Term.{Term}
-use Rattle.calculus.specs.Words.{size}
-use Rattle.calculus.specs.Rounds.{after, rounds}
-use Rattle.rounds.specs.Press.{Answer, shown, Memory, Call, Pressed, press}
-use Rattle.rounds.specs.Runs.{final, history, spentOf, spentIn, noteBudget, budgetFrom, budgetInOneGo, noteAnswer, answerFrom, lastAnswer}
+use Rattle.calculus.specs.Rounds.{Shown, shows, withSpent, after, rounds}
+use Rattle.rounds.specs.Press.{Answer, Memory, Call, Pressed, press}
+use Rattle.rounds.specs.Runs.{final, history, spentOf, spentIn, noteBudget, budgetFrom, budgetInOneGo, noteShown, shownFrom, lastShown}
 use Rattle.rounds.specs.Claim.{Holds, Reply, replyOf, Standing, repliesTo, EachLeaves, InOneGo}
 use Rattle.rounds.proofs.Walk.{Walk, here, walked, rounds-walk}
 use Rattle.rounds.proofs.PressLaws.{Stands, Answered, turned-down, made, answered, concluded, stands-first, stands-concluded, stands-next, reply-answered, leaves-answered}
@@ -28,11 +27,10 @@ each-leaves h (c ∷ cs) =
 
 -- Where a list gets from the first terms t and u, by what it spent, the budget in one go, the last answer and the memory it leaves: nowhere if
 -- every press was refused, and otherwise where rounds in one go get.
-pub data Reached (C : ℕ) (t u : Term) (start : Memory) (spent : ℕ) (found : Option ℕ) (answer : Option Answer) (m : Memory) : Type 0 where
-  untouched : spent ≡ 0 → found ≡ none → answer ≡ none → m ≡ start → Reached C t u start spent found answer m
-  ran : (B last : ℕ) → spent ≡ rounds C B t u .spent → found ≡ some B
-      → answer ≡ some (shown (rounds C B t u .verdict) last (size (rounds C B t u .left)) (size (rounds C B t u .right)))
-      → m ≡ concluded C (start .session .total + rounds C B t u .spent) (rounds C B t u) → Reached C t u start spent found answer m
+pub data Reached (C : ℕ) (t u : Term) (start : Memory) (spent : ℕ) (found : Option ℕ) (last : Option Shown) (m : Memory) : Type 0 where
+  untouched : spent ≡ 0 → found ≡ none → last ≡ none → m ≡ start → Reached C t u start spent found last m
+  ran : (B last-spent : ℕ) → spent ≡ rounds C B t u .spent → found ≡ some B → last ≡ some (withSpent last-spent (shows (rounds C B t u)))
+      → m ≡ concluded C (start .session .total + rounds C B t u .spent) (rounds C B t u) → Reached C t u start spent found last m
 
 -- The walk from the first terms to those where the memory stands.
 record At (C : ℕ) (t u : Term) (start : Memory) (spent : ℕ) (m : Memory) : Type 0 where
@@ -42,7 +40,7 @@ record At (C : ℕ) (t u : Term) (start : Memory) (spent : ℕ) (m : Memory) : T
   stands : Stands C standing m
 
 module _ {C : ℕ} {t u : Term} {start : Memory} (left-holds : Holds C t (start .left)) (right-holds : Holds C u (start .right)) where
-  at : {spent : ℕ} {found : Option ℕ} {answer : Option Answer} {m : Memory} → Reached C t u start spent found answer m → At C t u start spent m
+  at : {spent : ℕ} {found : Option ℕ} {last : Option Shown} {m : Memory} → Reached C t u start spent found last m → At C t u start spent m
   at (untouched e f a q) =
       rw (e, q)
       (record {
@@ -62,10 +60,10 @@ module _ {C : ℕ} {t u : Term} {start : Memory} (left-holds : Holds C t (start 
       })
 
   -- A press after that.
-  reached-answered : {spent : ℕ} {found : Option ℕ} {answer : Option Answer} {m : Memory} {c : Call} {r : Reply} {p : Pressed}
-      → Reached C t u start spent found answer m → (here : At C t u start spent m) → Answered C (here .standing) m c r p
-      → Reached C t u start (spent + spentOf (p .answer)) (noteBudget spent found c (p .answer)) (noteAnswer answer (p .answer)) (p .memory)
-  reached-answered {spent} h a (turned-down n) = rw (add-zero spent) h
+  reached-answered : {spent : ℕ} {found : Option ℕ} {last : Option Shown} {m : Memory} {c : Call} {r : Reply} {p : Pressed}
+      → Reached C t u start spent found last m → (here : At C t u start spent m) → Answered C (here .standing) m c r p
+      → Reached C t u start (spent + spentOf (p .answer)) (noteBudget spent found c (p .answer)) (noteShown last (p .answer)) (p .memory)
+  reached-answered {spent} h a (turned-down why) = rw (add-zero spent) h
   reached-answered {spent} {m = m} {c = c} h a (made e) =
       let s = a .standing in
       let o = rounds C (c .budget) (s .left) (s .right) in
@@ -73,12 +71,12 @@ module _ {C : ℕ} {t u : Term} {start : Memory} (left-holds : Holds C t (start 
       ran (spent + c .budget) (o .spent)
       (ap (λ o′. o′ .spent) whole)
       refl
-      (ap (λ o′. some (shown (o′ .verdict) (o .spent) (size (o′ .left)) (size (o′ .right)))) whole)
+      (ap (λ o′. some (withSpent (o .spent) (shows o′))) whole)
       (ap (λ n. concluded C n o) (ap (λ n. n + o .spent) (a .total-is) ∙ add-assoc (start .session .total) spent (o .spent))
       ∙ ap (λ o′. concluded C (start .session .total + o′ .spent) o′) whole)
 
-  reached-from : {spent : ℕ} {found : Option ℕ} {answer : Option Answer} {m : Memory} → Reached C t u start spent found answer m → (calls : List Call)
-      → Reached C t u start (spent + spentIn (history m calls)) (budgetFrom spent found (history m calls)) (answerFrom answer (history m calls))
+  reached-from : {spent : ℕ} {found : Option ℕ} {last : Option Shown} {m : Memory} → Reached C t u start spent found last m → (calls : List Call)
+      → Reached C t u start (spent + spentIn (history m calls)) (budgetFrom spent found (history m calls)) (shownFrom last (history m calls))
       (final m calls)
   reached-from {spent} h [] = rw (add-zero spent) h
   reached-from {spent} {m = m} h (c ∷ cs) =
@@ -88,17 +86,17 @@ module _ {C : ℕ} {t u : Term} {start : Memory} (left-holds : Holds C t (start 
 
   -- Where a list gets.
   pub reached-by : (calls : List Call)
-      → Reached C t u start (spentIn (history start calls)) (budgetInOneGo (history start calls)) (lastAnswer (history start calls)) (final start calls)
+      → Reached C t u start (spentIn (history start calls)) (budgetInOneGo (history start calls)) (lastShown (history start calls)) (final start calls)
   reached-by calls = rw (zero-add (spentIn (history start calls))) at (reached-from (untouched refl refl refl refl) calls)
 
 -- If no budget was found, every press was refused.
-pub all-refused : {C : ℕ} {t u : Term} {start : Memory} {spent : ℕ} {found : Option ℕ} {answer : Option Answer} {m : Memory}
-    → Reached C t u start spent found answer m → found ≡ none → m ≡ start
+pub all-refused : {C : ℕ} {t u : Term} {start : Memory} {spent : ℕ} {found : Option ℕ} {last : Option Shown} {m : Memory}
+    → Reached C t u start spent found last m → found ≡ none → m ≡ start
 all-refused (untouched e f a q) h = q
 all-refused (ran B last e f a q) h = absurd (Option·none-ne-some B (sym h ∙ f))
 
 pub in-one-go : {C : ℕ} {t u : Term} {start : Memory} {m : Memory} (es : List (Call × Answer)) (B : ℕ)
-    → Reached C t u start (spentIn es) (budgetInOneGo es) (lastAnswer es) m → budgetInOneGo es ≡ some B → InOneGo C (rounds C B t u) start m es
+    → Reached C t u start (spentIn es) (budgetInOneGo es) (lastShown es) m → budgetInOneGo es ≡ some B → InOneGo C (rounds C B t u) start m es
 in-one-go es B (untouched e f a q) h = absurd (Option·none-ne-some B (sym f ∙ h))
 in-one-go {C} {t} {u} {start} {m} es B (ran B′ last e f a q) h =
     let b : B′ ≡ B = cc in
@@ -107,7 +105,7 @@ in-one-go {C} {t} {u} {start} {m} es B (ran B′ last e f a q) h =
       left-words = ap (λ k. k .left) q;
       right-words = ap (λ k. k .right) q;
       last-spent = last;
-      last-answer = a;
+      last-shown = a;
       session-total = ap (λ k. k .session .total) q;
       session-left = ap (λ k. k .session .left) q;
       session-right = ap (λ k. k .session .right) q;

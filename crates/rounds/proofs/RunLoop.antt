@@ -1,29 +1,38 @@
 -- The loop of the rounds: before each turn both workspaces hold the current terms, and the rounds still to make with what is left of the budget
 -- end in what all the rounds end in.
-use Prim.Native.Nat.{ℕ, _+_, _-_, _≤_}
+use Prim.Native.Nat.{ℕ, _+_, _-_, _≤_, _<_}
 use mathlib.Core.Path.{_≡_, refl, sym, _∙_, ap, subst, subst⁻¹}
-use mathlib.Core.Bool.{Bool, true, false, false≢true}
+use mathlib.Core.Bool.{true, false}
 use mathlib.Core.List.{List, _++_}
-use mathlib.Core.Option.{some}
+use mathlib.Core.Option.{some, none}
 use native.Mathlib.Omega.{arith}
+use lib.Dec.{eqb}
 use lib.ListN.{length, take, drop}
+use lib.Seq.{length-take-le}
+use borrow.Author.Tests.{eqb-true, eqb-false}
 use Rattle.calculus.specs.Term.{Term}
 use Rattle.calculus.specs.Words.{words, size}
 use Rattle.calculus.specs.Accepted.{Accepted}
 use Rattle.calculus.specs.Workspace.{termAt}
-use Rattle.calculus.specs.Rounds.{Verdict, ended, after, rounds}
+use Rattle.calculus.specs.Position.{contractAt}
+use Rattle.calculus.specs.Rounds.{Verdict, shows, ended, after, rounds}
 use Rattle.calculus.proofs.WordLaws.{accepted-packable}
-use Rattle.calculus.proofs.ReadLaws.{words-injective}
+use Rattle.calculus.proofs.PositionLaws.{redex-first}
+use Rattle.calculus.proofs.ResumeLaws.{none-before, none-anywhere}
 use Rattle.calculus.proofs.AcceptedLaws.{leftmost-keeps-accepted}
 use Rattle.step.specs.Held.{held, Holds}
-use Rattle.rounds.specs.Compare.{sameWords}
+use Rattle.step.specs.Search.{Searched}
+use Rattle.rounds.specs.Compare.{common, Agrees, Compares}
 use Rattle.rounds.specs.Turn.{next, Plan, planned, Turn, ends, goes, turn}
+use Rattle.rounds.specs.Resume.{resumeAt, agreeAfter, Agreeing}
 use Rattle.rounds.specs.Advance.{Advances, Advanced}
 use Rattle.rounds.specs.Run.{Runs, Ran}
 use Rattle.rounds.specs.Claim as claim
-use Rattle.rounds.proofs.CompareLaws.{sameWords-refl, sameWords-equal}
+use Rattle.rounds.proofs.CompareLaws.{agrees-none, common-agrees, common-whole, common-equal}
 use Rattle.step.proofs.HeldLaws.{held-term, holds-term, Start, termAt-start}
 use Rattle.rounds.proofs.Workspaces.{termAt-size}
+use Rattle.rounds.proofs.AgreeLaws.{agree-after}
+use Rattle.rounds.proofs.RunCode.{searched}
 use Rattle.rounds.proofs.Walk.{here, further, walk-fits, after-zero, after-after}
 use Rattle.rounds.proofs.TurnLaws.{Planned, is-normal, contracts, planned-tells, next-is, next-normal, Turned, going, turned, rounds-stopped, rounds-going}
 
@@ -32,16 +41,16 @@ begins {ws} {n} h = termAt-start ws n (held ws n) (h .term)
 
 -- Comparing the words compares the terms.
 module _ {ws vs : List ℕ} {n m : ℕ} (h : Holds ws n) (k : Holds vs m) where
-  same-terms : sameWords (take n ws) (take m vs) ≡ true → held ws n ≡ held vs m
-  same-terms e =
-      let w = sameWords-equal (take n ws) (take m vs) (rw e tt) in
-      words-injective (held ws n) (held vs m) (accepted-packable 0 (held ws n) (begins h .accepted)) (accepted-packable 0 (held vs m) (begins k .accepted))
-      (begins h .taken ∙ w ∙ sym (begins k .taken))
+  shares : common (take n ws) (take m vs) ≡ common (words (held ws n)) (words (held vs m))
+  shares = rw (begins h .taken, begins k .taken)
 
-  other-terms : sameWords (take n ws) (take m vs) ≡ false → held ws n ≡ held vs m → ⊥
-  other-terms e q =
-      let w : take n ws ≡ take m vs = sym (begins h .taken) ∙ ap words q ∙ begins k .taken in
-      false≢true (sym e ∙ ap (λ l. sameWords l (take m vs)) w ∙ sameWords-refl (take m vs))
+  same-terms : eqb (common (take n ws) (take m vs)) n ≡ true → held ws n ≡ held vs m
+  same-terms e =
+      common-whole (held ws n) (held vs m) (accepted-packable 0 (held ws n) (begins h .accepted)) (accepted-packable 0 (held vs m) (begins k .accepted))
+      (sym shares ∙ eqb-true _ n e ∙ sym (begins h .long))
+
+  other-terms : eqb (common (take n ws) (take m vs)) n ≡ false → held ws n ≡ held vs m → ⊥
+  other-terms e q = eqb-false _ n e (shares ∙ common-equal (held ws n) (held vs m) q ∙ begins h .long)
 
 next-accepted : (t : Term) → Accepted 0 t → Accepted 0 (next t)
 next-accepted t h = by (planned-tells t)
@@ -50,22 +59,41 @@ next-accepted t h = by (planned-tells t)
     by (is-normal r l) = rw (next-normal t l) h
     by (contracts p u r c l) = rw (next-is t l) (leftmost-keeps-accepted 0 t u l h)
 
+-- In the term after a side's part in a round no redex starts before the position to resume at.
+resumes : (t : Term) (n : ℕ) {plan : Plan} → Planned t plan → (q : ℕ) → q < resumeAt n plan → contractAt q (next t) ≡ none
+resumes t n (is-normal r l) q h = rw (next-normal t l) (none-anywhere t r q)
+resumes t n (contracts p u r c l) q h = rw (next-is t l) (none-before p t u c (redex-first t p .0 r .1) q h)
+
 -- A workspace after a side's part in a round.
-module _ {ws ws′ scratch scratch′ : List ℕ} {n r : ℕ} (h : Holds ws n) (kept : length ws′ ≡ length ws) (a : Advanced ws n scratch r ws′ scratch′) where
+module _ {ws ws′ scratch scratch′ : List ℕ} {n r from : ℕ} (h : Holds ws n) (kept : length ws′ ≡ length ws)
+    (a : Advanced ws n scratch r from ws′ scratch′) where
   now-held : termAt ws′ r ≡ some (next (held ws n))
   now-held =
       subst⁻¹ (λ k. termAt ws′ k ≡ some (next (held ws n))) (a .returned)
       (termAt-size (record { accepted = next-accepted (held ws n) (begins h .accepted); others = _; contents = a .workspace; length-is = refl }))
 
-  pub advanced-holds : Holds ws′ r
+  advanced-holds : Holds ws′ r
   advanced-holds = holds-term ws′ r (next (held ws n)) now-held (rw kept (h .limit))
 
-  pub advanced-held : held ws′ r ≡ next (held ws n)
+  advanced-held : held ws′ r ≡ next (held ws n)
   advanced-held = held-term ws′ r (next (held ws n)) now-held
 
--- What holds before each turn.
-pub record Going (left₀ right₀ scratch₀ : List ℕ) (l r budget : ℕ) (left right scratch : List ℕ) (m n spent : ℕ) : Type 0 where
+  advanced-words : take r ws′ ≡ words (next (held ws n))
+  advanced-words = sym (begins advanced-holds .taken) ∙ ap words advanced-held
+
+  advanced-searched : Searched ws′ r from
+  advanced-searched =
+      record {
+        holds = advanced-holds;
+        before = λ p l. rw advanced-held (resumes (held ws n) r (planned-tells (held ws n)) p (omega (arith, a .resumes)));
+      }
+
+-- What holds before each turn: both terms, where the search on each side goes on, and the words that agree.
+pub record Going (left₀ right₀ scratch₀ : List ℕ) (l r budget : ℕ) (left right scratch : List ℕ) (m i n j agree spent : ℕ) : Type 0 where
   pub runs : Runs left right scratch m n
+  pub left-searched : Searched left m i
+  pub right-searched : Searched right n j
+  pub agrees : Agrees agree (take m left) (take n right)
   pub left-kept : length left ≡ length left₀
   pub right-kept : length right ≡ length right₀
   pub scratch-kept : length scratch ≡ length scratch₀
@@ -74,11 +102,14 @@ pub record Going (left₀ right₀ scratch₀ : List ℕ) (l r budget : ℕ) (le
       after spent (rounds (length left₀) (budget - spent) (held left m) (held right n)) ≡ rounds (length left₀) budget (held left₀ l) (held right₀ r)
 
 pub going-first : {left right scratch : List ℕ} {l r : ℕ} (budget : ℕ) → Runs left right scratch l r
-    → Going left right scratch l r budget left right scratch l r 0
+    → Going left right scratch l r budget left right scratch l 0 r 0 0 0
 going-first {left} {right} {scratch} {l} {r} budget h =
     let all : budget - 0 ≡ budget = omega arith in
     record {
       runs = h;
+      left-searched = searched (h .left-holds);
+      right-searched = searched (h .right-holds);
+      agrees = agrees-none (take l left) (take r right);
       left-kept = refl;
       right-kept = refl;
       scratch-kept = refl;
@@ -86,37 +117,55 @@ going-first {left} {right} {scratch} {l} {r} budget h =
       rest = after-zero (rounds (length left) (budget - 0) (held left l) (held right r)) ∙ ap (λ b. rounds (length left) b (held left l) (held right r)) all;
     }
 
-module _ {left₀ right₀ scratch₀ : List ℕ} {l r budget : ℕ} {left right scratch : List ℕ} {m n spent : ℕ}
-    (g : Going left₀ right₀ scratch₀ l r budget left right scratch m n spent) where
-  pub left-fits : m ≤ length left
+module _ {left₀ right₀ scratch₀ : List ℕ} {l r budget : ℕ} {left right scratch : List ℕ} {m i n j agree spent : ℕ}
+    (g : Going left₀ right₀ scratch₀ l r budget left right scratch m i n j agree spent) where
+  left-fits : m ≤ length left
   left-fits = begins (g .runs .left-holds) .within
 
-  pub right-fits : n ≤ length right
+  right-fits : n ≤ length right
   right-fits = begins (g .runs .right-holds) .within
 
-  -- The judged round, from what the three calls before it tell.
-  pub judged : {equal : Bool} {a b : Plan} {t : Turn} → equal ≡ sameWords (take m left) (take n right) → a ≡ planned (held left m)
-      → b ≡ planned (held right n) → t ≡ turn equal a b (budget - spent) (length left)
-      → Turned (length left₀) (budget - spent) (held left m) (held right n) t
-  judged {equal} e p q j =
-      let lh = g .runs .left-holds in
-      let rh = g .runs .right-holds in
-      rw (j, p, q, g .left-kept) (turned equal (λ s. same-terms lh rh (sym e ∙ s)) (λ s. other-terms lh rh (sym e ∙ s)))
+  pub compares : Compares left m right n agree
+  compares = record { left-fits = left-fits; right-fits = right-fits; agrees = g .agrees }
+
+  -- What the calls before the judgement tell: the words that both sides share, and both plans.
+  module _ {shared : ℕ} {a b : Plan} (s : shared ≡ common (take m left) (take n right)) (p : a ≡ planned (held left m)) (q : b ≡ planned (held right n)) where
+    pub judged : {t : Turn} → t ≡ turn (eqb shared m) a b (budget - spent) (length left)
+        → Turned (length left₀) (budget - spent) (held left m) (held right n) t
+    judged e =
+        let lh = g .runs .left-holds in
+        let rh = g .runs .right-holds in
+        rw (e, p, q, g .left-kept, s) (turned (eqb (common (take m left) (take n right)) m) (same-terms lh rh) (other-terms lh rh))
+
+    shared-agrees : Agrees shared (take m left) (take n right)
+    shared-agrees = rw s (common-agrees (take m left) (take n right))
+
+    pub agreeing : Agreeing left m shared a
+    agreeing =
+        record { holds = g .runs .left-holds; within = omega (arith, shared-agrees .left-has, length-take-le m left left-fits); plan-is = p }
+
+    -- The words that agree after both sides' parts.
+    agrees-next : Agrees (agreeAfter left m shared a b) (words (next (held left m))) (words (next (held right n)))
+    agrees-next =
+        let ls = begins (g .runs .left-holds) in
+        let rs = begins (g .runs .right-holds) in
+        rw (p, q)
+        (agree-after ls rs (omega (arith, left-fits, g .runs .left-holds .limit)) (omega (arith, right-fits, g .runs .right-holds .limit))
+        (rw (ls .taken, rs .taken) shared-agrees) (planned-tells (held left m)) (planned-tells (held right n)))
 
   pub ran : {v : Verdict} → Turned (length left₀) (budget - spent) (held left m) (held right n) (ends v)
-      → Ran budget (rounds (length left₀) budget (held left₀ l) (held right₀ r)) v spent m n left right scratch
+      → Ran budget (rounds (length left₀) budget (held left₀ l) (held right₀ r)) (record { verdict = v; spent = spent; left = m; right = n }) left right scratch
   ran {v} t =
       let o : after spent (ended v (held left m) (held right n)) ≡ rounds (length left₀) budget (held left₀ l) (held right₀ r)
       = sym (ap (after spent) (rounds-stopped t)) ∙ g .rest in
       let ls = begins (g .runs .left-holds) in
       let rs = begins (g .runs .right-holds) in
       let all : spent ≡ spent + 0 = omega arith in
+      let here-shown : record { verdict = v; spent = spent; left = m; right = n } ≡ shows (after spent (ended v (held left m) (held right n)))
+      = λ i. record { verdict = v; spent = all i; left = sym (ls .long) i; right = sym (rs .long) i } in
       record {
-        verdict-is = ap (λ k. k .verdict) o;
-        spent-is = all ∙ ap (λ k. k .spent) o;
+        shown-is = here-shown ∙ ap shows o;
         within = g .within;
-        left-length = sym (ls .long) ∙ ap (λ k. size (k .left)) o;
-        right-length = sym (rs .long) ∙ ap (λ k. size (k .right)) o;
         left-others = drop m left;
         left-words = sym (ls .start) ∙ ap (λ k. words (k .left) ++ drop m left) o;
         right-others = drop n right;
@@ -146,8 +195,8 @@ module _ {left₀ right₀ scratch₀ : List ℕ} {l r budget : ℕ} {left right
     left-advances e =
         record { holds = g .runs .left-holds; plan-is = e; fits = both-fit .0; scratch-fits = omega (arith, both-fit .0, g .runs .scratch-length) }
 
-    module _ {left′ scratch′ : List ℕ} {m′ : ℕ} (lk : length left′ ≡ length left) (sk : length scratch′ ≡ length scratch)
-        (la : Advanced left m scratch m′ left′ scratch′) where
+    module _ {left′ scratch′ : List ℕ} {m′ i′ : ℕ} (lk : length left′ ≡ length left) (sk : length scratch′ ≡ length scratch)
+        (la : Advanced left m scratch m′ i′ left′ scratch′) where
       pub right-advances : {b : Plan} → b ≡ planned (held right n) → Advances right n b scratch′
       right-advances e =
           record {
@@ -157,10 +206,12 @@ module _ {left₀ right₀ scratch₀ : List ℕ} {l r budget : ℕ} {left right
             scratch-fits = omega (arith, both-fit .1, sk, g .runs .scratch-length);
           }
 
-      module _ {right′ scratch″ : List ℕ} {n′ : ℕ} (rk : length right′ ≡ length right) (sk′ : length scratch″ ≡ length scratch′)
-          (ra : Advanced right n scratch′ n′ right′ scratch″) where
-        pub going-on : Going left₀ right₀ scratch₀ l r budget left′ right′ scratch″ m′ n′ (spent + p)
-        going-on =
+      module _ {right′ scratch″ : List ℕ} {n′ j′ : ℕ} (rk : length right′ ≡ length right) (sk′ : length scratch″ ≡ length scratch′)
+          (ra : Advanced right n scratch′ n′ j′ right′ scratch″) where
+        pub going-on : {shared agree′ : ℕ} {a b : Plan} → shared ≡ common (take m left) (take n right) → a ≡ planned (held left m)
+            → b ≡ planned (held right n) → agree′ ≡ agreeAfter left m shared a b
+            → Going left₀ right₀ scratch₀ l r budget left′ right′ scratch″ m′ i′ n′ j′ agree′ (spent + p)
+        going-on s x y k =
             let (pos, h) = spends in
             let less : budget - (spent + p) ≡ budget - spent - p = omega arith in
             record {
@@ -171,6 +222,11 @@ module _ {left₀ right₀ scratch₀ : List ℕ} {l r budget : ℕ} {left right
                     right-length = rk ∙ g .runs .right-length ∙ sym lk;
                     scratch-length = sk′ ∙ sk ∙ g .runs .scratch-length ∙ sym lk;
                   };
+              left-searched = advanced-searched (g .runs .left-holds) lk la;
+              right-searched = advanced-searched (g .runs .right-holds) rk ra;
+              agrees =
+                  rw (k, advanced-words (g .runs .left-holds) lk la, advanced-words (g .runs .right-holds) rk ra)
+                  (agrees-next s x y);
               left-kept = lk ∙ g .left-kept;
               right-kept = rk ∙ g .right-kept;
               scratch-kept = sk′ ∙ sk ∙ g .scratch-kept;

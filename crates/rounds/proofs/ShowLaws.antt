@@ -1,32 +1,35 @@
 -- Showing, by its tests in their order.
 use Prim.Native.Nat.{ℕ, _≤_, _<_}
-use mathlib.Core.Path.{_≡_, _∙_, ap, ap₂}
+use mathlib.Core.Path.{_≡_, sym, _∙_, ap, ap₂}
 use mathlib.Core.Bool.{true, false}
-use mathlib.Core.List.{List}
+use mathlib.Core.List.{List, [], _∷_}
 use lib.ListN.{length}
 use borrow.Author.Tests.{le-leb, lt-leb}
 use Rattle.calculus.specs.Words.{workspaceMost}
-use Rattle.calculus.specs.Workspace.{termAt}
+use Rattle.calculus.specs.Workspace.{sized, termAt}
 use Rattle.words.specs.IsTerm.{isTerm}
-use Rattle.rounds.specs.Press.{sized}
+use Rattle.calculus.proofs.WorkspaceLaws.{sized-most, sized-equal, first-equal, sized-two}
 use Rattle.rounds.specs.Show.{left, right, nothing, shorter, showTerms, show}
-use Rattle.rounds.proofs.PressCode.{sized-limit, sized-right, term-within, not-term, is-held}
+use Rattle.rounds.proofs.PressCode.{term-within, not-term, is-held}
 
 module _ (ws vs : List ℕ) (l r : ℕ) where
-  pub shows-nothing : sized (length ws) (length vs) (length ws) ≡ false → show ws vs l r ≡ nothing
+  pub shows-nothing : sized (length ws ∷ length vs ∷ length ws ∷ []) ≡ false → show ws vs l r ≡ nothing
   unfolding show
-  shows-nothing e = rw e
+  shows-nothing e = rw (sym (sized-two (length ws) (length vs)) ∙ e)
 
-  module _ (fits : sized (length ws) (length vs) (length ws) ≡ true) where
+  module _ (passes : sized (length ws ∷ length vs ∷ length ws ∷ []) ≡ true) where
+    fits : sized (length ws ∷ length vs ∷ []) ≡ true
+    fits = sym (sized-two (length ws) (length vs)) ∙ passes
+
     by-terms : show ws vs l r ≡ showTerms l r (termAt ws l) (termAt vs r)
     unfolding show
     by-terms = rw fits
 
     limit : length ws ≤ workspaceMost
-    limit = sized-limit (length ws) (length vs) (length ws) fits
+    limit = sized-most (length ws) (length vs ∷ []) fits
 
     right-limit : length vs ≤ workspaceMost
-    right-limit = rw (sized-right (length ws) (length vs) (length ws) fits) limit
+    right-limit = rw (first-equal (length ws) (length vs) [] (sized-equal (length ws) (length vs ∷ []) fits)) limit
 
     pub shows-no-left : isTerm ws l ≡ false → show ws vs l r ≡ nothing
     shows-no-left e = by-terms ∙ ap (λ t. showTerms l r t (termAt vs r)) (not-term ws l limit e)

@@ -2,27 +2,28 @@
 use Prim.Native.Nat.{ℕ, _+_, _≤_}
 use mathlib.Core.Path.{_≡_, refl, sym, _∙_, ap, subst}
 use mathlib.Core.Bool.{Bool, true, false, cond, and-eq-true-iff}
-use mathlib.Core.List.{List}
+use mathlib.Core.List.{List, [], _∷_}
 use mathlib.Core.Option.{Option, some, none}
 use native.Mathlib.Nat.{add-assoc}
 use native.Mathlib.Omega.{arith}
-use lib.Dec.{leb, eqb}
+use lib.Dec.{leb}
 use lib.ListN.{length}
-use borrow.Author.Tests.{leb-true, le-leb, eqb-true}
+use borrow.Author.Tests.{leb-true, le-leb}
 use Rattle.calculus.specs.Term.{Term}
-use Rattle.calculus.specs.Words.{workspaceLeast, workspaceMost}
-use Rattle.calculus.specs.Workspace.{termAt}
-use Rattle.calculus.specs.Refusal.{wrongWorkspaceNumber, overBudgetNumber}
-use Rattle.calculus.specs.Rounds.{Verdict, Outcome, after, rounds}
-use Rattle.rounds.specs.Press.{shown, Memory, Call, budgetLimit, totalLimit, sized, affordable, refuse, conclude, pressTerms, press}
+use Rattle.calculus.specs.Words.{size}
+use Rattle.calculus.specs.Workspace.{sized, termAt}
+use Rattle.calculus.specs.Refusal.{WrongWorkspace, OverBudget}
+use Rattle.calculus.specs.Rounds.{Outcome, Shown, shows, withSpent, after, rounds}
+use Rattle.rounds.specs.Press.{shown, Memory, Call, budgetLimit, totalLimit, affordable, refuse, conclude, pressTerms, press}
 use Rattle.rounds.specs.Claim.{Holds, together, Two-presses}
 use Rattle.rounds.proofs.Walk.{walked, rounds-add}
 use Rattle.rounds.proofs.Workspaces.{termAt-size, holds-termAt}
-use Rattle.rounds.proofs.PressLaws.{refused≢shown, concluded, holds-walk}
+use Rattle.rounds.proofs.PressLaws.{refused≢shown, shown-injective, concluded, holds-walk}
+use Rattle.rounds.proofs.PressCode.{sized-right}
 
 -- What an unrefused press has passed, and the two terms it is made on.
 record Passed (m : Memory) (c : Call) (t u : Term) : Type 0 where
-  size-passes : sized (length (m .left)) (length (m .right)) (length (c .scratch)) ≡ true
+  size-passes : sized (length (m .left) ∷ length (m .right) ∷ length (c .scratch) ∷ []) ≡ true
   budget-passes : affordable (c .budget) (m .session .total) ≡ true
   left-term : termAt (m .left) (c .leftLength) ≡ some t
   right-term : termAt (m .right) (c .rightLength) ≡ some u
@@ -32,13 +33,13 @@ press-passed : {m : Memory} {c : Call} {t u : Term} → Passed m c t u
 unfolding press
 press-passed h = rw (h .size-passes, h .budget-passes, h .left-term, h .right-term)
 
-passed : (m : Memory) (c : Call) {v : Verdict} {s l r : ℕ} → press m c .answer ≡ shown v s l r → (t : Term) × (u : Term) × Passed m c t u
+passed : (m : Memory) (c : Call) {a : Shown} → press m c .answer ≡ shown a → (t : Term) × (u : Term) × Passed m c t u
 unfolding press
-passed m c {v} {s} {l} {r} e = by _ _ _ _ refl refl refl refl e
+passed m c {a} e = by _ _ _ _ refl refl refl refl e
   where
-    by : (x y : Bool) (t u : Option Term) → sized (length (m .left)) (length (m .right)) (length (c .scratch)) ≡ x
+    by : (x y : Bool) (t u : Option Term) → sized (length (m .left) ∷ length (m .right) ∷ length (c .scratch) ∷ []) ≡ x
         → affordable (c .budget) (m .session .total) ≡ y → termAt (m .left) (c .leftLength) ≡ t → termAt (m .right) (c .rightLength) ≡ u
-        → cond x (cond y (pressTerms m c t u) (refuse m c overBudgetNumber)) (refuse m c wrongWorkspaceNumber) .answer ≡ shown v s l r → (t : Term) × (u : Term) × Passed m c t u
+        → cond x (cond y (pressTerms m c t u) (refuse m c OverBudget)) (refuse m c WrongWorkspace) .answer ≡ shown a → (t : Term) × (u : Term) × Passed m c t u
     by false y t u p q f g e = absurd (refused≢shown e)
     by true false t u p q f g e = absurd (refused≢shown e)
     by true true none u p q f g e = absurd (refused≢shown e)
@@ -52,12 +53,6 @@ afforded-together first second total h k =
     let (_, g) = and-eq-true-iff (leb second budgetLimit) (leb (total + first + second) totalLimit) .0 h in
     let sum : total + first + second ≤ totalLimit = leb-true _ _ g in
     rw (le-leb (first + second) budgetLimit k) (le-leb (total + (first + second)) totalLimit (omega arith))
-
-same-length : (left right scratch : ℕ) → sized left right scratch ≡ true → right ≡ left
-same-length left right scratch h =
-    let (_, h₁) = and-eq-true-iff (leb workspaceLeast left) _ .0 h in
-    let (_, h₂) = and-eq-true-iff (leb left workspaceMost) _ .0 h₁ in
-    eqb-true right left (and-eq-true-iff (eqb right left) (eqb scratch left) .0 h₂ .0)
 
 -- Both presses, where the first has passed on t and u.
 module _ {m : Memory} {c : Call} {t u : Term} (h : Passed m c t u) (d : Call) where
@@ -76,12 +71,11 @@ module _ {m : Memory} {c : Call} {t u : Term} (h : Passed m c t u) (d : Call) wh
   holds-next : Holds C (o .left) (next .left) × Holds C (o .right) (next .right)
   holds-next =
       holds-walk (holds-termAt (m .left) (c .leftLength) (h .left-term))
-      (subst (λ n. Holds n u (m .right)) (same-length _ _ _ (h .size-passes)) (holds-termAt (m .right) (c .rightLength) (h .right-term)))
+      (subst (λ n. Holds n u (m .right)) (sized-right _ _ _ (h .size-passes)) (holds-termAt (m .right) (c .rightLength) (h .right-term)))
       (walked C (c .budget) t u .walk)
 
-  module _ {v v′ : Verdict} {s l r s′ l′ r′ : ℕ}
-      (first : conclude C (m .session) o .answer ≡ shown v s l r) (left-is : d .leftLength ≡ l) (right-is : d .rightLength ≡ r)
-      (second : press next d .answer ≡ shown v′ s′ l′ r′) (fits : s + d .budget ≤ budgetLimit)
+  module _ {a′ : Shown} (left-is : d .leftLength ≡ size (o .left)) (right-is : d .rightLength ≡ size (o .right))
+      (second : press next d .answer ≡ shown a′) (fits : o .spent + d .budget ≤ budgetLimit)
       (scratch : List ℕ) (same-scratch : length scratch ≡ length (c .scratch))
     where
       -- The second press is made on the terms that the first ended in.
@@ -92,8 +86,8 @@ module _ {m : Memory} {c : Call} {t u : Term} (h : Passed m c t u) (d : Call) wh
           record {
             size-passes = q .size-passes;
             budget-passes = q .budget-passes;
-            left-term = ap (termAt (next .left)) (cc) ∙ termAt-size hl;
-            right-term = ap (termAt (next .right)) (cc) ∙ termAt-size hr;
+            left-term = ap (termAt (next .left)) left-is ∙ termAt-size hl;
+            right-term = ap (termAt (next .right)) right-is ∙ termAt-size hr;
           }
 
       press-next : press next d ≡ conclude C (next .session) o′
@@ -103,10 +97,9 @@ module _ {m : Memory} {c : Call} {t u : Term} (h : Passed m c t u) (d : Call) wh
 
       passed-together : Passed m (together c scratch (o .spent) (d .budget)) t u
       passed-together =
-          let spent-is : o .spent ≡ s = cc in
           record {
             size-passes = rw same-scratch (h .size-passes);
-            budget-passes = afforded-together (o .spent) (d .budget) (m .session .total) (passed-next .budget-passes) (omega arith);
+            budget-passes = afforded-together (o .spent) (d .budget) (m .session .total) (passed-next .budget-passes) fits;
             left-term = h .left-term;
             right-term = h .right-term;
           }
@@ -114,19 +107,25 @@ module _ {m : Memory} {c : Call} {t u : Term} (h : Passed m c t u) (d : Call) wh
       press-together : press m (together c scratch (o .spent) (d .budget)) ≡ conclude C (m .session) (after (o .spent) o′)
       press-together = press-passed passed-together ∙ ap (conclude C (m .session)) (rounds-add C (c .budget) (d .budget) t u)
 
-      both-presses : (press m (together c scratch s (d .budget)) .answer ≡ shown v′ (s + s′) l′ r′) × (press m (together c scratch s (d .budget)) .memory ≡ press next d .memory)
+      both-presses : (press m (together c scratch (o .spent) (d .budget)) .answer ≡ shown (withSpent (o .spent + a′ .spent) a′))
+          × (press m (together c scratch (o .spent) (d .budget)) .memory ≡ press next d .memory)
       both-presses =
-          let spent-is : o .spent ≡ s = cc in
-          let answers : conclude C (next .session) o′ .answer ≡ shown v′ s′ l′ r′ = sym (ap (λ p. p .answer) press-next) ∙ second in
-          rw (← spent-is) (
-            ap (λ p. p .answer) press-together ∙ cc,
+          let a′-is : shows o′ ≡ a′ = shown-injective (sym (ap (λ p. p .answer) press-next) ∙ second) in (
+            ap (λ p. p .answer) press-together ∙ ap (λ a. shown (withSpent (o .spent + a .spent) a)) a′-is,
             ap (λ p. p .memory) press-together ∙ ap (λ n. concluded C n o′) (sym (add-assoc (m .session .total) (o .spent) (o′ .spent)))
                 ∙ sym (ap (λ p. p .memory) press-next),
           )
 
 pub two-presses : Two-presses
-two-presses m c d scratch v v′ s l r s′ l′ r′ same e dl dr e′ fits =
+two-presses m c d scratch a a′ same e dl dr e′ fits =
     let (t, u, h) = passed m c e in
-    let first = press-passed h in
-    rw first
-    (both-presses h d (sym (ap (λ p. p .answer) first) ∙ e) dl dr (subst (λ p. press (p .memory) d .answer ≡ shown v′ s′ l′ r′) first e′) fits scratch same)
+    by h (shown-injective (sym e ∙ ap (λ p. p .answer) (press-passed h)))
+  where
+    by : {t u : Term} → Passed m c t u → a ≡ shows (rounds (length (m .left)) (c .budget) t u)
+        → (press m (together c scratch (a .spent) (d .budget)) .answer ≡ shown (withSpent (a .spent + a′ .spent) a′))
+        × (press m (together c scratch (a .spent) (d .budget)) .memory ≡ press (press m c .memory) d .memory)
+    by h a-is =
+        let first = press-passed h in
+        rw (first, a-is)
+        (both-presses h d (dl ∙ ap (λ a. a .left) a-is) (dr ∙ ap (λ a. a .right) a-is)
+        (subst (λ p. press (p .memory) d .answer ≡ shown a′) first e′) (rw a-is at fits) scratch same)

@@ -2,6 +2,7 @@
 pub mod Session
 pub mod Compare
 pub mod Turn
+pub mod Resume
 pub mod Advance
 pub mod Run
 pub mod Press

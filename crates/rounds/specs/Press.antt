@@ -1,21 +1,21 @@
 -- A press ("A press", "Numbers for refused calls"), as a function of everything at entry to everything at exit.
 use Prim.Native.Nat.{ℕ, _+_}
 use mathlib.Core.Bool.{Bool, cond, _&&_}
-use mathlib.Core.List.{List}
+use mathlib.Core.List.{List, [], _∷_}
 use mathlib.Core.Option.{Option, some, none}
-use lib.Dec.{leb, eqb}
+use lib.Dec.{leb}
 use lib.ListN.{length, replicate}
 use Rattle.calculus.specs.Term.{Term}
-use Rattle.calculus.specs.Words.{words, size, workspaceLeast, workspaceMost}
-use Rattle.calculus.specs.Workspace.{termAt, padded}
-use Rattle.calculus.specs.Refusal.{wrongWorkspaceNumber, overBudgetNumber, noTermNumber}
-use Rattle.calculus.specs.Rounds.{Verdict, Outcome, rounds}
+use Rattle.calculus.specs.Words.{words, size}
+use Rattle.calculus.specs.Workspace.{sized, termAt, padded}
+use Rattle.calculus.specs.Refusal.{Refusal, WrongWorkspace, OverBudget, NoTerm}
+use Rattle.calculus.specs.Rounds.{Outcome, Shown, shows, rounds}
 use Rattle.rounds.specs.Session.{Session}
 
--- A press's answer: the number of the refusal, or verdict, spent and both lengths.
+-- A press's answer: a refusal, or verdict, spent and both lengths.
 pub data Answer : Type 0 where
-  refused : ℕ → Answer
-  shown : Verdict → (spent left right : ℕ) → Answer
+  refused : Refusal → Answer
+  shown : Shown → Answer
 
 -- What one press leaves to the next: both workspaces and the session.
 pub record Memory : Type 0 where
@@ -43,24 +43,20 @@ budgetLimit = 1000000
 abbrev pub totalLimit : ℕ
 totalLimit = 1000000000
 
--- The lengths of workspaces and scratch pass refusal 7: each is 16 to 2,048, and they are equal.
-abbrev pub sized : (left right scratch : ℕ) → Bool
-sized left right scratch = leb workspaceLeast left && (leb left workspaceMost && (eqb right left && eqb scratch left))
-
 -- Budget and total pass refusal 9.
 abbrev pub affordable : (budget total : ℕ) → Bool
 affordable budget total = leb budget budgetLimit && leb (total + budget) totalLimit
 
 -- A refused press changes nothing.
-abbrev pub refuse : Memory → Call → ℕ → Pressed
-refuse m c n = record { answer = refused n; memory = m; scratch = c .scratch }
+abbrev pub refuse : Memory → Call → Refusal → Pressed
+refuse m c why = record { answer = refused why; memory = m; scratch = c .scratch }
 
 -- What the rounds leave: both current terms with zeros after them, the scratch all zeros, and the session renewed, of which only the total is
 -- read.
 abbrev pub conclude : (C : ℕ) → Session → Outcome → Pressed
 conclude C s o =
     record {
-      answer = shown (o .verdict) (o .spent) (size (o .left)) (size (o .right));
+      answer = shown (shows o);
       memory =
           record {
             left = padded C (words (o .left));
@@ -73,14 +69,14 @@ conclude C s o =
 
 -- Refusal 10 on the left, then on the right, then the rounds.
 abbrev pub pressTerms : Memory → Call → Option Term → Option Term → Pressed
-pressTerms m c none u = refuse m c noTermNumber
-pressTerms m c (some t) none = refuse m c noTermNumber
+pressTerms m c none u = refuse m c NoTerm
+pressTerms m c (some t) none = refuse m c NoTerm
 pressTerms m c (some t) (some u) = conclude (length (m .left)) (m .session) (rounds (length (m .left)) (c .budget) t u)
 
 unfoldable pub press : Memory → Call → Pressed
 press m c =
-    cond (sized (length (m .left)) (length (m .right)) (length (c .scratch)))
+    cond (sized (length (m .left) ∷ length (m .right) ∷ length (c .scratch) ∷ []))
     (cond (affordable (c .budget) (m .session .total))
     (pressTerms m c (termAt (m .left) (c .leftLength)) (termAt (m .right) (c .rightLength)))
-    (refuse m c overBudgetNumber))
-    (refuse m c wrongWorkspaceNumber)
+    (refuse m c OverBudget))
+    (refuse m c WrongWorkspace)

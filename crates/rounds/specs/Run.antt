@@ -3,8 +3,8 @@ use Prim.Native.Nat.{ℕ, _≤_}
 use mathlib.Core.Path.{_≡_}
 use mathlib.Core.List.{List, _++_}
 use lib.ListN.{length}
-use Rattle.calculus.specs.Words.{words, size}
-use Rattle.calculus.specs.Rounds.{Verdict, Outcome}
+use Rattle.calculus.specs.Words.{words}
+use Rattle.calculus.specs.Rounds.{Outcome, Shown, shows}
 use Rattle.step.specs.Held.{Holds}
 
 -- Both workspaces hold terms, and the three lengths are equal.
@@ -16,12 +16,9 @@ pub record Runs (left right scratch : List ℕ) (l r : ℕ) : Type 0 where
 
 -- The workspaces hold the two terms that the rounds with a budget end in. The words after a term, and those of the scratch, are any: the press
 -- clears them.
-pub record Ran (budget : ℕ) (o : Outcome) (verdict : Verdict) (spent l r : ℕ) (left right scratch : List ℕ) : Type 0 where
-  pub verdict-is : verdict ≡ o .verdict
-  pub spent-is : spent ≡ o .spent
-  pub within : spent ≤ budget
-  pub left-length : l ≡ size (o .left)
-  pub right-length : r ≡ size (o .right)
+pub record Ran (budget : ℕ) (o : Outcome) (a : Shown) (left right scratch : List ℕ) : Type 0 where
+  pub shown-is : a ≡ shows o
+  pub within : a .spent ≤ budget
   pub left-others : List ℕ
   pub left-words : left ≡ words (o .left) ++ left-others
   pub right-others : List ℕ

@@ -3,6 +3,7 @@
 use Prim.Native.Nat.{ℕ, _+_}
 use mathlib.Core.List.{List, [], _∷_}
 use mathlib.Core.Option.{Option, some, none}
+use Rattle.calculus.specs.Rounds.{Shown}
 use Rattle.rounds.specs.Press.{Answer, refused, shown, Memory, Call, press}
 
 -- What the list leaves.
@@ -16,8 +17,8 @@ history m [] = []
 history m (c ∷ cs) = (c, press m c .answer) ∷ history (press m c .memory) cs
 
 abbrev pub spentOf : Answer → ℕ
-spentOf (refused n) = 0
-spentOf (shown v s l r) = s
+spentOf (refused why) = 0
+spentOf (shown a) = a .spent
 
 -- The sum of what the unrefused presses answered as spent.
 abbrev pub spentIn : List (Call × Answer) → ℕ
@@ -26,8 +27,8 @@ spentIn (e ∷ es) = spentOf (e .1) + spentIn es
 
 -- What the unrefused presses but the last spent, plus the last one's budget, if one is unrefused; `spent` was spent and `found` was found so far.
 abbrev pub noteBudget : (spent : ℕ) → Option ℕ → Call → Answer → Option ℕ
-noteBudget spent found c (refused n) = found
-noteBudget spent found c (shown v s l r) = some (spent + c .budget)
+noteBudget spent found c (refused why) = found
+noteBudget spent found c (shown a) = some (spent + c .budget)
 
 abbrev pub budgetFrom : (spent : ℕ) → Option ℕ → List (Call × Answer) → Option ℕ
 budgetFrom spent found [] = found
@@ -36,14 +37,14 @@ budgetFrom spent found (e ∷ es) = budgetFrom (spent + spentOf (e .1)) (noteBud
 abbrev pub budgetInOneGo : List (Call × Answer) → Option ℕ
 budgetInOneGo es = budgetFrom 0 none es
 
--- The last unrefused press's answer; `found` was found so far.
-abbrev pub noteAnswer : Option Answer → Answer → Option Answer
-noteAnswer found (refused n) = found
-noteAnswer found (shown v s l r) = some (shown v s l r)
+-- What the last unrefused press showed; `found` was found so far.
+abbrev pub noteShown : Option Shown → Answer → Option Shown
+noteShown found (refused why) = found
+noteShown found (shown a) = some a
 
-abbrev pub answerFrom : Option Answer → List (Call × Answer) → Option Answer
-answerFrom found [] = found
-answerFrom found (e ∷ es) = answerFrom (noteAnswer found (e .1)) es
+abbrev pub shownFrom : Option Shown → List (Call × Answer) → Option Shown
+shownFrom found [] = found
+shownFrom found (e ∷ es) = shownFrom (noteShown found (e .1)) es
 
-abbrev pub lastAnswer : List (Call × Answer) → Option Answer
-lastAnswer es = answerFrom none es
+abbrev pub lastShown : List (Call × Answer) → Option Shown
+lastShown es = shownFrom none es

@@ -2,13 +2,12 @@
 -- lengths; the empty start of the left workspace where a press would be refused with 7 or 10.
 use Prim.Native.Nat.{ℕ}
 use mathlib.Core.Bool.{cond}
-use mathlib.Core.List.{List}
+use mathlib.Core.List.{List, [], _∷_}
 use mathlib.Core.Option.{Option, some, none}
 use lib.Dec.{leb}
 use lib.ListN.{length, take}
 use Rattle.calculus.specs.Term.{Term}
-use Rattle.calculus.specs.Workspace.{termAt}
-use Rattle.rounds.specs.Press.{sized}
+use Rattle.calculus.specs.Workspace.{sized, termAt}
 
 pub data Side : Type 0 where
   left right : Side
@@ -29,11 +28,10 @@ showTerms l r none u = nothing
 showTerms l r (some t) none = nothing
 showTerms l r (some t) (some u) = shorter l r
 
--- The part that showing hands back, by both workspaces and the length of each side's term. There is no scratch, so the left workspace stands for
--- it in the test of the lengths.
+-- The part that showing hands back, by both workspaces and the length of each side's term.
 unfoldable pub show : (left right : List ℕ) (l r : ℕ) → Part
 show ws vs l r =
-    cond (sized (length ws) (length vs) (length ws)) (showTerms l r (termAt ws l) (termAt vs r)) nothing
+    cond (sized (length ws ∷ length vs ∷ [])) (showTerms l r (termAt ws l) (termAt vs r)) nothing
 
 -- What is handed back of two slices, each by the pointer to its first word and its words: the pointer and the words of the part.
 abbrev pub partBy : {A : Type 0} → Side → (onLeft onRight : A) → A

@@ -1,9 +1,12 @@
 -- What the code's types stand for: the verdict's and the answer's enum case by case, and the session.
 use Prim.Native.Nat.{ℕ}
 use mathlib.Core.List.{List}
-use Rattle.calculus.specs.Rounds.{Verdict, Same, Different, Budget, Full}
+use Rattle.calculus.specs.Rounds.{Verdict, Same, Different, Budget, Full, Shown}
+use Rattle.words.specs.declared.refusal.Refusal as codeRefusal
+use Rattle.words.specs.Types.{refusalOf}
 use Rattle.rounds.specs.declared.Verdict as code
 use Rattle.rounds.specs.declared.Verdict.the-variants as verdict
+use Rattle.rounds.specs.declared.Shown as codeShown
 use Rattle.rounds.specs.declared.Answer as codeAnswer
 use Rattle.rounds.specs.declared.Answer.the-variants as answer
 use Rattle.rounds.specs.declared.Session as codeSession
@@ -26,10 +29,13 @@ verdictOf verdict.Full = Full
 abbrev pub sessionOf : codeSession.Session → Session
 sessionOf s = record { total = s .total; left = s .left; right = s .right; verdict = verdictOf (s .verdict) }
 
--- A refusal's number, or verdict, spent and both lengths.
+abbrev pub shownOf : codeShown.Shown → Shown
+shownOf a = record { verdict = verdictOf (a .verdict); spent = a .spent; left = a .left; right = a .right }
+
+-- A refusal, or verdict, spent and both lengths.
 abbrev pub answerOf : codeAnswer.Answer → Answer
-answerOf (answer.Refused n) = refused n
-answerOf (answer.Shown v s l r) = shown (verdictOf v) s l r
+answerOf (answer.Refused why) = refused (refusalOf why)
+answerOf (answer.Shown a) = shown (shownOf a)
 
 abbrev pub memoryOf : (left right : List ℕ) → codeSession.Session → Memory
 memoryOf l r s = record { left = l; right = r; session = sessionOf s }
@@ -42,8 +48,8 @@ abbrev pub pressedOf : codePressed.Pressed → (left right scratch : List ℕ) �
 pressedOf p l r s = record { answer = answerOf (p .answer); memory = memoryOf l r (p .session); scratch = s }
 
 -- A refusal of the covered press, with the session as it was.
-abbrev pub refusedWith : ℕ → codeSession.Session → codePressed.Pressed
-refusedWith n s = record { answer = answer.Refused n; session = s }
+abbrev pub refusedWith : codeRefusal.Refusal → codeSession.Session → codePressed.Pressed
+refusedWith why s = record { answer = answer.Refused why; session = s }
 
 abbrev pub planOf : codePlan.Plan → Plan
 planOf plan.Normal = normal

@@ -1,23 +1,30 @@
 // Comparison of the terms in two workspaces.
 ghost use mathlib.Core.Path.{_≡_};
-ghost use Prim.Native.Nat.{_≤_};
-ghost use lib.ListN.{length, take};
-ghost use Rattle.rounds.specs.Compare.{sameWords};
+ghost use Prim.Native.Nat.{min};
+ghost use lib.ListN.{take};
+ghost use Rattle.rounds.specs.Compare.{common, Compares};
 
-// Whether the first n words of one workspace and the first m of another are the same.
-pub fn same(ws: &[u32], n: usize, vs: &[u32], m: usize) -> bool
-    requires { ⌜ (n ≤ length (now ws)) × (m ≤ length (now vs)) ⌝ }
-    ensures { λ r. ⌜ r ≡ sameWords (take n (now (ws .entry))) (take m (now (vs .entry))) ⌝ }
+pub fn least(a: usize, b: usize) -> usize
+    ensures { λ r. ⌜ r ≡ min a b ⌝ }
 {
-    if n != m {
-        return false;
+    if a < b {
+        return a;
     }
-    let mut i = 0;
-    while i < n {
+    b
+}
+
+// How many of their first words the first n words of one workspace and the first m of another share; the first `from` are known to be the same.
+pub fn agreeing(ws: &[u32], n: usize, vs: &[u32], m: usize, from: usize) -> usize
+    requires { ⌜ Compares (now ws) n (now vs) m from ⌝ }
+    ensures { λ r. ⌜ r ≡ common (take n (now (ws .entry))) (take m (now (vs .entry))) ⌝ }
+{
+    let shorter = least(n, m);
+    let mut i = from;
+    while i < shorter {
         if ws[i] != vs[i] {
-            return false;
+            return i;
         }
         i += 1;
     }
-    true
+    i
 }

@@ -3,16 +3,16 @@ ghost use mathlib.Core.Path.{_≡_};
 ghost use Prim.Native.Nat.{_+_, _≤_};
 ghost use lib.ListN.{length};
 ghost use Rattle.calculus.specs.Rounds.{rounds};
-ghost use Rattle.rounds.specs.Press.{sized, affordable, press, conclude, totalLimit, budgetLimit};
+ghost use Rattle.rounds.specs.Press.{affordable, press, conclude, totalLimit, budgetLimit};
 ghost use Rattle.rounds.specs.Session.{fresh};
 ghost use Rattle.rounds.specs.Show.{show, partOf};
 ghost use Rattle.rounds.specs.Types.{sessionOf, memoryOf, callOf, pressedOf, refusedWith};
 ghost use Rattle.rounds.specs.Run.{Runs};
 ghost use Rattle.step.specs.Held.{held};
 use crate::run::run;
-use words::Word;
 use words::clear;
 use words::refusal::Refusal;
+use words::workspace::sized;
 
 mod compare;
 mod run;
@@ -52,15 +52,17 @@ impl Session {
     }
 }
 
-// A press's answer: the number of the refusal, or what is shown.
+// What a press shows: the verdict, spent and both lengths.
+pub struct Shown {
+    pub verdict: Verdict,
+    pub spent: u32,
+    pub left: usize,
+    pub right: usize,
+}
+
 pub enum Answer {
-    Refused(u32),
-    Shown {
-        verdict: Verdict,
-        spent: u32,
-        left: usize,
-        right: usize,
-    },
+    Refused(Refusal),
+    Shown(Shown),
 }
 
 // The answer with the session as the press leaves it.
@@ -71,33 +73,14 @@ pub struct Pressed {
 
 impl Pressed {
     // A refusal: the session is as it was.
-    fn refused(number: u32, session: Session) -> Self
-        ensures { λ p. ⌜ p ≡ refusedWith number session ⌝ }
+    fn refused(refusal: Refusal, session: Session) -> Self
+        ensures { λ p. ⌜ p ≡ refusedWith refusal session ⌝ }
     {
         Pressed {
-            answer: Answer::Refused(number),
+            answer: Answer::Refused(refusal),
             session,
         }
     }
-}
-
-// Whether workspaces and scratch of these lengths pass refusal 7.
-fn sizes_pass(left: usize, right: usize, scratch: usize) -> bool
-    ensures { λ r. ⌜ r ≡ sized left right scratch ⌝ }
-{
-    if left < Word::WORKSPACE_LEAST {
-        return false;
-    }
-    if Word::WORKSPACE_MOST < left {
-        return false;
-    }
-    if right != left {
-        return false;
-    }
-    if scratch != left {
-        return false;
-    }
-    true
 }
 
 // Whether a budget on top of this total passes refusal 9.
@@ -127,25 +110,17 @@ fn press_terms(
     requires { ⌜ session .total + budget ≤ totalLimit ⌝ }
     ensures { λ p. ⌜ pressedOf p (now (left .exit)) (now (right .exit)) (now (scratch .exit)) ≡ conclude (length (now (left .entry))) (sessionOf session) (rounds (length (now (left .entry))) budget (held (now (left .entry)) l) (held (now (right .entry)) r)) ⌝ }
 {
-    let o = run(left, right, scratch, l, r, budget);
-    let verdict = o.verdict;
-    let spent = o.spent;
-    let m = o.left;
-    let n = o.right;
-    clear(left, m);
-    clear(right, n);
+    let shown = run(left, right, scratch, l, r, budget);
+    clear(left, shown.left);
+    clear(right, shown.right);
     clear(scratch, 0);
+    let verdict = shown.verdict;
     Pressed {
-        answer: Answer::Shown {
-            verdict,
-            spent,
-            left: m,
-            right: n,
-        },
+        answer: Answer::Shown(shown),
         session: Session {
-            total: session.total + spent,
-            left: m,
-            right: n,
+            total: session.total + shown.spent,
+            left: shown.left,
+            right: shown.right,
             verdict,
         },
     }
@@ -164,17 +139,17 @@ pub fn press(
 ) -> Pressed
     ensures { λ p. ⌜ pressedOf p (now (left .exit)) (now (right .exit)) (now (scratch .exit)) ≡ press (memoryOf (now (left .entry)) (now (right .entry)) session) (callOf (now (scratch .entry)) «left_length» «right_length» budget) ⌝ }
 {
-    if !sizes_pass(left.len(), right.len(), scratch.len()) {
-        return Pressed::refused(Refusal::WORKSPACE, session);
+    if !sized(left.len(), right.len(), scratch.len()) {
+        return Pressed::refused(Refusal::WrongWorkspace, session);
     }
     if !budget_passes(budget, session.total) {
-        return Pressed::refused(Refusal::BUDGET, session);
+        return Pressed::refused(Refusal::OverBudget, session);
     }
     if !words::is_term(left, left_length) {
-        return Pressed::refused(Refusal::TERM, session);
+        return Pressed::refused(Refusal::NoTerm, session);
     }
     if !words::is_term(right, right_length) {
-        return Pressed::refused(Refusal::TERM, session);
+        return Pressed::refused(Refusal::NoTerm, session);
     }
     press_terms(
         left,
@@ -197,7 +172,7 @@ pub fn show<'a>(
 ) -> &'a [u32]
     ensures { λ r. ⌜ (r .ptr, now r) ≡ partOf (left .entry .ptr) (right .entry .ptr) (now (left .entry)) (now (right .entry)) (show (now (left .entry)) (now (right .entry)) «left_length» «right_length») ⌝ }
 {
-    if !sizes_pass(left.len(), right.len(), left.len()) {
+    if !sized(left.len(), right.len(), left.len()) {
         return &left[..0];
     }
     if !words::is_term(left, left_length) {

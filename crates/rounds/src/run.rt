@@ -2,22 +2,16 @@
 ghost use lib.ListN.{length};
 ghost use Rattle.calculus.specs.Rounds.{rounds};
 ghost use Rattle.rounds.specs.Run.{Runs, Ran};
-ghost use Rattle.rounds.specs.Types.{verdictOf};
+ghost use Rattle.rounds.specs.Types.{shownOf};
 ghost use Rattle.step.specs.Held.{held};
-use crate::Verdict;
-use crate::compare::same;
+use crate::Shown;
+use crate::compare::agreeing;
+use crate::turn::Side;
 use crate::turn::Turn;
 use crate::turn::advance;
+use crate::turn::agreed;
 use crate::turn::judge;
 use crate::turn::plan_for;
-
-// What the rounds of a press end in.
-pub struct Ended {
-    pub verdict: Verdict,
-    pub spent: u32,
-    pub left: usize,
-    pub right: usize,
-}
 
 // The rounds of a press, on both workspaces through the scratch.
 pub fn run(
@@ -27,29 +21,32 @@ pub fn run(
     l: usize,
     r: usize,
     budget: u32,
-) -> Ended
+) -> Shown
     requires { ⌜ Runs (now left) (now right) (now scratch) l r ⌝ }
-    ensures { λ o. ⌜ Ran budget (rounds (length (now (left .entry))) budget (held (now (left .entry)) l) (held (now (right .entry)) r)) (verdictOf (o .verdict)) (o .spent) (o .left) (o .right) (now (left .exit)) (now (right .exit)) (now (scratch .exit)) ⌝ }
+    ensures { λ o. ⌜ Ran budget (rounds (length (now (left .entry))) budget (held (now (left .entry)) l) (held (now (right .entry)) r)) (shownOf o) (now (left .exit)) (now (right .exit)) (now (scratch .exit)) ⌝ }
 {
-    let mut m = l;
-    let mut n = r;
+    let mut a = Side { length: l, from: 0 };
+    let mut b = Side { length: r, from: 0 };
+    let mut agree: usize = 0;
     let mut spent: u32 = 0;
     loop {
-        let equal = same(left, m, right, n);
-        let a = plan_for(left, m);
-        let b = plan_for(right, n);
-        match judge(equal, a, b, budget - spent, left.len()) {
+        let shared = agreeing(left, a.length, right, b.length, agree);
+        let p = plan_for(left, a);
+        let q = plan_for(right, b);
+        // No term's words are the start of another's, so a term whose words are all shared is the other one.
+        match judge(shared == a.length, p, q, budget - spent, left.len()) {
             Turn::Ends(verdict) => {
-                return Ended {
+                return Shown {
                     verdict,
                     spent,
-                    left: m,
-                    right: n,
+                    left: a.length,
+                    right: b.length,
                 };
             }
             Turn::Goes(count) => {
-                m = advance(left, m, a, scratch);
-                n = advance(right, n, b, scratch);
+                agree = agreed(left, a.length, shared, p, q);
+                a = advance(left, a, p, scratch);
+                b = advance(right, b, q, scratch);
                 spent += count;
             }
         }

@@ -2,16 +2,27 @@
 ghost use mathlib.Core.Path.{_≡_};
 ghost use mathlib.Core.Bool.{_||_};
 ghost use lib.Dec.{ltb};
-ghost use Rattle.rounds.specs.Turn.{spend, turn, planned};
+ghost use Prim.Native.Nat.{_-_};
+ghost use Rattle.rounds.specs.Turn.{contract, spend, turn, planned};
+ghost use Rattle.rounds.specs.Resume.{agreeBoth, agreeAfter, Agreeing};
 ghost use Rattle.rounds.specs.Types.{turnOf, planOf};
 ghost use Rattle.rounds.specs.Advance.{Advances, Advanced};
-ghost use Rattle.step.specs.Held.{held, Holds};
+ghost use Rattle.step.specs.Held.{held};
+ghost use Rattle.step.specs.Search.{Searched};
 use crate::Verdict;
+use crate::compare::least;
+use words::extent;
 
 // What a side would do in a round: nothing where it is normal, or contract the redex at a position, to a term of `length` words.
 pub enum Plan {
     Normal,
     Contract { at: usize, length: usize },
+}
+
+// A side between two rounds: its term has `length` words, and no redex starts before `from`.
+pub struct Side {
+    pub length: usize,
+    pub from: usize,
 }
 
 // What a round comes to: it ends in a verdict, or makes so many contractions.
@@ -66,26 +77,79 @@ pub fn judge(equal: bool, left: Plan, right: Plan, rest: u32, c: usize) -> Turn
 }
 
 // What a side would do in a round.
-pub fn plan_for(ws: &[u32], n: usize) -> Plan
-    requires { ⌜ Holds (now ws) n ⌝ }
-    ensures { λ r. ⌜ planOf r ≡ planned (held (now (ws .entry)) n) ⌝ }
+pub fn plan_for(ws: &[u32], side: Side) -> Plan
+    requires { ⌜ Searched (now ws) (side .length) (side .from) ⌝ }
+    ensures { λ r. ⌜ planOf r ≡ planned (held (now (ws .entry)) (side .length)) ⌝ }
 {
-    match step::find(ws, n, 0) {
+    match step::find(ws, side.length, side.from) {
         step::Found::At(at) => Plan::Contract {
             at,
-            length: step::next_length(ws, n, at),
+            length: step::next_length(ws, side.length, at),
         },
         step::Found::Nothing => Plan::Normal,
     }
 }
 
-// A side's part in a round that goes on, through the scratch; the length of its next term.
-pub fn advance(ws: &mut [u32], n: usize, todo: Plan, scratch: &mut [u32]) -> usize
-    requires { ⌜ Advances (now ws) n (planOf todo) (now scratch) ⌝ }
-    ensures { λ r. ⌜ Advanced (now (ws .entry)) n (now (scratch .entry)) r (now (ws .exit)) (now (scratch .exit)) ⌝ }
+// The position before another one, but 0 for 0.
+fn before(at: usize) -> usize
+    ensures { λ r. ⌜ r ≡ at - 1 ⌝ }
+{
+    if at == 0 {
+        return 0;
+    }
+    at - 1
+}
+
+// A side's part in a round that goes on, through the scratch.
+pub fn advance(ws: &mut [u32], side: Side, todo: Plan, scratch: &mut [u32]) -> Side
+    requires { ⌜ Advances (now ws) (side .length) (planOf todo) (now scratch) ⌝ }
+    ensures { λ r. ⌜ Advanced (now (ws .entry)) (side .length) (now (scratch .entry)) (r .length) (r .from) (now (ws .exit)) (now (scratch .exit)) ⌝ }
 {
     match todo {
-        Plan::Normal => n,
-        Plan::Contract { at, length: _ } => step::contract(ws, n, at, scratch),
+        Plan::Normal => Side {
+            length: side.length,
+            from: side.length,
+        },
+        Plan::Contract { at, length: _ } => Side {
+            length: step::contract(ws, side.length, at, scratch),
+            from: before(at),
+        },
     }
+}
+
+// How many first words of both sides agree after a round, of which `agree` do before it, by what the sides do; the left one has n words.
+pub fn agreed(ws: &[u32], n: usize, agree: usize, left: Plan, right: Plan) -> usize
+    requires { ⌜ Agreeing (now ws) n agree (planOf left) ⌝ }
+    ensures { λ r. ⌜ r ≡ agreeAfter (now (ws .entry)) n agree (planOf left) (planOf right) ⌝ }
+{
+    match left {
+        Plan::Normal => match right {
+            Plan::Normal => agree,
+            Plan::Contract { at, length: _ } => least(agree, at),
+        },
+        Plan::Contract { at, length } => match right {
+            Plan::Normal => least(agree, at),
+            Plan::Contract {
+                at: other,
+                length: _,
+            } => agreed_both(ws, n, agree, at, length, other),
+        },
+    }
+}
+
+// Both sides contract, the left one at a position to a term of `length` words.
+fn agreed_both(ws: &[u32], n: usize, agree: usize, at: usize, length: usize, other: usize) -> usize
+    requires { ⌜ Agreeing (now ws) n agree (contract at length) ⌝ }
+    ensures { λ r. ⌜ r ≡ agreeBoth (now (ws .entry)) n agree at length other ⌝ }
+{
+    if at != other {
+        return least(agree, least(at, other));
+    }
+    if at < agree {
+        if extent(ws, at) <= agree {
+            return length - (n - agree);
+        }
+        return at;
+    }
+    agree
 }

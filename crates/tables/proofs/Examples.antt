@@ -13,11 +13,11 @@ use Rattle.calculus.specs.Read.{takeTerm, takeTerms, takeBranches, readLam, rea
 use Rattle.calculus.specs.Workspace.{termAt}
 use Rattle.tables.specs.Meaning.{termOf, meantTerm, meantTerms, meantBranch, meantBranches, meant, meaning}
 use Rattle.tables.specs.Refusals.{wrongLength, wrongHeader, valueFits, wrongValue, namings, wrongLink, childrenFit, wrongChildren}
-use Rattle.tables.specs.Load.{refused, returned, Loaded, load}
+use Rattle.tables.specs.Load.{refused, returned, Loaded, loadStored, load}
 use Rattle.tables.specs.PrefixOrder.{InPrefixOrder, nothing, chained}
-use Rattle.tables.specs.Records.{view1}
+use Rattle.tables.specs.Records.{view, inForm1}
 use Rattle.tables.specs.Write.{write}
-use Rattle.tables.proofs.PrefixStanding.{fills-first, record-fills}
+use Rattle.tables.proofs.Written.PrefixStanding.{fills-first, record-fills}
 
 -- A table is written by its records, the header first.
 abbrev Four : Type 0
@@ -99,10 +99,10 @@ record Tried : Type 0 where
   write-workspace-of-15 : write (replicate 15 0) 1 (replicate 8 9) ≡ record { answer = refused 7; table = replicate 8 9 }
   write-no-term : write (1 ∷ 0 ∷ replicate 14 0) 1 (replicate 8 9) ≡ record { answer = refused 10; table = replicate 8 9 }
   write-table-too-long : write (1 ∷ 0 ∷ replicate 14 0) 2 (replicate 16 9) ≡ record { answer = refused 1; table = replicate 16 9 }
-  in-order : InPrefixOrder (view1 (table identity))
+  in-order : InPrefixOrder (view (inForm1 (table identity)))
 
 tried : Tried
-unfolding load write termAt meaning meant meantTerm meantTerms meantBranch meantBranches termOf wrongLength wrongHeader valueFits wrongValue namings wrongLink childrenFit wrongChildren bind read items item takeTerm takeTerms takeBranches readLam readApp readCon readCase readBranch oneTerm accepted? everywhere? tagged? both₃ isTag? startsAbove? rising? Dec·and decLe decLt
+unfolding loadStored write termAt meaning meant meantTerm meantTerms meantBranch meantBranches termOf wrongLength wrongHeader valueFits wrongValue namings wrongLink childrenFit wrongChildren bind read items item takeTerm takeTerms takeBranches readLam readApp readCon readCase readBranch oneTerm accepted? everywhere? tagged? both₃ isTag? startsAbove? rising? Dec·and decLe decLt
 tried =
     record {
       identity-loads = refl;
@@ -142,7 +142,7 @@ tried =
     }
 
 -- The body's record, the fourth, should stand third.
-not-in-order : InPrefixOrder (view1 (table applied)) → ⊥
+not-in-order : InPrefixOrder (view (inForm1 (table applied))) → ⊥
 not-in-order order =
     let root = record-fills (omega arith) order .1 in
     let function = record-fills (omega arith) (root .1) .1 in

@@ -10,16 +10,16 @@ use lib.Seq.{sets-eq, take-append-seam}
 use borrow.Author.Tests.{ltb-false}
 use Rattle.calculus.specs.Words.{words, size}
 use Rattle.calculus.specs.Workspace.{padded}
-use Rattle.tables.specs.Records.{view1}
-use Rattle.tables.specs.Load.{returned, Loaded, checks, firstMet, load}
+use Rattle.tables.specs.Records.{Stored, view}
+use Rattle.tables.specs.Load.{returned, Loaded, checks, firstMet, loadStored}
 use Rattle.tables.specs.Theorems.{Meant, NoneMet}
 use Rattle.words.specs.Placed.{Placed}
 use Rattle.tables.specs.Reading.{termWords, Readable}
-use Rattle.tables.proofs.Links.{linked}
-use Rattle.tables.proofs.Fits.{valued}
+use Rattle.tables.proofs.Refusal.LinkRules.{linked}
+use Rattle.tables.proofs.Refusal.Fits.{valued}
 use Rattle.tables.proofs.LoadLaws.{Passes, passes, unmet-means, load-returned}
-use Rattle.tables.proofs.RecordLaws.{rooted}
-use Rattle.tables.proofs.ReadingMeaning.{means-spelled}
+use Rattle.tables.proofs.Refusal.RecordLaws.{rooted}
+use Rattle.tables.proofs.Meaning.ReadingMeaning.{means-spelled}
 use Rattle.words.proofs.PlacedLaws.{placed-length}
 
 none-first : (cs : List (ℕ × Bool)) → firstMet cs ≡ none → NoneMet cs
@@ -30,19 +30,19 @@ none-first (c ∷ cs) h = go (c .1) refl h (λ k. none-first cs k)
     go true e k f = let never : _≡_ {A = ℕ} 0 1 = cc in absurd (omega arith)
     go false e k f = (e, f k)
 
-module _ (table workspace : List ℕ) (h : firstMet (checks table (length workspace)) ≡ none) where
-  unmet : NoneMet (checks table (length workspace))
-  unmet = none-first (checks table (length workspace)) h
+module _ (S : Stored) (workspace : List ℕ) (h : firstMet (checks S (length workspace)) ≡ none) where
+  unmet : NoneMet (checks S (length workspace))
+  unmet = none-first (checks S (length workspace)) h
 
-  pub passed : Passes table (length workspace)
-  passed = passes table (length workspace) unmet
+  pub passed : Passes S (length workspace)
+  passed = passes S (length workspace) unmet
 
-  meant : Meant (view1 table)
-  meant = unmet-means table (length workspace) unmet
+  meant : Meant (view S)
+  meant = unmet-means S (length workspace) unmet
 
-  pub root-readable : Readable table (view1 table .root) × (1 ≤ view1 table .root)
+  pub root-readable : Readable S (view S .root) × (1 ≤ view S .root)
   root-readable =
-      let root = rooted table (passed .header-fits) in (
+      let root = rooted S (passed .header-fits) in (
         record {
           walkable = record { length-fits = passed .length-fits; links-fit = passed .links-fit; link-within = root .1 };
           values-fit = passed .values-fit;
@@ -51,16 +51,16 @@ module _ (table workspace : List ℕ) (h : firstMet (checks table (length worksp
         root .0,
       )
 
-  root-words : termWords (view1 table) (view1 table .root) ≡ words (meant .meant)
-  root-words = means-spelled (view1 table) (linked (view1 table) (passed .links-fit)) (valued (view1 table) (passed .values-fit)) (meant .means)
+  root-words : termWords (view S) (view S .root) ≡ words (meant .meant)
+  root-words = means-spelled (view S) (linked (view S) (passed .links-fit)) (valued (view S) (passed .values-fit)) (meant .means)
 
-  pub room : length (termWords (view1 table) (view1 table .root)) ≤ length workspace
-  room = omega (arith, ap length root-words, meant .length-is, ltb-false (length workspace) (view1 table .n) (passed .short-enough))
+  pub room : length (termWords (view S) (view S .root)) ≤ length workspace
+  room = omega (arith, ap length root-words, meant .length-is, ltb-false (length workspace) (view S .n) (passed .short-enough))
 
   -- The words placed at the start, and zeros after them.
-  pub loaded : (after last : List ℕ) (end : ℕ) → Placed workspace 0 (termWords (view1 table) (view1 table .root)) after end
-      → last ≡ take end after ++ replicate (length after - end) 0 → _≡_ {A = Loaded} (record { answer = returned end; workspace = last }) (load table workspace)
-  loaded after last end p e = answered ∙ sym (load-returned table workspace unmet (meant .meant) (meant .means))
+  pub loaded : (after last : List ℕ) (end : ℕ) → Placed workspace 0 (termWords (view S) (view S .root)) after end
+      → last ≡ take end after ++ replicate (length after - end) 0 → _≡_ {A = Loaded} (record { answer = returned end; workspace = last }) (loadStored S workspace)
+  loaded after last end p e = answered ∙ sym (load-returned S workspace unmet (meant .meant) (meant .means))
     where
       ends : end ≡ size (meant .meant)
       ends = omega (arith, p .position, ap length root-words)

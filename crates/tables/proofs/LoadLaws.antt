@@ -1,25 +1,24 @@
 -- Loading refuses exactly what it must, and otherwise leaves the term that the table means.
 use Prim.Native.Nat.{ℕ, _+_, _-_, _*_}
 use mathlib.Core.Path.{_≡_, refl, sym, ap, _∙_}
-use mathlib.Core.Bool.{Bool, true, false, _&&_, and-eq-true-iff}
+use mathlib.Core.Bool.{Bool, true, false, and-eq-true-iff}
 use mathlib.Core.List.{List, [], _∷_, _++_}
 use mathlib.Core.Logic.{_⊎_, inl, inr}
 use mathlib.Core.Option.{some, none}
 use native.Mathlib.Omega.{arith}
-use lib.Dec.{leb, ltb, eqb}
 use lib.ListN.{length, replicate}
-use borrow.Author.Tests.{eqb-true, not-false}
+use borrow.Author.Tests.{not-false}
 use Rattle.calculus.specs.Term.{term, Term}
-use Rattle.calculus.specs.Words.{words, size, workspaceMost}
+use Rattle.calculus.specs.Words.{words, size}
 use Rattle.calculus.specs.Workspace.{padded}
-use Rattle.tables.specs.Records.{form, recordWords, recordAt, view1}
+use Rattle.tables.specs.Records.{Stored, view}
 use Rattle.tables.specs.Meaning.{Means, isRecord}
 use Rattle.tables.specs.Refusals.{wrongWorkspace, wrongLength, wrongHeader, tooLong, wrongValue, wrongLink, wrongChildren, wrongFree}
-use Rattle.tables.specs.Load.{refused, returned, checks, firstMet, refuseLoad, place, loadUnless, load}
+use Rattle.tables.specs.Load.{refused, returned, checks, firstMet, refuseLoad, place, loadUnless, loadStored}
 use Rattle.tables.specs.Theorems.{Sound, Meant, FirstMet, NoneMet, LoadsExactly, Loading-exact}
-use Rattle.tables.proofs.Tests.{both-false}
-use Rattle.tables.proofs.MeaningLaws.{meaning-complete}
-use Rattle.tables.proofs.SoundMeans.{sound-means}
+use Rattle.tables.proofs.Refusal.RecordLaws.{sized}
+use Rattle.tables.proofs.Meaning.MeaningLaws.{meaning-complete}
+use Rattle.tables.proofs.Meaning.SoundMeans.{sound-means}
 
 -- A list of refusals has one that is met first, or none is met.
 settled : (cs : List (ℕ × Bool)) → ((k : ℕ) × FirstMet k cs) ⊎ NoneMet cs
@@ -40,18 +39,18 @@ none-met [] h = refl
 none-met (c ∷ cs) h = rw (h .0) (none-met cs (h .1))
 
 -- No refusal is met, each by its name.
-pub record Passes (table : List ℕ) (C : ℕ) : Type 0 where
+pub record Passes (S : Stored) (C : ℕ) : Type 0 where
   pub workspace-fits : wrongWorkspace C ≡ false
-  pub length-fits : wrongLength table ≡ false
-  pub header-fits : wrongHeader table ≡ false
-  pub short-enough : tooLong (view1 table) C ≡ false
-  pub values-fit : wrongValue (view1 table) ≡ false
-  pub links-fit : wrongLink (view1 table) ≡ false
-  pub children-fit : wrongChildren (view1 table) ≡ false
-  pub free-numbers-fit : wrongFree (view1 table) ≡ false
+  pub length-fits : wrongLength S ≡ false
+  pub header-fits : wrongHeader S ≡ false
+  pub short-enough : tooLong (view S) C ≡ false
+  pub values-fit : wrongValue (view S) ≡ false
+  pub links-fit : wrongLink (view S) ≡ false
+  pub children-fit : wrongChildren (view S) ≡ false
+  pub free-numbers-fit : wrongFree (view S) ≡ false
 
-pub passes : (table : List ℕ) (C : ℕ) → NoneMet (checks table C) → Passes table C
-passes table C h =
+pub passes : (S : Stored) (C : ℕ) → NoneMet (checks S C) → Passes S C
+passes S C h =
     let records = h .1 .1 .1 .1 in
     record {
       workspace-fits = h .0;
@@ -64,8 +63,8 @@ passes table C h =
       free-numbers-fit = records .1 .1 .1 .0;
     }
 
-pub passes-unmet : (table : List ℕ) (C : ℕ) → Passes table C → NoneMet (checks table C)
-passes-unmet table C p = (
+pub passes-unmet : (S : Stored) (C : ℕ) → Passes S C → NoneMet (checks S C)
+passes-unmet S C p = (
   p .workspace-fits,
   (
     p .length-fits,
@@ -80,77 +79,68 @@ passes-unmet table C p = (
 )
 
 -- What refusals 1 and 2 leave.
-pub table-length : (table : List ℕ) → wrongLength table ≡ false → length table ≡ recordWords * (view1 table .n + 1)
-unfolding wrongLength
-table-length table h =
-    let n = view1 table .n in
-    let tested = not-false _ (both-false (ltb (length table) recordWords) _ h .1) in
-    eqb-true _ _ (and-eq-true-iff (leb 1 n && leb n workspaceMost) (eqb (length table) (recordWords * (n + 1))) .0 tested .1)
+pub table-length : (S : Stored) → wrongLength S ≡ false → length (S .words) ≡ S .form .recordWords * (view S .n + 1)
+table-length S h = sized S h .2
 
-pub header-words : (table : List ℕ) → wrongHeader table ≡ false
-    → (recordAt table 0 .kind ≡ form) × (recordAt table 0 .next ≡ 0) × (isRecord (view1 table) (view1 table .root) ≡ true)
+pub header-words : (S : Stored) → wrongHeader S ≡ false
+    → (S .form .headerFits (S .words) ≡ true) × (isRecord (view S) (view S .root) ≡ true)
 unfolding wrongHeader
-header-words table h =
-    let kind = eqb (recordAt table 0 .kind) form in
-    let next = eqb (recordAt table 0 .next) 0 in
-    let outer = and-eq-true-iff (kind && next) (isRecord (view1 table) (view1 table .root)) .0 (not-false _ h) in
-    let inner = and-eq-true-iff kind next .0 (outer .0) in
-    (eqb-true _ form (inner .0), eqb-true _ 0 (inner .1), outer .1)
+header-words S h = and-eq-true-iff (S .form .headerFits (S .words)) (isRecord (view S) (view S .root)) .0 (not-false _ h)
 
-pub passes-sound : (table : List ℕ) (C : ℕ) → Passes table C → Sound (view1 table)
-passes-sound table C p =
+pub passes-sound : (S : Stored) (C : ℕ) → Passes S C → Sound (view S)
+passes-sound S C p =
     record {
-      root-inside = header-words table (p .header-fits) .2;
+      root-inside = header-words S (p .header-fits) .1;
       values = p .values-fit;
       links = p .links-fit;
       children-fit = p .children-fit;
       free-numbers = p .free-numbers-fit;
     }
 
-pub unmet-means : (table : List ℕ) (C : ℕ) → NoneMet (checks table C) → Meant (view1 table)
-unmet-means table C h = sound-means (view1 table) (passes-sound table C (passes table C h))
+pub unmet-means : (S : Stored) (C : ℕ) → NoneMet (checks S C) → Meant (view S)
+unmet-means S C h = sound-means (view S) (passes-sound S C (passes S C h))
 
 never : _≡_ {A = ℕ} 0 1 → ⊥
 never e = omega arith
 
-module _ (table workspace : List ℕ) where
-  pub load-refused : (k : ℕ) → FirstMet k (checks table (length workspace)) → load table workspace ≡ refuseLoad workspace k
-  unfolding load
-  load-refused k h = ap (λ o. loadUnless o table workspace) (first-met k (checks table (length workspace)) h)
+module _ (S : Stored) (workspace : List ℕ) where
+  pub load-refused : (k : ℕ) → FirstMet k (checks S (length workspace)) → loadStored S workspace ≡ refuseLoad workspace k
+  unfolding loadStored
+  load-refused k h = ap (λ o. loadUnless o S workspace) (first-met k (checks S (length workspace)) h)
 
-  pub load-returned : NoneMet (checks table (length workspace)) → (t : Term) → Means (view1 table) term (view1 table .root) t
-      → load table workspace ≡ record { answer = returned (size t); workspace = padded (length workspace) (words t) }
-  unfolding load
+  pub load-returned : NoneMet (checks S (length workspace)) → (t : Term) → Means (view S) term (view S .root) t
+      → loadStored S workspace ≡ record { answer = returned (size t); workspace = padded (length workspace) (words t) }
+  unfolding loadStored
   load-returned h t m =
-      ap (λ o. loadUnless o table workspace) (none-met (checks table (length workspace)) h)
-      ∙ ap (place workspace) (meaning-complete (view1 table) t (passes table (length workspace) h .links-fit) m)
+      ap (λ o. loadUnless o S workspace) (none-met (checks S (length workspace)) h)
+      ∙ ap (place workspace) (meaning-complete (view S) t (passes S (length workspace) h .links-fit) m)
 
-  exact-refused : (k : ℕ) → FirstMet k (checks table (length workspace)) → LoadsExactly table workspace
+  exact-refused : (k : ℕ) → FirstMet k (checks S (length workspace)) → LoadsExactly S workspace
   exact-refused k met =
-      let first = first-met k (checks table (length workspace)) met in
-      let answered : load table workspace .answer ≡ refused k = ap (λ r. r .answer) (load-refused k met) in
+      let first = first-met k (checks S (length workspace)) met in
+      let answered : loadStored S workspace .answer ≡ refused k = ap (λ r. r .answer) (load-refused k met) in
       record {
         refuses = λ j. (
           λ e. let same : k ≡ j = cc in rw same at met,
-          λ f. let other = first-met j (checks table (length workspace)) f in let same : k ≡ j = cc in answered ∙ ap refused same,
+          λ f. let other = first-met j (checks S (length workspace)) f in let same : k ≡ j = cc in answered ∙ ap refused same,
         );
         unchanged = λ j e. ap (λ r. r .workspace) (load-refused k met);
         returns = λ l. (
           λ e. absurd (never (cc)),
-          λ h. let other = none-met (checks table (length workspace)) (h .0) in absurd (never (cc)),
+          λ h. let other = none-met (checks S (length workspace)) (h .0) in absurd (never (cc)),
         );
         holds = λ l e. absurd (never (cc));
       }
 
-  exact-returned : NoneMet (checks table (length workspace)) → Meant (view1 table) → LoadsExactly table workspace
+  exact-returned : NoneMet (checks S (length workspace)) → Meant (view S) → LoadsExactly S workspace
   exact-returned unmet t =
-      let none-first = none-met (checks table (length workspace)) unmet in
+      let none-first = none-met (checks S (length workspace)) unmet in
       let loaded = load-returned unmet (t .meant) (t .means) in
-      let answered : load table workspace .answer ≡ returned (size (t .meant)) = ap (λ r. r .answer) loaded in
+      let answered : loadStored S workspace .answer ≡ returned (size (t .meant)) = ap (λ r. r .answer) loaded in
       record {
         refuses = λ k. (
           λ e. absurd (never (cc)),
-          λ f. let other = first-met k (checks table (length workspace)) f in absurd (never (cc)),
+          λ f. let other = first-met k (checks S (length workspace)) f in absurd (never (cc)),
         );
         unchanged = λ k e. absurd (never (cc));
         returns = λ l. (
@@ -167,8 +157,8 @@ module _ (table workspace : List ℕ) where
       }
 
 pub loading-exact : Loading-exact
-loading-exact table workspace =
-    elim (settled (checks table (length workspace))) [
-      | inl s ↦ exact-refused table workspace (s .0) (s .1)
-      | inr s ↦ exact-returned table workspace s (unmet-means table (length workspace) s)
+loading-exact S workspace =
+    elim (settled (checks S (length workspace))) [
+      | inl s ↦ exact-refused S workspace (s .0) (s .1)
+      | inr s ↦ exact-returned S workspace s (unmet-means S (length workspace) s)
     ]

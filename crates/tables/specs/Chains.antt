@@ -6,7 +6,7 @@ use mathlib.Core.List.{List}
 use lib.Dec.{leb, eqb}
 use Rattle.calculus.specs.Words.{variableKind, applicationKind, constructorKind}
 use Rattle.calculus.specs.Accepted.{argumentLimit}
-use Rattle.tables.specs.Records.{Record, Table, view1}
+use Rattle.tables.specs.Records.{Record, Table, Stored, view}
 use Rattle.tables.specs.Refusals.{wrongLength, wrongLink, chain, allBranches, rising}
 
 -- The records of the chain from a link. No chain has more records than the table.
@@ -26,7 +26,7 @@ numberFits k m =
     (eqb m 1)))
 
 -- The link is 0 or names a record of a table whose links name later records.
-pub record Walkable (table : List ℕ) (link : ℕ) : Type 0 where
-  pub length-fits : wrongLength table ≡ false
-  pub links-fit : wrongLink (view1 table) ≡ false
-  pub link-within : link ≤ view1 table .n
+pub record Walkable (S : Stored) (link : ℕ) : Type 0 where
+  pub length-fits : wrongLength S ≡ false
+  pub links-fit : wrongLink (view S) ≡ false
+  pub link-within : link ≤ view S .n

@@ -2,11 +2,11 @@
 use Prim.Native.Nat.{ℕ}
 use mathlib.Core.Bool.{Bool, _&&_}
 use lib.Dec.{eqb}
-use Rattle.tables.specs.Records.{Table}
-use Rattle.tables.specs.Refusals.{everyOf, linkFits, namings}
+use Rattle.tables.specs.Records.{Table, everyOf}
+use Rattle.tables.specs.Refusals.{linkFits, namings}
 
 abbrev pub linksFit : Table → ℕ → Bool
-linksFit T i = linkFits T i (T .at i .first) && linkFits T i (T .at i .next)
+linksFit T i = linkFits (T .n) i (T .at i .first) && linkFits (T .n) i (T .at i .next)
 
 unfoldable pub allLinksFit : Table → Bool
 allLinksFit T = everyOf (T .n) (linksFit T)

@@ -9,7 +9,7 @@ use Rattle.calculus.specs.Words.{words, size}
 use Rattle.calculus.specs.Workspace.{padded}
 use Rattle.calculus.specs.Refusal.{wrongLengthNumber, wrongHeaderNumber, wrongValueNumber, wrongLinkNumber, wrongChildrenNumber}
 use Rattle.calculus.specs.Refusal.{wrongFreeNumber, wrongWorkspaceNumber, tooLongNumber}
-use Rattle.tables.specs.Records.{view1}
+use Rattle.tables.specs.Records.{Stored, view, inForm1}
 use Rattle.tables.specs.Meaning.{meaning}
 use Rattle.tables.specs.Refusals.{wrongWorkspace, wrongLength, wrongHeader, tooLong, wrongValue, wrongLink, wrongChildren, wrongFree}
 
@@ -25,16 +25,16 @@ pub record Loaded : Type 0 where
 
 -- The refusals in the order in which loading checks them, 7, 1, 2, 8, 3, 4, 5, 6, each with whether it is met, by the table and the length C of
 -- the workspace.
-abbrev pub checks : (table : List ℕ) (C : ℕ) → List (ℕ × Bool)
-checks table C =
+abbrev pub checks : Stored → (C : ℕ) → List (ℕ × Bool)
+checks S C =
     (wrongWorkspaceNumber, wrongWorkspace C)
-    ∷ (wrongLengthNumber, wrongLength table)
-    ∷ (wrongHeaderNumber, wrongHeader table)
-    ∷ (tooLongNumber, tooLong (view1 table) C)
-    ∷ (wrongValueNumber, wrongValue (view1 table))
-    ∷ (wrongLinkNumber, wrongLink (view1 table))
-    ∷ (wrongChildrenNumber, wrongChildren (view1 table))
-    ∷ (wrongFreeNumber, wrongFree (view1 table))
+    ∷ (wrongLengthNumber, wrongLength S)
+    ∷ (wrongHeaderNumber, wrongHeader S)
+    ∷ (tooLongNumber, tooLong (view S) C)
+    ∷ (wrongValueNumber, wrongValue (view S))
+    ∷ (wrongLinkNumber, wrongLink (view S))
+    ∷ (wrongChildrenNumber, wrongChildren (view S))
+    ∷ (wrongFreeNumber, wrongFree (view S))
     ∷ []
 
 abbrev pub firstMet : List (ℕ × Bool) → Option ℕ
@@ -51,9 +51,13 @@ abbrev pub place : (workspace : List ℕ) → Option Term → Loaded
 place workspace none = refuseLoad workspace wrongChildrenNumber
 place workspace (some t) = record { answer = returned (size t); workspace = padded (length workspace) (words t) }
 
-abbrev pub loadUnless : Option ℕ → (table workspace : List ℕ) → Loaded
-loadUnless (some k) table workspace = refuseLoad workspace k
-loadUnless none table workspace = place workspace (meaning (view1 table))
+abbrev pub loadUnless : Option ℕ → Stored → (workspace : List ℕ) → Loaded
+loadUnless (some k) S workspace = refuseLoad workspace k
+loadUnless none S workspace = place workspace (meaning (view S))
 
-unfoldable pub load : (table workspace : List ℕ) → Loaded
-load table workspace = loadUnless (firstMet (checks table (length workspace))) table workspace
+unfoldable pub loadStored : Stored → (workspace : List ℕ) → Loaded
+loadStored S workspace = loadUnless (firstMet (checks S (length workspace))) S workspace
+
+-- Every table is taken as one of form 1.
+abbrev pub load : (table workspace : List ℕ) → Loaded
+load table workspace = loadStored (inForm1 table) workspace

@@ -10,7 +10,7 @@ use Rattle.calculus.specs.Words.{variableKind, constructorKind, caseKind, kindB
 use Rattle.calculus.specs.Accepted.{argumentLimit, freeLimit}
 use Rattle.words.specs.Limits.{payloadBound}
 use Rattle.words.specs.Bound.{binding}
-use Rattle.tables.specs.Records.{Record, Table, view1}
+use Rattle.tables.specs.Records.{Record, Table, Stored, view}
 use Rattle.tables.specs.Refusals.{wrongValue, wrongChildren, children}
 use Rattle.tables.specs.Chains.{Walkable}
 
@@ -64,11 +64,11 @@ termScoped T i d =
     indexFits (T .at i .kind) (T .at i .value) d && chainScoped T (T .at i .first) (d + binding (T .at i .kind) (T .at i .value))
 
 -- A link into a table that has passed refusals 3 to 5.
-pub record Readable (table : List ℕ) (link : ℕ) : Type 0 where
-  pub walkable : Walkable table link
-  pub values-fit : wrongValue (view1 table) ≡ false
-  pub children-fit : wrongChildren (view1 table) ≡ false
+pub record Readable (S : Stored) (link : ℕ) : Type 0 where
+  pub walkable : Walkable S link
+  pub values-fit : wrongValue (view S) ≡ false
+  pub children-fit : wrongChildren (view S) ≡ false
 
 -- There are no more binders than the records passed can have put around.
-abbrev pub Shallow : (table : List ℕ) (link d : ℕ) → Type 0
-Shallow table l d = d + argumentLimit * ahead (view1 table) l ≤ argumentLimit * suc (view1 table .n)
+abbrev pub Shallow : Table → (link d : ℕ) → Type 0
+Shallow T l d = d + argumentLimit * ahead T l ≤ argumentLimit * suc (T .n)

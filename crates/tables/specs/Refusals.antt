@@ -1,5 +1,5 @@
 -- What is refused in loading ("Numbers for refused calls"), each number by one definition over the whole table: it tells whether the number is met.
--- Refusals 1 and 2 are about the words of form 1, refusal 7 is about the workspace, and the others are about a table of records in any form.
+-- Refusals 1 and 2 are about the words of a form, refusal 7 is about the workspace, and the others are about a table of records in any form.
 -- Refusal 6 is about the term that the table means.
 use Prim.Native.Nat.{ℕ, zero, suc, _+_, _*_}
 use mathlib.Core.Bool.{Bool, true, false, cond, not, _&&_, _||_}
@@ -10,32 +10,23 @@ use lib.ListN.{length}
 use Rattle.calculus.specs.Term.{Sort, Exp, var, lam, app, con, case, nil, cons, end, branch, Term}
 use Rattle.calculus.specs.Words.{variableKind, applicationKind, constructorKind, caseKind, branchKind, workspaceLeast, workspaceMost, tagOf, countOf}
 use Rattle.calculus.specs.Accepted.{tagLimit, argumentLimit, branchLimit, freeLimit, indexLimit}
-use Rattle.tables.specs.Records.{Record, Table, form, recordWords, recordAt, view1}
+use Rattle.tables.specs.Records.{Record, Table, everyOf, sumOf, Stored, view}
 use Rattle.tables.specs.Meaning.{isRecord, meaning}
-
--- Whether a test holds of every index from 1 to n, and the sum of a function over these indices.
-abbrev pub everyOf : ℕ → (ℕ → Bool) → Bool
-everyOf zero p = true
-everyOf (suc n) p = everyOf n p && p (suc n)
-
-abbrev pub sumOf : ℕ → (ℕ → ℕ) → ℕ
-sumOf zero f = 0
-sumOf (suc n) f = sumOf n f + f (suc n)
 
 -- Refusal 7: a workspace has 16 to 2,048 words.
 abbrev pub wrongWorkspace : (C : ℕ) → Bool
 wrongWorkspace C = ltb C workspaceLeast || ltb workspaceMost C
 
--- Refusal 1: the length is not 4 × (n + 1) with n from 1 to 2,048, the most words that a workspace has. A table shorter than four words has no
--- header and meets it too.
-unfoldable pub wrongLength : List ℕ → Bool
-wrongLength ws =
-    ltb (length ws) recordWords
-    || not (leb 1 (view1 ws .n) && leb (view1 ws .n) workspaceMost && eqb (length ws) (recordWords * (view1 ws .n + 1)))
+-- Refusal 1: the length is not the words of a record × (n + 1), 4 × (n + 1) in form 1, with n from 1 to 2,048, the most words that a workspace
+-- has. A table shorter than a record has no header and meets it too.
+unfoldable pub wrongLength : Stored → Bool
+wrongLength S =
+    ltb (length (S .words)) (S .form .recordWords)
+    || not (leb 1 (view S .n) && leb (view S .n) workspaceMost && eqb (length (S .words)) (S .form .recordWords * (view S .n + 1)))
 
--- Refusal 2: the form is not 1, the last word of the header not 0, or the root not in 1 to n.
-unfoldable pub wrongHeader : List ℕ → Bool
-wrongHeader ws = not (eqb (recordAt ws 0 .kind) form && eqb (recordAt ws 0 .next) 0 && isRecord (view1 ws) (view1 ws .root))
+-- Refusal 2: the header is not one of the form, in form 1 its first word not 1 or its last word not 0, or the root is not in 1 to n.
+unfoldable pub wrongHeader : Stored → Bool
+wrongHeader S = not (S .form .headerFits (S .words) && isRecord (view S) (view S .root))
 
 -- Refusal 8: n is above the length of the workspace.
 abbrev pub tooLong : Table → (C : ℕ) → Bool
@@ -57,8 +48,8 @@ unfoldable pub wrongValue : Table → Bool
 wrongValue T = not (everyOf (T .n) (λ i. leb (T .at i .kind) branchKind && valueFits (T .at i .kind) (T .at i .value)))
 
 -- Refusal 4: a link other than 0 is not above its own record's index or is above n, or a record is not named by exactly one link.
-abbrev pub linkFits : Table → (own link : ℕ) → Bool
-linkFits T i l = eqb l 0 || (ltb i l && leb l (T .n))
+abbrev pub linkFits : (n own link : ℕ) → Bool
+linkFits n i l = eqb l 0 || (ltb i l && leb l n)
 
 abbrev pub naming : (link i : ℕ) → ℕ
 naming l i = cond (eqb l i) 1 0
@@ -69,7 +60,7 @@ namings T i = naming (T .root) i + sumOf (T .n) (λ j. naming (T .at j .first) i
 
 unfoldable pub wrongLink : Table → Bool
 wrongLink T =
-    not (everyOf (T .n) (λ i. linkFits T i (T .at i .first) && linkFits T i (T .at i .next) && eqb (namings T i) 1))
+    not (everyOf (T .n) (λ i. linkFits (T .n) i (T .at i .first) && linkFits (T .n) i (T .at i .next) && eqb (namings T i) 1))
 
 -- Refusal 5: wrong number or kind of children, over 15 arguments or branches, root a branch or with a next, branch tags not rising.
 --
@@ -115,10 +106,16 @@ childrenFit k rs =
     (cond (eqb k caseKind) (caseFits rs)
     (eqb (length rs) 1 && allTerms rs))))
 
+-- A declared number of children is their number.
+abbrev pub agrees : (declared : Option ℕ) (number : ℕ) → Bool
+agrees none m = true
+agrees (some k) m = eqb k m
+
+abbrev pub recordFits : Table → ℕ → Bool
+recordFits T i = agrees (T .declared i) (length (children T i)) && childrenFit (T .at i .kind) (children T i)
+
 unfoldable pub wrongChildren : Table → Bool
-wrongChildren T =
-    not
-    (everyOf (T .n) (λ i. childrenFit (T .at i .kind) (children T i)) && not (isBranch (T .at (T .root))) && eqb (T .at (T .root) .next) 0)
+wrongChildren T = not (everyOf (T .n) (recordFits T) && not (isBranch (T .at (T .root))) && eqb (T .at (T .root) .next) 0)
 
 -- Refusal 6: a free number above 255. Under d binders an index that is at least d has the free number index minus d.
 abbrev pub freeFits : {s : Sort} → (d : ℕ) → Exp s → Bool

@@ -9,10 +9,10 @@ use lib.ListN.{length, replicate}
 use Rattle.calculus.specs.Term.{Sort, term, Exp, Term}
 use Rattle.calculus.specs.Words.{words, size}
 use Rattle.calculus.specs.Accepted.{Accepted}
-use Rattle.tables.specs.Records.{Table, recordWords, view1}
+use Rattle.tables.specs.Records.{Table, form1, Stored, view, inForm1}
 use Rattle.tables.specs.Meaning.{Means, isRecord, meaning}
 use Rattle.tables.specs.Refusals.{wrongWorkspace, wrongValue, wrongLink, wrongChildren, wrongFree}
-use Rattle.tables.specs.Load.{refused, returned, checks, load}
+use Rattle.tables.specs.Load.{refused, returned, checks, loadStored, load}
 use Rattle.tables.specs.PrefixOrder.{InPrefixOrder}
 use Rattle.tables.specs.Write.{write}
 
@@ -55,24 +55,24 @@ NoneMet [] = Unit {0}
 NoneMet (c ∷ cs) = (c .1 ≡ false) × NoneMet cs
 
 -- Loading refuses exactly what it must, and a refusal changes nothing; otherwise the workspace holds the term that the table means, with zeros
--- after it, and its length is returned.
-pub record LoadsExactly (table workspace : List ℕ) : Type 0 where
-  pub refuses : (k : ℕ) → (load table workspace .answer ≡ refused k) ↔ FirstMet k (checks table (length workspace))
-  pub unchanged : (k : ℕ) → load table workspace .answer ≡ refused k → load table workspace .workspace ≡ workspace
-  pub returns : (l : ℕ) → (load table workspace .answer ≡ returned l) ↔ (NoneMet (checks table (length workspace)) × (view1 table .n ≡ l))
-  pub holds : (l : ℕ) → load table workspace .answer ≡ returned l
-      → (t : Term) × Means (view1 table) term (view1 table .root) t × Accepted 0 t × (size t ≡ l)
-      × (load table workspace .workspace ≡ words t ++ replicate (length workspace - l) 0)
+-- after it, and its length is returned. This holds in every form.
+pub record LoadsExactly (S : Stored) (workspace : List ℕ) : Type 0 where
+  pub refuses : (k : ℕ) → (loadStored S workspace .answer ≡ refused k) ↔ FirstMet k (checks S (length workspace))
+  pub unchanged : (k : ℕ) → loadStored S workspace .answer ≡ refused k → loadStored S workspace .workspace ≡ workspace
+  pub returns : (l : ℕ) → (loadStored S workspace .answer ≡ returned l) ↔ (NoneMet (checks S (length workspace)) × (view S .n ≡ l))
+  pub holds : (l : ℕ) → loadStored S workspace .answer ≡ returned l
+      → (t : Term) × Means (view S) term (view S .root) t × Accepted 0 t × (size t ≡ l)
+      × (loadStored S workspace .workspace ≡ words t ++ replicate (length workspace - l) 0)
 
 abbrev pub Loading-exact : Type 0
-Loading-exact = (table workspace : List ℕ) → LoadsExactly table workspace
+Loading-exact = (S : Stored) (workspace : List ℕ) → LoadsExactly S workspace
 
 -- Loading what was written gives the term again: for every accepted term that a workspace holds, whatever stands after it there and in the two
 -- lent parts that are written to.
 abbrev pub Load-after-write : Type 0
 Load-after-write =
     (t : Term) (rest table target : List ℕ) → Accepted 0 t → wrongWorkspace (length (words t ++ rest)) ≡ false
-    → length table ≡ recordWords * (size t + 1) → wrongWorkspace (length target) ≡ false → size t ≤ length target
+    → length table ≡ form1 .recordWords * (size t + 1) → wrongWorkspace (length target) ≡ false → size t ≤ length target
     → (write (words t ++ rest) (size t) table .answer ≡ returned (size t))
     × (load (write (words t ++ rest) (size t) table .table) target .answer ≡ returned (size t))
     × (load (write (words t ++ rest) (size t) table .table) target .workspace ≡ words t ++ replicate (length target - size t) 0)
@@ -82,4 +82,4 @@ abbrev pub Write-after-load : Type 0
 Write-after-load =
     (table workspace out : List ℕ) (l : ℕ) → load table workspace .answer ≡ returned l → length out ≡ length table
     → (write (load table workspace .workspace) l out .answer ≡ returned l)
-    × ((write (load table workspace .workspace) l out .table ≡ table) ↔ InPrefixOrder (view1 table))
+    × ((write (load table workspace .workspace) l out .table ≡ table) ↔ InPrefixOrder (view (inForm1 table)))

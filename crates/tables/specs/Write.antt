@@ -1,4 +1,4 @@
--- Writing ("The stored table", "Numbers for refused calls"): the table of a term, with its records numbered in prefix order from 1, and writing as
+-- Writing ("The stored table", "Numbers for refused calls"): the table of a term in form 1, with its records numbered in prefix order from 1, and writing as
 -- a function of everything at entry to everything at exit.
 use Prim.Native.Nat.{ℕ, suc, _+_, _*_}
 use mathlib.Core.Bool.{cond}
@@ -10,7 +10,7 @@ use Rattle.calculus.specs.Term.{Sort, Exp, var, lam, app, con, case, nil, cons,
 use Rattle.calculus.specs.Words.{variableKind, abstractionKind, applicationKind, constructorKind, caseKind, branchKind, pack, size}
 use Rattle.calculus.specs.Workspace.{termAt}
 use Rattle.calculus.specs.Refusal.{wrongLengthNumber, wrongWorkspaceNumber, noTermNumber}
-use Rattle.tables.specs.Records.{Record, form, recordWords, recordsWords}
+use Rattle.tables.specs.Records.{Record, form1, recordsWords}
 use Rattle.tables.specs.Refusals.{wrongWorkspace}
 use Rattle.tables.specs.Load.{Answer, refused, returned}
 
@@ -40,7 +40,7 @@ records i x (branch t n b bs) =
 
 -- The header, and the records with the root at index 1.
 abbrev pub tableOf : Term → List ℕ
-tableOf t = recordsWords (entry form (size t) 1 0 ∷ records 1 0 t)
+tableOf t = recordsWords (entry (form1 .number) (size t) 1 0 ∷ records 1 0 t)
 
 -- Everything at exit; the workspace is only read.
 pub record Written : Type 0 where
@@ -55,7 +55,7 @@ refuseWrite table k = record { answer = refused k; table = table }
 abbrev pub writeTerm : (len : ℕ) (table : List ℕ) → Option Term → Written
 writeTerm len table none = refuseWrite table noTermNumber
 writeTerm len table (some t) =
-    cond (eqb (length table) (recordWords * (len + 1))) (record { answer = returned len; table = tableOf t }) (refuseWrite table wrongLengthNumber)
+    cond (eqb (length table) (form1 .recordWords * (len + 1))) (record { answer = returned len; table = tableOf t }) (refuseWrite table wrongLengthNumber)
 
 unfoldable pub write : (workspace : List ℕ) (len : ℕ) (table : List ℕ) → Written
 write workspace len table =

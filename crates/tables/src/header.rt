@@ -1,9 +1,11 @@
 // Refusals 7, 1 and 2: the workspace, the table's length and its header.
-use crate::record::Record;
-use crate::record::count;
+use crate::records::Form;
+use crate::records::count;
+use crate::records::root;
 use words::Word;
 ghost use mathlib.Core.Path.{_≡_};
 ghost use mathlib.Core.Bool.{false};
+ghost use Rattle.tables.specs.Types.{stored};
 ghost use Rattle.tables.specs.Refusals.{wrongWorkspace, wrongLength, wrongHeader};
 
 // Whether a workspace of so many words is refused.
@@ -16,10 +18,11 @@ pub fn wrong_workspace(length: usize) -> bool
     Word::WORKSPACE_MOST < length
 }
 
-pub fn wrong_length(table: &[u32]) -> bool
-    ensures { λ r. ⌜ r ≡ wrongLength (now (table .entry)) ⌝ }
+pub fn wrong_length(table: &[u32], form: Form) -> bool
+    ensures { λ r. ⌜ r ≡ wrongLength (stored form (now (table .entry))) ⌝ }
 {
-    if table.len() < Record::WORDS {
+    let words = form.words();
+    if table.len() < words {
         return true;
     }
     let n = count(table);
@@ -29,22 +32,18 @@ pub fn wrong_length(table: &[u32]) -> bool
     if Word::WORKSPACE_MOST < n {
         return true;
     }
-    table.len() != Record::WORDS * (n + 1)
+    table.len() != words * (n + 1)
 }
 
-pub fn wrong_header(table: &[u32]) -> bool
-    requires { ⌜ wrongLength (now table) ≡ false ⌝ }
-    ensures { λ r. ⌜ r ≡ wrongHeader (now (table .entry)) ⌝ }
+pub fn wrong_header(table: &[u32], form: Form) -> bool
+    requires { ⌜ wrongLength (stored form (now table)) ≡ false ⌝ }
+    ensures { λ r. ⌜ r ≡ wrongHeader (stored form (now (table .entry))) ⌝ }
 {
-    let header = Record::at(table, 0);
-    if header.kind != Record::FORM {
+    if !form.header_fits(table) {
         return true;
     }
-    if header.next != 0 {
+    if root(table) < 1 {
         return true;
     }
-    if header.first < 1 {
-        return true;
-    }
-    (header.value as usize) < header.first
+    count(table) < root(table)
 }

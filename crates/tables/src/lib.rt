@@ -1,31 +1,33 @@
 // Loading a stored table and writing one.
+mod children;
+mod free_numbers;
 mod header;
-mod naming;
-mod reader;
-mod record;
-mod scope;
-mod shape;
+mod links;
+mod reading;
+mod records;
 mod values;
-mod writer;
+mod writing;
 
+use children::wrong_children;
+use free_numbers::wrong_free;
 use header::wrong_header;
 use header::wrong_length;
 use header::wrong_workspace;
-use naming::wrong_links;
-use reader::read_term;
-use record::Record;
-use record::count;
-use scope::wrong_free;
-use shape::wrong_children;
+use links::wrong_links;
+use reading::read_term;
+use records::Form;
+use records::Record;
+use records::count;
+use records::root;
 use values::wrong_values;
 use words::clear;
 use words::is_term;
 use words::refusal::Refusal;
-use writer::put_records;
+use writing::put_records;
 ghost use mathlib.Core.Path.{_≡_};
 ghost use Rattle.tables.specs.Load.{checks, firstMet, load};
 ghost use Rattle.tables.specs.Write.{write};
-ghost use Rattle.tables.specs.Types.{metOf, loadedOf, writtenOf};
+ghost use Rattle.tables.specs.Types.{stored, metOf, loadedOf, writtenOf};
 
 // What loading and writing answer: the number of the refusal, or the length of the term or the number of records.
 pub enum Answer {
@@ -39,31 +41,31 @@ enum Check {
     Passed,
 }
 
-fn first_met(table: &[u32], room: usize) -> Check
-    ensures { λ r. ⌜ metOf r ≡ firstMet (checks (now (table .entry)) room) ⌝ }
+fn first_met(table: &[u32], form: Form, room: usize) -> Check
+    ensures { λ r. ⌜ metOf r ≡ firstMet (checks (stored form (now (table .entry))) room) ⌝ }
 {
     if wrong_workspace(room) {
         return Check::Met(Refusal::WORKSPACE);
     }
-    if wrong_length(table) {
+    if wrong_length(table, form) {
         return Check::Met(Refusal::LENGTH);
     }
-    if wrong_header(table) {
+    if wrong_header(table, form) {
         return Check::Met(Refusal::HEADER);
     }
     if room < count(table) {
         return Check::Met(Refusal::LONG);
     }
-    if wrong_values(table) {
+    if wrong_values(table, form) {
         return Check::Met(Refusal::VALUE);
     }
-    if wrong_links(table) {
+    if wrong_links(table, form) {
         return Check::Met(Refusal::LINK);
     }
-    if wrong_children(table) {
+    if wrong_children(table, form) {
         return Check::Met(Refusal::CHILDREN);
     }
-    if wrong_free(table) {
+    if wrong_free(table, form) {
         return Check::Met(Refusal::FREE);
     }
     Check::Passed
@@ -73,11 +75,11 @@ fn first_met(table: &[u32], room: usize) -> Check
 pub fn load(table: &[u32], workspace: &mut [u32]) -> Answer
     ensures { λ r. ⌜ loadedOf r (now (workspace .exit)) ≡ load (now (table .entry)) (now (workspace .entry)) ⌝ }
 {
-    match first_met(table, workspace.len()) {
+    let form = Form::One;
+    match first_met(table, form, workspace.len()) {
         Check::Met(number) => Answer::Refused(number),
         Check::Passed => {
-            let root = Record::at(table, 0).first;
-            let end = read_term(table, root, workspace, 0);
+            let end = read_term(table, form, root(table), workspace, 0);
             clear(workspace, end);
             Answer::Returned(end)
         }

@@ -1,12 +1,13 @@
 // Refusal 3: kinds and values.
-use crate::record::Record;
-use crate::record::count;
+use crate::records::Form;
+use crate::records::Record;
+use crate::records::count;
 use words::Word;
 ghost use mathlib.Core.Path.{_≡_};
 ghost use mathlib.Core.Bool.{false, _&&_};
 ghost use lib.Dec.{leb};
 ghost use Rattle.calculus.specs.Words.{branchKind};
-ghost use Rattle.tables.specs.Records.{view1};
+ghost use Rattle.tables.specs.Types.{stored, viewed};
 ghost use Rattle.tables.specs.Refusals.{wrongLength, isTag, valueFits, wrongValue};
 
 fn is_tag(tag: u32) -> bool
@@ -33,15 +34,15 @@ fn value_fits(kind: u32, value: u32) -> bool
     }
 }
 
-pub fn wrong_values(table: &[u32]) -> bool
-    requires { ⌜ wrongLength (now table) ≡ false ⌝ }
-    ensures { λ r. ⌜ r ≡ wrongValue (view1 (now (table .entry))) ⌝ }
+pub fn wrong_values(table: &[u32], form: Form) -> bool
+    requires { ⌜ wrongLength (stored form (now table)) ≡ false ⌝ }
+    ensures { λ r. ⌜ r ≡ wrongValue (viewed form (now (table .entry))) ⌝ }
 {
     let n = count(table);
     let mut i = 0;
     while i < n {
         i += 1;
-        let record = Record::at(table, i);
+        let record = Record::at(table, form, i);
         if !value_fits(record.kind, record.value) {
             return true;
         }

@@ -3,6 +3,7 @@ use Prim.Native.Nat.{ℕ}
 use mathlib.Core.Bool.{Bool, false, _&&_}
 use lib.Dec.{eqb}
 use Rattle.calculus.specs.Rounds.{Verdict, Same, Different, Budget, Full}
+use Rattle.calculus.specs.Refusal.{number}
 use Rattle.rounds.specs.Session.{Session}
 use Rattle.rounds.specs.Press as press
 use Rattle.tables.specs.Load as tables
@@ -22,12 +23,12 @@ isSession s total left right v = ((eqb (s .total) total && eqb (s .left) left) &
 
 -- A press answered this verdict with these numbers, or this refusal.
 abbrev pub isShown : press.Answer → Verdict → (spent left right : ℕ) → Bool
-isShown (press.refused n) v s l r = false
-isShown (press.shown u s′ l′ r′) v s l r = ((eqb s′ s && eqb l′ l) && eqb r′ r) && sameVerdict u v
+isShown (press.refused why) v s l r = false
+isShown (press.shown a) v s l r = ((eqb (a .spent) s && eqb (a .left) l) && eqb (a .right) r) && sameVerdict (a .verdict) v
 
 abbrev pub isRefused : press.Answer → ℕ → Bool
-isRefused (press.refused n) k = eqb n k
-isRefused (press.shown v s l r) k = false
+isRefused (press.refused why) k = eqb (number why) k
+isRefused (press.shown a) k = false
 
 -- Loading or writing returned this number.
 abbrev pub isReturned : tables.Answer → ℕ → Bool

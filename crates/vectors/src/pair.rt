@@ -123,25 +123,23 @@ fn is_session(session: Session, total: u64, left: usize, right: usize, verdict: 
 fn shows(answer: Answer, verdict: Verdict, spent: u32, left: usize, right: usize) -> bool
     ensures { λ r. ⌜ r ≡ isShown (answerOf answer) (verdictOf verdict) spent left right ⌝ }
 {
-    let Answer::Shown {
-        verdict: v,
-        spent: s,
-        left: l,
-        right: r,
-    } = answer
-    else {
+    let Answer::Shown(shown) = answer else {
         return false;
     };
-    (s == spent) & (l == left) & (r == right) & same_verdict(v, verdict)
+    let v = shown.verdict;
+    (shown.spent == spent)
+        & (shown.left == left)
+        & (shown.right == right)
+        & same_verdict(v, verdict)
 }
 
 fn refuses(answer: Answer, number: u32) -> bool
     ensures { λ r. ⌜ r ≡ isRefused (answerOf answer) number ⌝ }
 {
-    let Answer::Refused(n) = answer else {
+    let Answer::Refused(refusal) = answer else {
         return false;
     };
-    n == number
+    refusal.number() == number
 }
 
 fn read_spent(line: &[u8], at: usize, verdict: Verdict) -> Outcome {

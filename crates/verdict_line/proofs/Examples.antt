@@ -13,7 +13,7 @@ use Rattle.calculus.specs.Rounds.{round, rounds}
 use Rattle.rounds.specs.Press.{press}
 use Rattle.tables.specs.Refusals.{wrongLength, wrongHeader, valueFits, wrongValue, namings, wrongLink, childrenFit, wrongChildren}
 use Rattle.tables.specs.Meaning.{termOf, meantTerm, meantTerms, meantBranch, meantBranches, meant, meaning}
-use Rattle.tables.specs.Load.{load}
+use Rattle.tables.specs.Load.{loadStored}
 use Rattle.text.specs.Bytes.{wordsOf}
 use Rattle.text.specs.Decimal.{digits, decimal}
 use Rattle.verdict_line.specs.Request.{request}
@@ -21,7 +21,7 @@ use Rattle.verdict_line.specs.Line.{printed}
 use Rattle.verdict_line.specs.Examples.{bytesOf, Printed-examples}
 
 pub printed-examples : Printed-examples
-unfolding printed request wordsOf bytesOf digits decimal load wrongLength wrongHeader valueFits wrongValue namings wrongLink childrenFit wrongChildren termOf meantTerm meantTerms meantBranch meantBranches meant meaning press termAt read items item takeTerm takeTerms takeBranches readLam readApp readCon readCase readBranch oneTerm accepted? everywhere? tagged? both₃ isTag? startsAbove? rising? Dec·and decLe decLt bind orElse firstStep leftmost tree from-trees equal? ℕ-discrete round rounds
+unfolding printed request wordsOf bytesOf digits decimal loadStored wrongLength wrongHeader valueFits wrongValue namings wrongLink childrenFit wrongChildren termOf meantTerm meantTerms meantBranch meantBranches meant meaning press termAt read items item takeTerm takeTerms takeBranches readLam readApp readCon readCase readBranch oneTerm accepted? everywhere? tagged? both₃ isTag? startsAbove? rising? Dec·and decLe decLt bind orElse firstStep leftmost tree from-trees equal? ℕ-discrete round rounds
 printed-examples =
     record {
       same = refl;

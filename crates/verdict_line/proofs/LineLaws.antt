@@ -14,7 +14,7 @@ use Rattle.calculus.specs.Rounds.{Verdict, Same, Different, Budget, Full}
 use Rattle.verdict_line.specs.Line.{Line, input, refuses, shows, judged, nameOf, lineBytes, lineMost, printed}
 use Rattle.calculus.specs.Words.{workspaceMost}
 use Rattle.calculus.specs.Refusal.{wrongWorkspaceNumber}
-use Rattle.tables.specs.Load.{refused, load}
+use Rattle.tables.specs.Load.{refused, loadStored, load}
 use Rattle.verdict_line.specs.Request.{Request, request}
 use Rattle.words.specs.Placed.{Placed}
 use Rattle.text.proofs.DecimalLaws.{length-decimal}
@@ -46,7 +46,7 @@ take-replicate a (suc n) (suc m) h = ap (_∷_ a) (take-replicate a n m (omega a
 
 -- A workspace above the limit is refused, whatever its length.
 too-large : (table ws : List ℕ) → workspaceMost < length ws → load table ws .answer ≡ refused wrongWorkspaceNumber
-unfolding load
+unfolding loadStored
 too-large table ws h = rw (lt-ltb workspaceMost (length ws) h, or-true)
 
 too-large-line : (q : Request) → workspaceMost < q .C → judged (some q) ≡ refuses wrongWorkspaceNumber

@@ -4,6 +4,7 @@ use Prim.Native.Nat.{ℕ, _+_, _*_}
 use mathlib.Core.List.{List, [], _∷_, _++_}
 use mathlib.Core.Option.{Option, some, none}
 use lib.ListN.{length, replicate}
+use Rattle.calculus.specs.Refusal.{number}
 use Rattle.calculus.specs.Rounds.{Verdict, Same, Different, Budget, Full}
 use Rattle.rounds.specs.Session.{fresh}
 use Rattle.rounds.specs.Press.{press}
@@ -19,8 +20,8 @@ pub data Line : Type 0 where
   shows : Verdict → (spent left right : ℕ) → Line
 
 abbrev pub lineOf : press.Answer → Line
-lineOf (press.refused n) = refuses n
-lineOf (press.shown v s l r) = shows v s l r
+lineOf (press.refused why) = refuses (number why)
+lineOf (press.shown a) = shows (a .verdict) (a .spent) (a .left) (a .right)
 
 -- The press on what loading left, with workspaces and scratch of C words.
 abbrev pub pressed : (C budget : ℕ) → (left right : List ℕ) → (leftLength rightLength : ℕ) → Line

@@ -7,7 +7,7 @@ use mathlib.Core.Option.{Option, some, none, bind}
 use lib.Dec.{leb}
 use lib.ListN.{length, take, drop}
 use Rattle.calculus.specs.Words.{workspaceMost}
-use Rattle.tables.specs.Records.{recordWords}
+use Rattle.tables.specs.Records.{form1}
 use Rattle.text.specs.Bytes.{wordBytes, wordsOf}
 
 pub record Request : Type 0 where
@@ -18,7 +18,7 @@ pub record Request : Type 0 where
 
 -- The most words of a table: a header, and as many records as a workspace has words.
 abbrev pub tableLimit : ℕ
-tableLimit = recordWords * (workspaceMost + 1)
+tableLimit = form1 .recordWords * (workspaceMost + 1)
 
 -- The most bytes of a request: budget, C, and two tables behind their counts.
 abbrev pub inputMost : ℕ

@@ -51,18 +51,16 @@ fn line_of(answer: Answer) -> Line
     ensures { λ r. ⌜ printedLine r ≡ lineOf (answerOf answer) ⌝ }
 {
     match answer {
-        Answer::Refused(number) => Line::Refuses(number),
-        Answer::Shown {
-            verdict,
-            spent,
-            left,
-            right,
-        } => Line::Shows {
-            verdict,
-            spent,
-            left,
-            right,
-        },
+        Answer::Refused(refusal) => Line::Refuses(refusal.number()),
+        Answer::Shown(shown) => {
+            let verdict = shown.verdict;
+            Line::Shows {
+                verdict,
+                spent: shown.spent,
+                left: shown.left,
+                right: shown.right,
+            }
+        }
     }
 }
 

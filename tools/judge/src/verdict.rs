@@ -32,18 +32,30 @@ pub fn reason(
     left_alone: impl FnOnce() -> Result<String, Failure>,
 ) -> Result<Option<String>, Failure> {
     if line == "Input" {
-        let lengths = [question.left, question.right].map(Term::length);
         return Ok(Some(format!(
             "a table holds {} words of a term; left has {}, right {}",
             WORKSPACE.end(),
-            lengths[0],
-            lengths[1]
+            question.left.length(),
+            question.right.length()
         )));
     }
     let Some(number) = line.strip_prefix("Refused ") else {
         return Ok(None);
     };
-    let of_call = match number {
+    if let Some(reason) = of_call(number, question) {
+        return Ok(Some(reason));
+    }
+    let (side, term) = match left_alone()? == line {
+        true => ("left", question.left),
+        false => ("right", question.right),
+    };
+    let reason = of_term(number, term, question);
+    Ok(Some(format!("{side} term: {reason}")))
+}
+
+/// What a refusal says of C or the budget.
+fn of_call(number: &str, question: &Question) -> Option<String> {
+    match number {
         "7" => Some(format!(
             "C, the words in each workspace, is {} and must be {} to {}",
             question.words,
@@ -55,18 +67,7 @@ pub fn reason(
             question.budget
         )),
         _ => None,
-    };
-    if of_call.is_some() {
-        return Ok(of_call);
     }
-    let (side, term) = match left_alone()? == line {
-        true => ("left", question.left),
-        false => ("right", question.right),
-    };
-    Ok(Some(format!(
-        "{side} term: {}",
-        of_term(number, term, question)
-    )))
 }
 
 /// What a refusal says of a term.

@@ -250,6 +250,7 @@ fn without_a_repository_or_a_program_there_is_nothing_to_run() {
 /// Stands in for rt: builds a program from the file `source` unless its stamp is of that source.
 const RT: &str = "#!/bin/sh
 [ \"$*\" = 'check verdict' ] || exit 2
+grep -q slow source && sleep 2.5
 if cmp -s source target/stamp/verdict; then
     echo 'rt: verdict proved (unchanged since it was last proved)'
     exit
@@ -318,6 +319,20 @@ fn the_program_is_built_once_and_its_progress_told() {
     let said = fs::read_to_string(log).expect("the log");
     assert!(said.contains("what the prover has to say\n"), "{said}");
     assert_eq!(repository.judge(), printed("Same 0 1 1"));
+}
+
+#[test]
+fn a_silent_build_is_announced() {
+    let source = Repository::prints("Same 0 1 1") + "# slow\n";
+    let repository = Repository::new("slow", &source);
+    repository.judge();
+    let (status, output, message) = repository.judge();
+    assert_eq!((status, output.as_str()), (0, "Same 0 1 1\n"));
+    assert!(
+        message.starts_with("judge: proving and building the program first"),
+        "{message}"
+    );
+    assert_eq!(message.lines().count(), 1, "{message}");
 }
 
 #[test]

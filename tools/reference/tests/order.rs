@@ -134,56 +134,61 @@ fn refusal_4_before_5() {
     );
 }
 
+type Records = &'static [[u32; 4]];
+
+/// Tables with a free number above its limit and wrong children before or
+/// behind it, each beside a table with the free number alone.
+const STRUCTURE_AND_FREE_NUMBER: [(Records, Records); 6] = [
+    // 256 applied to an abstraction without a body, or with one.
+    (
+        &[[2, 0, 2, 0], [0, 256, 0, 3], [1, 0, 0, 0]],
+        &[[2, 0, 2, 0], [0, 256, 0, 3], [1, 0, 4, 0], [0, 0, 0, 0]],
+    ),
+    // An application of three, the first 256.
+    (
+        &[[2, 0, 2, 0], [0, 256, 0, 3], [0, 0, 0, 4], [0, 0, 0, 0]],
+        &[[2, 0, 2, 0], [0, 256, 0, 3], [0, 0, 0, 0]],
+    ),
+    // A variable with the child 256.
+    (&[[0, 0, 2, 0], FREE_256], &[[1, 0, 2, 0], [0, 257, 0, 0]]),
+    // A branch as the root, its body 256 + 1 under one binder.
+    (
+        &[[5, 17, 2, 0], [0, 257, 0, 0]],
+        &[[1, 0, 2, 0], [0, 257, 0, 0]],
+    ),
+    // Branches whose tags fall, the first body 256.
+    (
+        &[
+            [4, 0, 2, 0],
+            [0, 0, 0, 3],
+            [5, 32, 4, 5],
+            [0, 256, 0, 0],
+            [5, 16, 6, 0],
+            [0, 0, 0, 0],
+        ],
+        &[
+            [4, 0, 2, 0],
+            [0, 0, 0, 3],
+            [5, 16, 4, 5],
+            [0, 256, 0, 0],
+            [5, 32, 6, 0],
+            [0, 0, 0, 0],
+        ],
+    ),
+    // A case of the subject 256 whose second child is no branch.
+    (
+        &[[4, 0, 2, 0], [0, 256, 0, 3], [0, 0, 0, 0]],
+        &[[4, 0, 2, 0], FREE_256],
+    ),
+];
+
 #[test]
 fn refusal_5_before_6() {
     // The root has a next: its own free number comes first or last.
     assert_eq!(number(&[1, 2, 1, 0, 0, 256, 0, 2, 0, 0, 0, 0], 16), 5);
     assert_eq!(number(&[1, 2, 1, 0, 0, 0, 0, 2, 0, 256, 0, 0], 16), 5);
     assert_eq!(number(&table(&[FREE_256]), 16), 6);
-    // A free number first, wrong children after it, and the other way round.
-    for (both, later) in [
-        // 256 applied to an abstraction without a body, or with one.
-        (
-            &[[2, 0, 2, 0], [0, 256, 0, 3], [1, 0, 0, 0]][..],
-            &[[2, 0, 2, 0], [0, 256, 0, 3], [1, 0, 4, 0], [0, 0, 0, 0]][..],
-        ),
-        // An application of three, the first 256.
-        (
-            &[[2, 0, 2, 0], [0, 256, 0, 3], [0, 0, 0, 4], [0, 0, 0, 0]],
-            &[[2, 0, 2, 0], [0, 256, 0, 3], [0, 0, 0, 0]],
-        ),
-        // A variable with the child 256.
-        (&[[0, 0, 2, 0], FREE_256], &[[1, 0, 2, 0], [0, 257, 0, 0]]),
-        // A branch as the root, its body 256 + 1 under one binder.
-        (
-            &[[5, 17, 2, 0], [0, 257, 0, 0]],
-            &[[1, 0, 2, 0], [0, 257, 0, 0]],
-        ),
-        // Branches whose tags fall, the first body 256.
-        (
-            &[
-                [4, 0, 2, 0],
-                [0, 0, 0, 3],
-                [5, 32, 4, 5],
-                [0, 256, 0, 0],
-                [5, 16, 6, 0],
-                [0, 0, 0, 0],
-            ],
-            &[
-                [4, 0, 2, 0],
-                [0, 0, 0, 3],
-                [5, 16, 4, 5],
-                [0, 256, 0, 0],
-                [5, 32, 6, 0],
-                [0, 0, 0, 0],
-            ],
-        ),
-        // A case of the subject 256 whose second child is no branch.
-        (
-            &[[4, 0, 2, 0], [0, 256, 0, 3], [0, 0, 0, 0]],
-            &[[4, 0, 2, 0], FREE_256],
-        ),
-    ] {
+    for (both, later) in STRUCTURE_AND_FREE_NUMBER {
         assert_first(5, 6, &[(table(both), table(later))]);
     }
 }

@@ -9,7 +9,7 @@ use reference::generate::families;
 use reference::generate::inputs::{self, Aim};
 use reference::generate::pairs::{pair, trial};
 use reference::on_large_stack;
-use reference::press::{rounds, Verdict};
+use reference::press::{rounds, Rounds, Verdict};
 use reference::random::Random;
 use reference::replay::VERDICTS;
 use reference::term::{Branch, Term};
@@ -154,6 +154,68 @@ fn look_at(term: &Term, census: &mut Census) {
     }
 }
 
+/// Sizes, nodes, variables and places of redexes.
+const SHAPES: [&str; 58] = [
+    "one word",
+    "few words",
+    "some words",
+    "many words",
+    "2,048 words",
+    "deeper than 500",
+    "under more than 1,000 binders",
+    "variable bound next",
+    "variable bound first",
+    "variable bound between",
+    "free number",
+    "free number 255",
+    "free number under binders",
+    "free number 255 under binders",
+    "abstraction",
+    "application",
+    "application of a constructor",
+    "constructor of no arguments",
+    "constructor of one arguments",
+    "constructor of several arguments",
+    "constructor of fifteen arguments",
+    "subject of no arguments",
+    "subject of one arguments",
+    "subject of several arguments",
+    "subject of fifteen arguments",
+    "constructor of tag 255",
+    "case of no branches",
+    "case of one branches",
+    "case of several branches",
+    "case of fifteen branches",
+    "branch of tag 255",
+    "branch that binds no",
+    "branch that binds one",
+    "branch that binds several",
+    "branch that binds fifteen",
+    "beta redex within nothing",
+    "beta redex within an abstraction",
+    "beta redex within a function",
+    "beta redex within an argument",
+    "beta redex within a constructor",
+    "beta redex within a subject",
+    "beta redex within a branch",
+    "case redex within nothing",
+    "case redex within an abstraction",
+    "case redex within a function",
+    "case redex within an argument",
+    "case redex within a constructor",
+    "case redex within a subject",
+    "case redex within a branch",
+    "case redex of no arguments",
+    "case redex of one arguments",
+    "case redex of several arguments",
+    "case redex of fifteen arguments",
+    "case redex by a later branch",
+    "case redex by an earlier branch",
+    "stuck by the tag",
+    "stuck by too few bound",
+    "stuck by too many bound",
+];
+
 #[test]
 fn pairs_reach_every_shape() {
     let census = on_large_stack(|| {
@@ -165,69 +227,7 @@ fn pairs_reach_every_shape() {
         }
         census
     });
-    census.assert_reaches(
-        10,
-        &[
-            "one word",
-            "few words",
-            "some words",
-            "many words",
-            "2,048 words",
-            "deeper than 500",
-            "under more than 1,000 binders",
-            "variable bound next",
-            "variable bound first",
-            "variable bound between",
-            "free number",
-            "free number 255",
-            "free number under binders",
-            "free number 255 under binders",
-            "abstraction",
-            "application",
-            "application of a constructor",
-            "constructor of no arguments",
-            "constructor of one arguments",
-            "constructor of several arguments",
-            "constructor of fifteen arguments",
-            "subject of no arguments",
-            "subject of one arguments",
-            "subject of several arguments",
-            "subject of fifteen arguments",
-            "constructor of tag 255",
-            "case of no branches",
-            "case of one branches",
-            "case of several branches",
-            "case of fifteen branches",
-            "branch of tag 255",
-            "branch that binds no",
-            "branch that binds one",
-            "branch that binds several",
-            "branch that binds fifteen",
-            "beta redex within nothing",
-            "beta redex within an abstraction",
-            "beta redex within a function",
-            "beta redex within an argument",
-            "beta redex within a constructor",
-            "beta redex within a subject",
-            "beta redex within a branch",
-            "case redex within nothing",
-            "case redex within an abstraction",
-            "case redex within a function",
-            "case redex within an argument",
-            "case redex within a constructor",
-            "case redex within a subject",
-            "case redex within a branch",
-            "case redex of no arguments",
-            "case redex of one arguments",
-            "case redex of several arguments",
-            "case redex of fifteen arguments",
-            "case redex by a later branch",
-            "case redex by an earlier branch",
-            "stuck by the tag",
-            "stuck by too few bound",
-            "stuck by too many bound",
-        ],
-    );
+    census.assert_reaches(10, &SHAPES);
 }
 
 /// How the two terms of a pair are related at the start and after a step.
@@ -300,88 +300,84 @@ fn ahead(left: &Term, right: &Term) -> (u32, usize) {
     )
 }
 
+/// How the rounds of a trial end.
+fn look_at_end(end: Rounds, capacity: usize, budget: u32, census: &mut Census) {
+    let (moving, longest) = ahead(&end.left, &end.right);
+    let over = longest.saturating_sub(capacity);
+    let size = end.left.size().max(end.right.size());
+    let (verdict, unspent) = (end.verdict, budget - end.spent);
+    let spent = match end.spent {
+        0 => "no contraction",
+        1..=3 => "a few",
+        4..=50 => "some",
+        _ => "many",
+    };
+    census.meet(format!("{verdict} after {spent}"));
+    match verdict {
+        Verdict::Same | Verdict::Different => {
+            census.meet_if(unspent == 0, format!("{verdict}, all spent"));
+            census.meet_if(unspent == 1, format!("{verdict}, one unspent"));
+            census.meet_if(unspent > 1_000, format!("{verdict}, much unspent"));
+        }
+        Verdict::Budget => {
+            census.meet(format!("Budget, {unspent} unspent where {moving} move"));
+            census.meet_if(over > 0, "Budget before Full");
+            census.meet_if(longest == capacity, "Budget, C words next");
+        }
+        Verdict::Full => {
+            census.meet(format!("Full where {moving} move"));
+            census.meet_if(unspent == moving, "Full, the budget just enough");
+            census.meet_if(unspent > moving, "Full, budget left");
+            census.meet_if(over == 1, "Full by one word");
+            census.meet_if(over == 1 && longest > size + 2, "Full by one of many words");
+            census.meet_if(over > 1, "Full by more");
+            census.meet_if(size == capacity, "Full with a term of C words");
+            census.meet_if(capacity == 16, "Full in 16 words");
+        }
+    }
+}
+
+/// Ends of rounds beside how many contractions they come after.
+const ENDS: [&str; 20] = [
+    "Same, all spent",
+    "Same, one unspent",
+    "Same, much unspent",
+    "Different, all spent",
+    "Different, one unspent",
+    "Different, much unspent",
+    "Budget, 0 unspent where 1 move",
+    "Budget, 0 unspent where 2 move",
+    "Budget, 1 unspent where 2 move",
+    "Budget before Full",
+    "Budget, C words next",
+    "Full where 1 move",
+    "Full where 2 move",
+    "Full, the budget just enough",
+    "Full, budget left",
+    "Full by one word",
+    "Full by one of many words",
+    "Full by more",
+    "Full with a term of C words",
+    "Full in 16 words",
+];
+
 #[test]
 fn trials_reach_every_edge() {
     let census = on_large_stack(|| {
         let mut census = Census::default();
         for case in 0..2_400 {
-            let random = &mut Random::new(33, case);
             let wish = VERDICTS[case as usize % VERDICTS.len()];
-            let trial = trial(random, Some(wish));
+            let trial = trial(&mut Random::new(33, case), Some(wish));
             let (capacity, budget) = (trial.capacity, trial.budget);
             let end = rounds(trial.left, trial.right, capacity, budget);
-            let (moving, longest) = ahead(&end.left, &end.right);
-            let over = longest.saturating_sub(capacity);
-            let size = end.left.size().max(end.right.size());
-            let unspent = budget - end.spent;
-            let verdict = end.verdict;
-            census.meet(format!(
-                "{verdict} after {}",
-                match end.spent {
-                    0 => "no contraction",
-                    1..=3 => "a few",
-                    4..=50 => "some",
-                    _ => "many",
-                }
-            ));
-            match end.verdict {
-                Verdict::Same | Verdict::Different => {
-                    census.meet_if(unspent == 0, format!("{verdict}, all spent"));
-                    census.meet_if(unspent == 1, format!("{verdict}, one unspent"));
-                    census.meet_if(unspent > 1_000, format!("{verdict}, much unspent"));
-                }
-                Verdict::Budget => {
-                    census.meet(format!("Budget, {unspent} unspent where {moving} move"));
-                    census.meet_if(over > 0, "Budget before Full");
-                    census.meet_if(longest == capacity, "Budget, C words next");
-                }
-                Verdict::Full => {
-                    census.meet_if(unspent == moving, "Full, the budget just enough");
-                    census.meet_if(unspent > moving, "Full, budget left");
-                    census.meet_if(over == 1, "Full by one word");
-                    census.meet_if(over == 1 && longest > size + 2, "Full by one of many words");
-                    census.meet_if(over > 1, "Full by more");
-                    census.meet_if(size == capacity, "Full with a term of C words");
-                    census.meet(format!("Full where {moving} move"));
-                    census.meet_if(capacity == 16, "Full in 16 words");
-                }
-            }
+            look_at_end(end, capacity, budget, &mut census);
         }
         census
     });
-    let mut features: Vec<String> = VERDICTS
-        .iter()
-        .flat_map(|verdict| {
-            ["no contraction", "a few", "some", "many"]
-                .map(|spent| format!("{verdict} after {spent}"))
-        })
-        .collect();
-    for verdict in ["Same", "Different"] {
-        features.extend(
-            ["all spent", "one unspent", "much unspent"].map(|rest| format!("{verdict}, {rest}")),
-        );
-    }
-    features.extend(
-        [
-            "Budget, 0 unspent where 1 move",
-            "Budget, 0 unspent where 2 move",
-            "Budget, 1 unspent where 2 move",
-            "Budget before Full",
-            "Budget, C words next",
-            "Full, the budget just enough",
-            "Full, budget left",
-            "Full by one word",
-            "Full by one of many words",
-            "Full by more",
-            "Full with a term of C words",
-            "Full where 1 move",
-            "Full where 2 move",
-            "Full in 16 words",
-        ]
-        .map(str::to_string),
-    );
-    let features: Vec<&str> = features.iter().map(String::as_str).collect();
-    census.assert_reaches(4, &features);
+    let spent = ["no contraction", "a few", "some", "many"];
+    let after = VERDICTS.map(|verdict| spent.map(|spent| format!("{verdict} after {spent}")));
+    let after: Vec<&str> = after.iter().flatten().map(String::as_str).collect();
+    census.assert_reaches(4, &[&after[..], &ENDS].concat());
 }
 
 #[test]
@@ -457,6 +453,19 @@ fn innermost(term: &Term, functions: bool, binders: u32) -> (u32, u32) {
     }
 }
 
+/// The ways, each with whether its levels can have a binder around the
+/// innermost variable: levels of two words may leave one word over, which
+/// then is an abstraction.
+const WAYS: [(&str, bool); 7] = [
+    ("abstractions", true),
+    ("constructors", false),
+    ("last arguments", true),
+    ("subjects", false),
+    ("branches", true),
+    ("functions", true),
+    ("arguments", true),
+];
+
 #[test]
 fn deep_terms_go_every_way() {
     let census = on_large_stack(|| {
@@ -473,34 +482,17 @@ fn deep_terms_go_every_way() {
             });
             census.meet(match step(&term) {
                 Some(_) => format!("{way} around a redex"),
-                None => format!("{way} without a redex"),
+                None => format!("{way} around no redex"),
             });
         }
         census
     });
+    let inside = ["free number 0", "free number 255", "a redex", "no redex"];
     let mut features = Vec::new();
-    for way in [
-        "abstractions",
-        "constructors",
-        "last arguments",
-        "subjects",
-        "branches",
-        "functions",
-        "arguments",
-    ] {
-        let around = ["free number 0", "free number 255", "a redex"];
-        features.extend(around.map(|inside| format!("{way} around {inside}")));
-        features.push(format!("{way} without a redex"));
+    for (way, binds) in WAYS {
+        features.extend(inside.map(|inside| format!("{way} around {inside}")));
+        features.extend(binds.then(|| format!("{way} around a bound variable")));
     }
-    // Levels of two words may have an abstraction inside, which makes up the size.
-    let binding = [
-        "abstractions",
-        "branches",
-        "functions",
-        "arguments",
-        "last arguments",
-    ];
-    features.extend(binding.map(|way| format!("{way} around a bound variable")));
     let features: Vec<&str> = features.iter().map(String::as_str).collect();
     census.assert_reaches(3, &features);
 }

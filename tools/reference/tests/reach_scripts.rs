@@ -7,7 +7,7 @@ use common::census::Census;
 use reference::generate::inputs::{self, Aim};
 use reference::generate::scripts;
 use reference::on_large_stack;
-use reference::press::{Side, Verdict};
+use reference::press::{Answer, Side, Verdict};
 use reference::random::Random;
 use reference::refusal::Refusal;
 use reference::replay::{self, Event, Machine, Operation};
@@ -92,6 +92,38 @@ fn broken_inputs_are_broken_in_every_way() {
     );
 }
 
+#[test]
+fn mixed_inputs_come_to_every_end() {
+    let census = on_large_stack(|| {
+        let mut census = Census::default();
+        for case in 0..1_500 {
+            let bytes = inputs::aimed(&mut Random::new(45, case), Aim::Mixed);
+            census.meet(match outcome(&bytes) {
+                Outcome::Answered(answer) => answer.verdict.to_string(),
+                Outcome::Refused(refusal) => refusal.to_string(),
+                Outcome::Input => "Input".to_string(),
+            });
+        }
+        census
+    });
+    let ends = [
+        "Same",
+        "Different",
+        "Budget",
+        "Full",
+        "1",
+        "2",
+        "3",
+        "4",
+        "5",
+        "6",
+        "7",
+        "8",
+        "9",
+    ];
+    census.assert_reaches(4, &ends);
+}
+
 /// Each call of a script with the machine before it, and what is left unread.
 fn each_call(input: &[u8], mut look: impl FnMut(&Machine, &Operation, Event)) -> Option<usize> {
     let (mut machine, mut script) = replay::start(input)?;
@@ -112,32 +144,32 @@ fn name(side: Side) -> &'static str {
     }
 }
 
-fn look_at_call(before: &Machine, operation: &Operation, event: Event, census: &mut Census) {
+fn workspace(machine: &Machine, side: Side) -> &[u32] {
+    match side {
+        Side::Left => &machine.left,
+        Side::Right => &machine.right,
+    }
+}
+
+/// Call and answer in a few words.
+fn called(before: &Machine, operation: &Operation, event: Event) -> String {
     match (operation, event) {
-        (Operation::Load { side, .. }, Event::Load(answer)) => census.meet(match answer {
-            Ok(_) => format!("load {}", name(*side)),
-            Err(refusal) => format!("load {}, {refusal}", name(*side)),
-        }),
+        (Operation::Load { side, .. }, Event::Load(Ok(_))) => format!("load {}", name(*side)),
+        (Operation::Load { side, .. }, Event::Load(Err(refusal))) => {
+            format!("load {}, {refusal}", name(*side))
+        }
         (
             Operation::Press {
                 scratch, lengths, ..
             },
             Event::Press(answer),
-        ) => {
-            let answer = match answer {
-                Ok(answer) => answer.verdict.to_string(),
-                Err(Refusal::Workspace) => wrong_workspace(before, *scratch).to_string(),
-                Err(Refusal::NotATerm) => format!("10 by the {}", wrong_term(before, *lengths)),
-                Err(refusal) => refusal.to_string(),
-            };
-            census.meet(format!("press, {answer}"));
-        }
-        (Operation::Show { lengths }, Event::Show(part)) => census.meet(match part {
-            Some((Side::Left, _)) if lengths.0 == lengths.1 => "show left of equals",
-            Some((Side::Left, _)) => "show left",
-            Some((Side::Right, _)) => "show right",
-            None => "show nothing",
-        }),
+        ) => match answer {
+            Ok(answer) => format!("press, {}", answer.verdict),
+            Err(Refusal::Workspace) => format!("press, {}", wrong_workspace(before, *scratch)),
+            Err(Refusal::NotATerm) => format!("press, 10 by the {}", wrong_term(before, *lengths)),
+            Err(refusal) => format!("press, {refusal}"),
+        },
+        (Operation::Show { lengths }, Event::Show(part)) => shown(*lengths, part).to_string(),
         (
             Operation::Write {
                 side,
@@ -145,32 +177,35 @@ fn look_at_call(before: &Machine, operation: &Operation, event: Event, census: &
                 table,
             },
             Event::Write(answer),
-        ) => {
-            let fitting = 4 * (*length as usize).saturating_add(1);
-            let answer = match answer {
-                Ok(_) => String::new(),
-                Err(Refusal::TableLength) if *table < fitting => ", 1 by too short".to_string(),
-                Err(Refusal::TableLength) => ", 1 by too long".to_string(),
-                Err(refusal) => format!(", {refusal}"),
-            };
-            census.meet(format!("write {}{answer}", name(*side)));
-        }
-        (Operation::SetSession(session), _) => {
-            census.meet(format!("set session, {}", session.verdict));
-        }
+        ) => format!("write {}{}", name(*side), written(*length, *table, answer)),
+        (Operation::SetSession(session), _) => format!("set session, {}", session.verdict),
         (Operation::Store { side, at, .. }, _) => {
-            let workspace = match side {
-                Side::Left => &before.left,
-                Side::Right => &before.right,
-            };
-            let within = (*at as usize) < workspace.len();
-            census.meet(match within {
+            match (*at as usize) < workspace(before, *side).len() {
                 true => format!("store {}", name(*side)),
                 false => "store outside".to_string(),
-            });
+            }
         }
-        (Operation::Print, _) => census.meet("print"),
+        (Operation::Print, _) => "print".to_string(),
         other => panic!("another event than the call's: {other:?}"),
+    }
+}
+
+fn shown(lengths: (u32, u32), part: Option<(Side, usize)>) -> &'static str {
+    match part {
+        Some((Side::Left, _)) if lengths.0 == lengths.1 => "show left of equals",
+        Some((Side::Left, _)) => "show left",
+        Some((Side::Right, _)) => "show right",
+        None => "show nothing",
+    }
+}
+
+fn written(length: u32, table: usize, answer: Result<u32, Refusal>) -> String {
+    let fitting = 4 * (length as usize + 1);
+    match answer {
+        Ok(_) => String::new(),
+        Err(Refusal::TableLength) if table < fitting => ", 1 by too short".to_string(),
+        Err(Refusal::TableLength) => ", 1 by too long".to_string(),
+        Err(refusal) => format!(", {refusal}"),
     }
 }
 
@@ -198,14 +233,37 @@ fn wrong_term(before: &Machine, lengths: (u32, u32)) -> &'static str {
     }
 }
 
+/// Calls and answers that have no side.
+const CALLS: [&str; 20] = [
+    "press, Same",
+    "press, Different",
+    "press, Budget",
+    "press, Full",
+    "press, 7 by the left",
+    "press, 7 by the right",
+    "press, 7 by unequal workspaces",
+    "press, 7 by the scratch",
+    "press, 7 by an unequal scratch",
+    "press, 9",
+    "set session, Same",
+    "set session, Different",
+    "set session, Budget",
+    "set session, Full",
+    "show left",
+    "show left of equals",
+    "show right",
+    "show nothing",
+    "store outside",
+    "print",
+];
+
 #[test]
 fn scripts_reach_every_call_and_answer() {
     let census = on_large_stack(|| {
         let mut census = Census::default();
         for case in 0..1_200 {
-            let input = scripts::script(42, case);
-            each_call(&input, |before, operation, event| {
-                look_at_call(before, operation, event, &mut census);
+            each_call(&scripts::script(42, case), |before, operation, event| {
+                census.meet(called(before, operation, event));
             });
         }
         census
@@ -221,27 +279,8 @@ fn scripts_reach_every_call_and_answer() {
         let lengths = ["length 0", "length above C", "words"];
         features.extend(lengths.map(|wrong| format!("press, 10 by the {side}'s {wrong}")));
     }
-    for verdict in ["Same", "Different", "Budget", "Full"] {
-        features.push(format!("press, {verdict}"));
-        features.push(format!("set session, {verdict}"));
-    }
-    let others = [
-        "press, 7 by the left",
-        "press, 7 by the right",
-        "press, 7 by unequal workspaces",
-        "press, 7 by the scratch",
-        "press, 7 by an unequal scratch",
-        "press, 9",
-        "show left",
-        "show left of equals",
-        "show right",
-        "show nothing",
-        "store outside",
-        "print",
-    ];
-    features.extend(others.map(str::to_string));
     let features: Vec<&str> = features.iter().map(String::as_str).collect();
-    census.assert_reaches(4, &features);
+    census.assert_reaches(4, &[&features[..], &CALLS].concat());
 }
 
 /// Why the words at the break are no operation.
@@ -262,6 +301,30 @@ fn broken(bytes: &[u8]) -> String {
         _ => format!("{code}: cut"),
     }
 }
+
+/// Ways in which a script breaks off, and lengths at their limit.
+const BREAKS: [&str; 20] = [
+    "32,768 words",
+    "32,769 words",
+    "no start",
+    "some bytes",
+    "operation 0",
+    "operation 8",
+    "far operation",
+    "1: side",
+    "1: count",
+    "1: cut",
+    "2: count",
+    "2: cut",
+    "3: cut",
+    "4: side",
+    "4: count",
+    "4: cut",
+    "5: verdict",
+    "5: cut",
+    "6: side",
+    "6: cut",
+];
 
 #[test]
 fn broken_scripts_are_broken_in_every_way() {
@@ -287,86 +350,61 @@ fn broken_scripts_are_broken_in_every_way() {
         }
         census
     });
-    census.assert_reaches(
-        2,
-        &[
-            "32,768 words",
-            "32,769 words",
-            "no start",
-            "some bytes",
-            "operation 0",
-            "operation 8",
-            "far operation",
-            "1: side",
-            "1: count",
-            "1: cut",
-            "2: count",
-            "2: cut",
-            "3: cut",
-            "4: side",
-            "4: count",
-            "4: cut",
-            "5: verdict",
-            "5: cut",
-            "6: side",
-            "6: cut",
-        ],
-    );
+    census.assert_reaches(2, &BREAKS);
 }
 
 /// Presses around the limits of budget and total, and words behind a term.
 fn look_at_limits(before: &Machine, operation: &Operation, event: Event, census: &mut Census) {
-    if let (Operation::Load { side, .. }, Event::Load(Ok(length))) = (operation, event) {
-        let workspace = match side {
-            Side::Left => &before.left,
-            Side::Right => &before.right,
-        };
-        let over = workspace[length as usize..].iter().any(|word| *word != 0);
-        census.meet_if(over, "loaded over other words");
-    }
-    let (
-        Operation::Press {
-            budget, lengths, ..
-        },
-        Event::Press(answer),
-    ) = (operation, event)
-    else {
-        return;
-    };
-    let mut behind = before.left.iter().skip(lengths.0 as usize);
-    let tail = behind.any(|word| *word != 0);
-    let total = u64::from(before.session.total);
-    let sum = total + u64::from(*budget);
-    match answer {
-        Ok(answer) => {
-            census.meet_if(tail && answer.spent > 0, "a tail becomes zeros");
-            census.meet_if(
-                tail && answer.spent == 0,
-                "a tail becomes zeros without a round",
-            );
-            census.meet_if(sum == 1_000_000_000, "sum at its limit");
-            census.meet_if(*budget == 1_000_000, "budget at its limit");
-            census.meet_if(*budget == 0, "budget 0");
-            let ended = matches!(before.session.verdict, Verdict::Same | Verdict::Different);
-            census.meet_if(total > 0 && ended, "pressed on after an end");
-            census.meet_if(
-                total > 0 && !ended && answer.spent > 0,
-                "pressed on after Budget",
-            );
-            census.meet_if(answer.left as usize == before.left.len(), "left of C words");
+    match (operation, event) {
+        (Operation::Load { side, .. }, Event::Load(Ok(length))) => {
+            let mut behind = workspace(before, *side)[length as usize..].iter();
+            census.meet_if(behind.any(|word| *word != 0), "loaded over other words");
         }
-        Err(Refusal::Budget) => {
-            census.meet_if(tail, "a tail kept by a refusal");
-            census.meet_if(*budget == 1_000_001, "budget just above");
-            census.meet_if(
-                *budget <= 1_000_000 && sum == 1_000_000_001,
-                "sum just above",
-            );
-            census.meet_if(*budget == 0, "total above alone");
-            census.meet_if(sum > u64::from(u32::MAX), "sum past 32 bits");
+        (
+            Operation::Press {
+                budget, lengths, ..
+            },
+            Event::Press(answer),
+        ) => {
+            let mut behind = before.left.iter().skip(lengths.0 as usize);
+            let tail = behind.any(|word| *word != 0);
+            match answer {
+                Ok(answer) => look_at_pressed(before, *budget, tail, answer, census),
+                Err(Refusal::Budget) => look_at_budget(before, *budget, tail, census),
+                Err(_) => {}
+            }
         }
-        Err(_) => {}
+        _ => {}
     }
+}
+
+fn sum(before: &Machine, budget: u32) -> u64 {
+    u64::from(before.session.total) + u64::from(budget)
+}
+
+fn look_at_pressed(before: &Machine, budget: u32, tail: bool, answer: Answer, census: &mut Census) {
+    let spent = answer.spent > 0;
+    census.meet_if(tail && spent, "a tail becomes zeros");
+    census.meet_if(tail && !spent, "a tail becomes zeros without a round");
+    census.meet_if(sum(before, budget) == 1_000_000_000, "sum at its limit");
+    census.meet_if(budget == 1_000_000, "budget at its limit");
+    census.meet_if(budget == 0, "budget 0");
+    let ended = matches!(before.session.verdict, Verdict::Same | Verdict::Different);
+    let pressed = before.session.total > 0;
+    census.meet_if(pressed && ended, "pressed on after an end");
+    census.meet_if(pressed && !ended && spent, "pressed on after Budget");
+    census.meet_if(answer.left as usize == before.left.len(), "left of C words");
+}
+
+/// A press that is refused by its budget.
+fn look_at_budget(before: &Machine, budget: u32, tail: bool, census: &mut Census) {
+    let sum = sum(before, budget);
+    let just = budget <= 1_000_000 && sum == 1_000_000_001;
+    census.meet_if(tail, "a tail kept by a refusal");
+    census.meet_if(budget == 1_000_001, "budget just above");
+    census.meet_if(just, "sum just above");
+    census.meet_if(budget == 0, "total above alone");
+    census.meet_if(sum > u64::from(u32::MAX), "sum past 32 bits");
 }
 
 #[test]

@@ -11,6 +11,7 @@ use reference::on_large_stack;
 use reference::random::Random;
 use reference::refusal::Refusal;
 use reference::verdict::{outcome, Outcome, Request};
+use std::cmp::Ordering;
 
 const VARIABLE: u32 = 0;
 const ABSTRACTION: u32 = 1;
@@ -55,6 +56,25 @@ fn records(table: &[u32]) -> Vec<Record> {
         .collect()
 }
 
+/// Ways in which a table's length is wrong.
+const LENGTHS: [&str; 15] = [
+    "0 words",
+    "1 words",
+    "2 words",
+    "3 words",
+    "count 0",
+    "the header alone",
+    "one record too few",
+    "one record too many",
+    "one word too many",
+    "no whole records",
+    "many records too few",
+    "count 2,049",
+    "count that fits in 32 bits",
+    "count that fits in 32 bits, twice over",
+    "far count",
+];
+
 #[test]
 fn refusal_1() {
     let census = census(Refusal::TableLength, 800, |table, _, census| {
@@ -80,26 +100,7 @@ fn refusal_1() {
         });
         census.meet_if(count == 0 && length == 4, "the header alone");
     });
-    census.assert_reaches(
-        8,
-        &[
-            "0 words",
-            "1 words",
-            "2 words",
-            "3 words",
-            "count 0",
-            "the header alone",
-            "one record too few",
-            "one record too many",
-            "one word too many",
-            "no whole records",
-            "many records too few",
-            "count 2,049",
-            "count that fits in 32 bits",
-            "count that fits in 32 bits, twice over",
-            "far count",
-        ],
-    );
+    census.assert_reaches(8, &LENGTHS);
 }
 
 #[test]
@@ -166,62 +167,95 @@ fn refusal_8() {
     );
 }
 
+/// Ways in which a kind or value is wrong.
+const VALUES: [&str; 17] = [
+    "kind 6",
+    "kind 7",
+    "far kind",
+    "index just above",
+    "index far above",
+    "tag 0",
+    "tag just above",
+    "tag far above",
+    "branch's tag 0",
+    "branch's tag 0 of none bound",
+    "branch's tag just above",
+    "branch's tag far above",
+    "abstraction's value",
+    "application's value",
+    "case's value",
+    "in the first record",
+    "in the last record",
+];
+
+/// What is wrong with the kind or value of a record, if anything.
+fn wrong_value(record: &Record) -> Option<String> {
+    let tag = record.value / 16;
+    let (name, wrong) = match record.kind {
+        VARIABLE => ("index", record.value > 32_767),
+        CONSTRUCTOR => ("tag", !(1..=255).contains(&record.value)),
+        BRANCH => ("branch's tag", !(1..=255).contains(&tag)),
+        ABSTRACTION => ("abstraction's value", record.value != 0),
+        APPLICATION => ("application's value", record.value != 0),
+        CASE => ("case's value", record.value != 0),
+        6 | 7 => ("kind", true),
+        _ => ("far kind", true),
+    };
+    wrong.then(|| match (record.kind, record.value) {
+        (VARIABLE, 32_768) | (CONSTRUCTOR, 256) => format!("{name} just above"),
+        (BRANCH, _) if tag == 256 => format!("{name} just above"),
+        (CONSTRUCTOR, 0) => format!("{name} 0"),
+        (BRANCH, 0) => format!("{name} 0 of none bound"),
+        (BRANCH, _) if tag == 0 => format!("{name} 0"),
+        (VARIABLE | CONSTRUCTOR | BRANCH, _) => format!("{name} far above"),
+        (6 | 7, _) => format!("{name} {}", record.kind),
+        _ => name.to_string(),
+    })
+}
+
 #[test]
 fn refusal_3() {
     let census = census(Refusal::Value, 2_400, |table, _, census| {
         let records = records(table);
         let count = records.len() as u32;
         for record in &records {
-            let tag = record.value / 16;
-            let (feature, wrong) = match record.kind {
-                VARIABLE => ("index", record.value > 32_767),
-                CONSTRUCTOR => ("tag", !(1..=255).contains(&record.value)),
-                BRANCH => ("branch's tag", !(1..=255).contains(&tag)),
-                ABSTRACTION => ("abstraction's value", record.value != 0),
-                APPLICATION => ("application's value", record.value != 0),
-                CASE => ("case's value", record.value != 0),
-                6 | 7 => ("kind", true),
-                _ => ("far kind", true),
-            };
-            if !wrong {
-                continue;
+            if let Some(wrong) = wrong_value(record) {
+                census.meet(wrong);
+                census.meet_if(record.own == 1 && count > 1, "in the first record");
+                census.meet_if(record.own == count && count > 1, "in the last record");
             }
-            census.meet(match (record.kind, record.value) {
-                (VARIABLE, 32_768) | (CONSTRUCTOR, 256) => format!("{feature} just above"),
-                (BRANCH, _) if tag == 256 => format!("{feature} just above"),
-                (CONSTRUCTOR, 0) => format!("{feature} 0"),
-                (BRANCH, 0) => format!("{feature} 0 of none bound"),
-                (BRANCH, _) if tag == 0 => format!("{feature} 0"),
-                (VARIABLE | CONSTRUCTOR | BRANCH, _) => format!("{feature} far above"),
-                (6 | 7, _) => format!("{feature} {}", record.kind),
-                _ => feature.to_string(),
-            });
-            census.meet_if(record.own == 1 && count > 1, "in the first record");
-            census.meet_if(record.own == count && count > 1, "in the last record");
         }
     });
-    census.assert_reaches(
-        8,
-        &[
-            "kind 6",
-            "kind 7",
-            "far kind",
-            "index just above",
-            "index far above",
-            "tag 0",
-            "tag just above",
-            "tag far above",
-            "branch's tag 0",
-            "branch's tag 0 of none bound",
-            "branch's tag just above",
-            "branch's tag far above",
-            "abstraction's value",
-            "application's value",
-            "case's value",
-            "in the first record",
-            "in the last record",
-        ],
-    );
+    census.assert_reaches(8, &VALUES);
+}
+
+/// Ways in which links are wrong.
+const LINKS: [&str; 13] = [
+    "child to itself",
+    "child back",
+    "child past the last",
+    "child far off",
+    "next to itself",
+    "next back",
+    "next past the last",
+    "next far off",
+    "only a record that none names",
+    "only a record named twice",
+    "one named twice, one not",
+    "a circle, all named once",
+    "another root",
+];
+
+/// What is wrong with a link of record `own` in a table of `count` records.
+fn wrong_link(own: u32, link: u32, count: u32) -> Option<&'static str> {
+    match link {
+        0 => None,
+        _ if link == own => Some("to itself"),
+        _ if link < own => Some("back"),
+        _ if link <= count => None,
+        _ if link == count + 1 => Some("past the last"),
+        _ => Some("far off"),
+    }
 }
 
 #[test]
@@ -234,20 +268,12 @@ fn refusal_4() {
         let (mut onward, mut back) = (true, false);
         for record in &records {
             for (name, link) in ["child", "next"].into_iter().zip(record.links) {
-                let wrong = match link {
-                    0 => continue,
-                    _ if link == record.own => "to itself",
-                    _ if link < record.own => "back",
-                    _ if link == count + 1 => "past the last",
-                    _ if link > count => "far off",
-                    _ => "",
-                };
-                if link <= count {
+                if (1..=count).contains(&link) {
                     named[link as usize] += 1;
                 }
-                back |= link <= record.own;
-                if !wrong.is_empty() {
+                if let Some(wrong) = wrong_link(record.own, link, count) {
                     onward = false;
+                    back |= link <= record.own;
                     census.meet(format!("{name} {wrong}"));
                 }
             }
@@ -260,24 +286,7 @@ fn refusal_4() {
         census.meet_if(back && !twice && !unnamed, "a circle, all named once");
         census.meet_if(table[2] != 1, "another root");
     });
-    census.assert_reaches(
-        6,
-        &[
-            "child to itself",
-            "child back",
-            "child past the last",
-            "child far off",
-            "next to itself",
-            "next back",
-            "next past the last",
-            "next far off",
-            "only a record that none names",
-            "only a record named twice",
-            "one named twice, one not",
-            "a circle, all named once",
-            "another root",
-        ],
-    );
+    census.assert_reaches(6, &LINKS);
 }
 
 /// The records on the chain of a record's children.
@@ -316,21 +325,62 @@ fn wrong_children(of: &Record, children: &[&Record]) -> Option<String> {
     if children[1..].iter().any(|child| child.kind != BRANCH) {
         return Some("case of a term later".to_string());
     }
-    let wrong = children[1..].windows(2).find_map(|pair| {
-        let tags = [pair[0].value / 16, pair[1].value / 16];
-        let bounds = [pair[0].value % 16, pair[1].value % 16];
-        match (tags[0].cmp(&tags[1]), bounds[0] < bounds[1]) {
-            (std::cmp::Ordering::Less, _) => None,
-            (std::cmp::Ordering::Equal, false) => Some("case of equal tags"),
-            (std::cmp::Ordering::Equal, true) => Some("case of equal tags, the bound counts rise"),
-            (std::cmp::Ordering::Greater, false) => Some("case of falling tags"),
-            (std::cmp::Ordering::Greater, true) => {
-                Some("case of falling tags, the bound counts rise")
-            }
-        }
-    });
-    wrong.map(str::to_string)
+    wrong_tags(&children[1..]).map(str::to_string)
 }
+
+/// What is wrong with the tags of branches, if anything.
+fn wrong_tags(branches: &[&Record]) -> Option<&'static str> {
+    branches.windows(2).find_map(|pair| {
+        let tags = [pair[0].value / 16, pair[1].value / 16];
+        let rise = pair[0].value % 16 < pair[1].value % 16;
+        match (tags[0].cmp(&tags[1]), rise) {
+            (Ordering::Less, _) => None,
+            (Ordering::Equal, false) => Some("case of equal tags"),
+            (Ordering::Equal, true) => Some("case of equal tags, the bound counts rise"),
+            (Ordering::Greater, false) => Some("case of falling tags"),
+            (Ordering::Greater, true) => Some("case of falling tags, the bound counts rise"),
+        }
+    })
+}
+
+/// Ways in which records are not a term's.
+const STRUCTURES: [&str; 35] = [
+    "root a branch",
+    "root with a next",
+    "root with a next that is a branch",
+    "variable of one too many",
+    "abstraction of 0",
+    "abstraction of one too many",
+    "abstraction of some too many",
+    "abstraction of a branch first",
+    "application of 0",
+    "application of 1",
+    "application of one too many",
+    "application of some too many",
+    "application of a branch first",
+    "application of a branch later",
+    "constructor of one too many",
+    "constructor of some too many",
+    "constructor of a branch first",
+    "constructor of a branch later",
+    "case of 0",
+    "case of one too many",
+    "case of some too many",
+    "case of a branch first",
+    "case of a term later",
+    "case of equal tags",
+    "case of equal tags, the bound counts rise",
+    "case of falling tags",
+    "case of falling tags, the bound counts rise",
+    "branch of 0",
+    "branch of one too many",
+    "branch of a branch first",
+    "at the end of a long column",
+    "long chain of kind 1",
+    "long chain of kind 2",
+    "long chain of kind 3",
+    "long chain of kind 4",
+];
 
 #[test]
 fn refusal_5() {
@@ -358,46 +408,7 @@ fn refusal_5() {
             }
         }
     });
-    census.assert_reaches(
-        5,
-        &[
-            "root a branch",
-            "root with a next",
-            "root with a next that is a branch",
-            "variable of one too many",
-            "abstraction of 0",
-            "abstraction of one too many",
-            "abstraction of some too many",
-            "abstraction of a branch first",
-            "application of 0",
-            "application of 1",
-            "application of one too many",
-            "application of some too many",
-            "application of a branch first",
-            "application of a branch later",
-            "constructor of one too many",
-            "constructor of some too many",
-            "constructor of a branch first",
-            "constructor of a branch later",
-            "case of 0",
-            "case of one too many",
-            "case of some too many",
-            "case of a branch first",
-            "case of a term later",
-            "case of equal tags",
-            "case of equal tags, the bound counts rise",
-            "case of falling tags",
-            "case of falling tags, the bound counts rise",
-            "branch of 0",
-            "branch of one too many",
-            "branch of a branch first",
-            "at the end of a long column",
-            "long chain of kind 1",
-            "long chain of kind 2",
-            "long chain of kind 3",
-            "long chain of kind 4",
-        ],
-    );
+    census.assert_reaches(5, &STRUCTURES);
 }
 
 /// Each variable's index with the binders around it, from a record on.
@@ -452,38 +463,39 @@ fn refusal_6() {
     );
 }
 
+/// What an input is refused by, and on which side.
+fn look_at_refused(request: &Request, refusal: Refusal, census: &mut Census) {
+    let capacity = request.capacity as usize;
+    match refusal {
+        Refusal::Workspace => census.meet(match capacity {
+            15 => "7 by 15 words",
+            2_049 => "7 by 2,049 words",
+            0..=14 => "7 by fewer",
+            _ => "7 by more",
+        }),
+        Refusal::Budget => census.meet(match request.budget {
+            1_000_001 => "9 by one",
+            _ => "9 by more",
+        }),
+        refusal => {
+            let left = loaded(&request.left, capacity).0 == Err(refusal);
+            let right = loaded(&request.right, capacity).0.is_err();
+            let side = if left { "left" } else { "right" };
+            census.meet(format!("{refusal} {side}"));
+            census.meet_if(left && right, "left before right");
+        }
+    }
+}
+
 #[test]
 fn inputs_put_every_fault_on_either_side() {
     let census = on_large_stack(|| {
         let mut census = Census::default();
         for case in 0..3_000 {
             let input = inputs::input(22, case);
-            let (Some(request), Outcome::Refused(refusal)) =
-                (Request::read(&input), outcome(&input))
-            else {
-                continue;
-            };
-            let capacity = request.capacity as usize;
-            match refusal {
-                Refusal::Workspace => census.meet(match capacity {
-                    15 => "7 by 15 words",
-                    2_049 => "7 by 2,049 words",
-                    0..=14 => "7 by fewer",
-                    _ => "7 by more",
-                }),
-                Refusal::Budget => census.meet(match request.budget {
-                    1_000_001 => "9 by one",
-                    _ => "9 by more",
-                }),
-                refusal => {
-                    let left = loaded(&request.left, capacity).0 == Err(refusal);
-                    census.meet(format!(
-                        "{refusal} {}",
-                        ["right", "left"][usize::from(left)]
-                    ));
-                    let also = loaded(&request.right, capacity).0.is_err();
-                    census.meet_if(left && also, "left before right");
-                }
+            let request = Request::read(&input);
+            if let (Some(request), Outcome::Refused(refusal)) = (request, outcome(&input)) {
+                look_at_refused(&request, refusal, &mut census);
             }
         }
         census

@@ -6,15 +6,15 @@ use Rattle.rounds.proofs.PressCode.{affords-total, runs, refused-worksp
 use Rattle.rounds.proofs.press.Statement.{statement}
 use Rattle.rounds.proofs.press.Tie as tie
 
-sizes-pass-requires : tie.Need-sizes-pass-requires
-sizes-pass-requires c κs = search needs
+sized-requires : tie.Need-sized-requires
+sized-requires c κs = search needs
 
 refused-requires : tie.Need-refused-requires
 refused-requires c κs = search needs
 
 returns : tie.Need-returns
 returns c =
-    rw (c .refused .ensures) (sym (refused-workspace _ _ (sym (c .before .before .sizes-pass .ensures) ∙ not-true _ (c .before .if1 .taken))))
+    rw (c .refused .ensures) (sym (refused-workspace _ _ (sym (c .before .before .sized .ensures) ∙ not-true _ (c .before .if1 .taken))))
 
 budget-passes-requires : tie.Need-budget-passes-requires
 budget-passes-requires c κs = search needs
@@ -24,7 +24,7 @@ refused-requires-2 c κs = search needs
 
 returns-2 : tie.Need-returns-2
 returns-2 c =
-    let fits = sym (c .before .before .before .before .sizes-pass .ensures) ∙ not-false _ (c .before .before .before .if1 .left) in
+    let fits = sym (c .before .before .before .before .sized .ensures) ∙ not-false _ (c .before .before .before .if1 .left) in
     rw (c .refused2 .ensures) (sym (refused-budget _ _ fits (sym (c .before .before .budget-passes .ensures) ∙ not-true _ (c .before .if2 .taken))))
 
 is-term-requires : tie.Need-is-term-requires
@@ -38,7 +38,7 @@ same-length c = search needs
 
 returns-3 : tie.Need-returns-3
 returns-3 c =
-    let fits = sym (c .before .before .before .before .before .before .before .sizes-pass .ensures) ∙ not-false _ (c .before .before .before .before .before .before .if1 .left) in
+    let fits = sym (c .before .before .before .before .before .before .before .sized .ensures) ∙ not-false _ (c .before .before .before .before .before .before .if1 .left) in
     let affords = sym (c .before .before .before .before .before .budget-passes .ensures) ∙ not-false _ (c .before .before .before .before .if2 .left) in
     rw (c .refused3 .ensures) (sym (refused-left _ _ fits affords (sym (c .before .before .is-term .ensures) ∙ not-true _ (c .before .if3 .taken))))
 
@@ -56,14 +56,14 @@ same-length-3 c = search needs
 
 returns-4 : tie.Need-returns-4
 returns-4 c =
-    let fits = sym (c .before .before .before .before .before .before .before .before .before .before .sizes-pass .ensures) ∙ not-false _ (c .before .before .before .before .before .before .before .before .before .if1 .left) in
+    let fits = sym (c .before .before .before .before .before .before .before .before .before .before .sized .ensures) ∙ not-false _ (c .before .before .before .before .before .before .before .before .before .if1 .left) in
     let affords = sym (c .before .before .before .before .before .before .before .before .budget-passes .ensures) ∙ not-false _ (c .before .before .before .before .before .before .before .if2 .left) in
     let is-left = sym (c .before .before .before .before .before .is-term .ensures) ∙ not-false _ (c .before .before .before .before .if3 .left) in
     rw (c .refused4 .ensures) (sym (refused-right _ _ fits affords is-left (sym (c .before .before .is-term2 .ensures) ∙ not-true _ (c .before .if4 .taken))))
 
 press-terms-requires : tie.Need-press-terms-requires
 press-terms-requires c κs =
-    let fits = sym (c .before .before .before .before .before .before .before .before .before .before .before .before .sizes-pass .ensures) ∙ not-false _ (c .before .before .before .before .before .before .before .before .before .before .before .if1 .left) in
+    let fits = sym (c .before .before .before .before .before .before .before .before .before .before .before .before .sized .ensures) ∙ not-false _ (c .before .before .before .before .before .before .before .before .before .before .before .if1 .left) in
     let affords = sym (c .before .before .before .before .before .before .before .before .before .before .budget-passes .ensures) ∙ not-false _ (c .before .before .before .before .before .before .before .before .before .if2 .left) in
     let is-left = sym (c .before .before .before .before .before .before .before .is-term .ensures) ∙ not-false _ (c .before .before .before .before .before .before .if3 .left) in
     let is-right = sym (c .before .before .before .before .is-term2 .ensures) ∙ not-false _ (c .before .before .before .if4 .left) in
@@ -80,7 +80,7 @@ same-length-6 c = search needs
 
 returns-5 : tie.Need-returns-5
 returns-5 c =
-    let fits = sym (c .before .before .before .before .before .before .before .before .before .before .before .before .before .before .before .before .before .before .before .sizes-pass .ensures) ∙ not-false _ (c .before .before .before .before .before .before .before .before .before .before .before .before .before .before .before .before .before .before .if1 .left) in
+    let fits = sym (c .before .before .before .before .before .before .before .before .before .before .before .before .before .before .before .before .before .before .before .sized .ensures) ∙ not-false _ (c .before .before .before .before .before .before .before .before .before .before .before .before .before .before .before .before .before .before .if1 .left) in
     let affords = sym (c .before .before .before .before .before .before .before .before .before .before .before .before .before .before .before .before .before .budget-passes .ensures) ∙ not-false _ (c .before .before .before .before .before .before .before .before .before .before .before .before .before .before .before .before .if2 .left) in
     let is-left = sym (c .before .before .before .before .before .before .before .before .before .before .before .before .before .before .is-term .ensures) ∙ not-false _ (c .before .before .before .before .before .before .before .before .before .before .before .before .before .if3 .left) in
     let is-right = sym (c .before .before .before .before .before .before .before .before .before .before .before .is-term2 .ensures) ∙ not-false _ (c .before .before .before .before .before .before .before .before .before .before .if4 .left) in
@@ -90,7 +90,7 @@ pub press-spec : {M : Type 1} → statement M
 press-spec =
     tie.close
     (tie.spec
-    sizes-pass-requires
+    sized-requires
     refused-requires
     returns
     budget-passes-requires

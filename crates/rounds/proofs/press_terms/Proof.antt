@@ -1,6 +1,5 @@
 -- `press_terms` meets its contract: the rounds leave the two terms, and clearing leaves zeros after them. Assumes nothing.
 use mathlib.Core.Path.{_∙_}
-use native.Mathlib.Omega.{arith}
 use borrow.Author.Needs.{needs}
 use Rattle.rounds.specs.Types.{sessionOf}
 use Rattle.rounds.proofs.PressCode.{ran-left-fits, ran-right-fits, ran-concludes}
@@ -19,8 +18,8 @@ clear-requires-2 c κs = ran-right-fits (c .before .before .before .before .befo
 clear-requires-3 : tie.Need-clear-requires-3
 clear-requires-3 c κs = search needs
 
-add-t27 : tie.Need-add-t27
-add-t27 c = omega (arith, c .before .before .before .before .before .before .before .before .before .before .before .before .before .before .before .before .before .before .before .run .ensures .within)
+add-t24 : tie.Need-add-t24
+add-t24 c = search needs
 
 same-length : tie.Need-same-length
 same-length c = search needs
@@ -33,9 +32,13 @@ same-length-3 c = search needs
 
 returns : tie.Need-returns
 returns c =
-    let start = c .before .before .before .before .before .before .before .before .before .before .before .before .before .before .before .before .before .before .before .before .before .before .before .before .before .before in
-    let ran = c .before .before .before .before .before .before .before .before .before .before .before .before .before .before .before .before .before .before .before .run in
-    ran-concludes (ran .ensures) _ (sessionOf (start .args .session)) (ran .kept .0) (ran .kept .1 .0 ∙ start .pre .0 .right-length) (c .before .before .before .before .before .before .before .before .before .before .before .clear .ensures) (c .before .before .before .before .before .before .before .clear2 .ensures) (c .before .before .before .clear3 .ensures)
+    let clear3 = c .before .before .before .before .clear3 in
+    let clear2 = c .before .before .before .before .before .before .before .before .clear2 in
+    let clear = c .before .before .before .before .before .before .before .before .before .before .before .before .clear in
+    let ran = c .before .before .before .before .before .before .before .before .before .before .before .before .before .before .before .before .before .before .before .before .run in
+    let start = c .before .before .before .before .before .before .before .before .before .before .before .before .before .before .before .before .before .before .before .before .before .before .before .before .before .before .before in
+    ran-concludes (ran .ensures) _ (sessionOf (start .args .session)) (ran .kept .0) (ran .kept .1 .0 ∙ start .pre .0 .right-length)
+    (clear .ensures) (clear2 .ensures) (clear3 .ensures)
 
 pub press-terms-spec : {M : Type 1} → statement M
 press-terms-spec =
@@ -45,7 +48,7 @@ press-terms-spec =
     clear-requires
     clear-requires-2
     clear-requires-3
-    add-t27
+    add-t24
     same-length
     same-length-2
     same-length-3

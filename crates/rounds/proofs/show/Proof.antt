@@ -8,8 +8,8 @@ use Rattle.rounds.proofs.ShowLaws.{shows-nothing, shows-no-left, shows-
 use Rattle.rounds.proofs.show.Statement.{statement}
 use Rattle.rounds.proofs.show.Tie as tie
 
-sizes-pass-requires : tie.Need-sizes-pass-requires
-sizes-pass-requires c κs = search needs
+sized-requires : tie.Need-sized-requires
+sized-requires c κs = search needs
 
 slice-aggregate-result : tie.Need-slice-aggregate-result
 slice-aggregate-result c = search needs
@@ -17,7 +17,7 @@ slice-aggregate-result c = search needs
 returns : tie.Need-returns
 returns c =
     let a = c .before .before .before .before .before .args in
-    sym (ap (partOf (a .left .ptr) (a .right .ptr) (a .left .now) (a .right .now)) (shows-nothing _ _ _ _ (sym (c .before .before .sizes-pass .ensures) ∙ not-true _ (c .before .if1 .taken))))
+    sym (ap (partOf (a .left .ptr) (a .right .ptr) (a .left .now) (a .right .now)) (shows-nothing _ _ _ _ (sym (c .before .before .sized .ensures) ∙ not-true _ (c .before .if1 .taken))))
 
 is-term-requires : tie.Need-is-term-requires
 is-term-requires c κs = search needs
@@ -27,7 +27,7 @@ slice-aggregate-result-2 c = search needs
 
 returns-2 : tie.Need-returns-2
 returns-2 c =
-    let fits = sym (c .before .before .before .before .sizes-pass .ensures) ∙ not-false _ (c .before .before .before .if1 .left) in
+    let fits = sym (c .before .before .before .before .sized .ensures) ∙ not-false _ (c .before .before .before .if1 .left) in
     let a = c .before .before .before .before .before .before .before .args in
     sym (ap (partOf (a .left .ptr) (a .right .ptr) (a .left .now) (a .right .now)) (shows-no-left _ _ _ _ fits (sym (c .before .before .is-term .ensures) ∙ not-true _ (c .before .if2 .taken))))
 
@@ -39,14 +39,14 @@ slice-aggregate-result-3 c = search needs
 
 returns-3 : tie.Need-returns-3
 returns-3 c =
-    let fits = sym (c .before .before .before .before .before .before .sizes-pass .ensures) ∙ not-false _ (c .before .before .before .before .before .if1 .left) in
+    let fits = sym (c .before .before .before .before .before .before .sized .ensures) ∙ not-false _ (c .before .before .before .before .before .if1 .left) in
     let is-left = sym (c .before .before .before .before .is-term .ensures) ∙ not-false _ (c .before .before .before .if2 .left) in
     let a = c .before .before .before .before .before .before .before .before .before .args in
     sym (ap (partOf (a .left .ptr) (a .right .ptr) (a .left .now) (a .right .now)) (shows-no-right _ _ _ _ fits is-left (sym (c .before .before .is-term2 .ensures) ∙ not-true _ (c .before .if3 .taken))))
 
 slice-aggregate-result-4 : tie.Need-slice-aggregate-result-4
 slice-aggregate-result-4 c =
-    let fits = sym (c .before .before .before .before .before .before .before .sizes-pass .ensures) ∙ not-false _ (c .before .before .before .before .before .before .if1 .left) in
+    let fits = sym (c .before .before .before .before .before .before .before .sized .ensures) ∙ not-false _ (c .before .before .before .before .before .before .if1 .left) in
     let is-left = sym (c .before .before .before .before .before .is-term .ensures) ∙ not-false _ (c .before .before .before .before .if2 .left) in
     let is-right = sym (c .before .before .before .is-term2 .ensures) ∙ not-false _ (c .before .before .if3 .left) in
     let a = c .before .before .before .before .before .before .before .before .before .before .args in
@@ -54,7 +54,7 @@ slice-aggregate-result-4 c =
 
 returns-4 : tie.Need-returns-4
 returns-4 c =
-    let fits = sym (c .before .before .before .before .before .before .before .sizes-pass .ensures) ∙ not-false _ (c .before .before .before .before .before .before .if1 .left) in
+    let fits = sym (c .before .before .before .before .before .before .before .sized .ensures) ∙ not-false _ (c .before .before .before .before .before .before .if1 .left) in
     let is-left = sym (c .before .before .before .before .before .is-term .ensures) ∙ not-false _ (c .before .before .before .before .if2 .left) in
     let is-right = sym (c .before .before .before .is-term2 .ensures) ∙ not-false _ (c .before .before .if3 .left) in
     let a = c .before .before .before .before .before .before .before .before .before .before .args in
@@ -62,14 +62,14 @@ returns-4 c =
 
 slice-aggregate-result-5 : tie.Need-slice-aggregate-result-5
 slice-aggregate-result-5 c =
-    let fits = sym (c .before .before .before .before .before .before .before .sizes-pass .ensures) ∙ not-false _ (c .before .before .before .before .before .before .if1 .left) in
+    let fits = sym (c .before .before .before .before .before .before .before .sized .ensures) ∙ not-false _ (c .before .before .before .before .before .before .if1 .left) in
     let is-left = sym (c .before .before .before .before .before .is-term .ensures) ∙ not-false _ (c .before .before .before .before .if2 .left) in
     let a = c .before .before .before .before .before .before .before .before .before .before .args in
     sym (length-take-le (a .left-length) (a .left .now) (left-fits (a .left .now) (a .right .now) (a .left-length) (a .right-length) fits is-left))
 
 returns-5 : tie.Need-returns-5
 returns-5 c =
-    let fits = sym (c .before .before .before .before .before .before .before .sizes-pass .ensures) ∙ not-false _ (c .before .before .before .before .before .before .if1 .left) in
+    let fits = sym (c .before .before .before .before .before .before .before .sized .ensures) ∙ not-false _ (c .before .before .before .before .before .before .if1 .left) in
     let is-left = sym (c .before .before .before .before .before .is-term .ensures) ∙ not-false _ (c .before .before .before .before .if2 .left) in
     let is-right = sym (c .before .before .before .is-term2 .ensures) ∙ not-false _ (c .before .before .if3 .left) in
     let a = c .before .before .before .before .before .before .before .before .before .before .args in
@@ -79,7 +79,7 @@ pub show-spec : {M : Type 1} → statement M
 show-spec =
     tie.close
     (tie.spec
-    sizes-pass-requires
+    sized-requires
     slice-aggregate-result
     returns
     is-term-requires

@@ -1,13 +1,12 @@
 -- `first_met` meets its contract: each return knows that the checks before it pass.
 use mathlib.Core.Path.{_≡_, sym, _∙_}
 use mathlib.Core.Bool.{false}
-use native.Mathlib.Omega.{arith}
 use borrow.Author.Needs.{needs}
 use borrow.Author.Tests.{lt-ltb, le-ltb}
-use Rattle.tables.specs.Records.{view1}
+use Rattle.tables.specs.Types.{stored, viewed}
 use Rattle.tables.specs.Refusals.{wrongWorkspace, wrongLength, wrongHeader, tooLong, wrongValue, wrongLink, wrongChildren, wrongFree}
 use Rattle.tables.specs.Chains.{Walkable}
-use Rattle.tables.proofs.RecordLaws.{inside, rooted}
+use Rattle.tables.proofs.Refusal.RecordLaws.{headed, rooted}
 use Rattle.tables.proofs.first_met.Statement.{statement}
 use Rattle.tables.proofs.first_met.Tie as tie
 
@@ -15,25 +14,25 @@ use Rattle.tables.proofs.first_met.Tie as tie
 workspace-passed : (c : tie.Else1) → wrongWorkspace (c .before .before .before .args .room) ≡ false
 workspace-passed c = sym (c .before .wrong-workspace .ensures) ∙ c .if1 .left
 
-length-passed : (c : tie.Else2) → wrongLength (c .before .before .before .before .before .args .table .now) ≡ false
+length-passed : (c : tie.Else2) → wrongLength (stored (c .before .before .before .before .before .args .form) (c .before .before .before .before .before .args .table .now)) ≡ false
 length-passed c = sym (c .before .wrong-length .ensures) ∙ c .if2 .left
 
-header-passed : (c : tie.Else3) → wrongHeader (c .before .before .before .before .before .before .before .args .table .now) ≡ false
+header-passed : (c : tie.Else3) → wrongHeader (stored (c .before .before .before .before .before .before .before .args .form) (c .before .before .before .before .before .before .before .args .table .now)) ≡ false
 header-passed c = sym (c .before .wrong-header .ensures) ∙ c .if3 .left
 
-short-passed : (c : tie.Else4) → tooLong (view1 (c .before .before .before .before .before .before .before .before .before .args .table .now)) (c .before .before .before .before .before .before .before .before .before .args .room) ≡ false
+short-passed : (c : tie.Else4) → tooLong (viewed (c .before .before .before .before .before .before .before .before .before .args .form) (c .before .before .before .before .before .before .before .before .before .args .table .now)) (c .before .before .before .before .before .before .before .before .before .args .room) ≡ false
 short-passed c = rw (← c .before .count .ensures) (le-ltb _ _ (c .if4 .left))
 
-values-passed : (c : tie.Else5) → wrongValue (view1 (c .before .before .before .before .before .before .before .before .before .before .before .args .table .now)) ≡ false
+values-passed : (c : tie.Else5) → wrongValue (viewed (c .before .before .before .before .before .before .before .before .before .before .before .args .form) (c .before .before .before .before .before .before .before .before .before .before .before .args .table .now)) ≡ false
 values-passed c = sym (c .before .wrong-values .ensures) ∙ c .if5 .left
 
-links-passed : (c : tie.Else6) → wrongLink (view1 (c .before .before .before .before .before .before .before .before .before .before .before .before .before .args .table .now)) ≡ false
+links-passed : (c : tie.Else6) → wrongLink (viewed (c .before .before .before .before .before .before .before .before .before .before .before .before .before .args .form) (c .before .before .before .before .before .before .before .before .before .before .before .before .before .args .table .now)) ≡ false
 links-passed c = sym (c .before .wrong-links .ensures) ∙ c .if6 .left
 
-children-passed : (c : tie.Else7) → wrongChildren (view1 (c .before .before .before .before .before .before .before .before .before .before .before .before .before .before .before .args .table .now)) ≡ false
+children-passed : (c : tie.Else7) → wrongChildren (viewed (c .before .before .before .before .before .before .before .before .before .before .before .before .before .before .before .args .form) (c .before .before .before .before .before .before .before .before .before .before .before .before .before .before .before .args .table .now)) ≡ false
 children-passed c = sym (c .before .wrong-children .ensures) ∙ c .if7 .left
 
-free-passed : (c : tie.Else8) → wrongFree (view1 (c .before .before .before .before .before .before .before .before .before .before .before .before .before .before .before .before .before .args .table .now)) ≡ false
+free-passed : (c : tie.Else8) → wrongFree (viewed (c .before .before .before .before .before .before .before .before .before .before .before .before .before .before .before .before .before .args .form) (c .before .before .before .before .before .before .before .before .before .before .before .before .before .before .before .before .before .args .table .now)) ≡ false
 free-passed c = sym (c .before .wrong-free .ensures) ∙ c .if8 .left
 
 wrong-workspace-requires : tie.Need-wrong-workspace-requires
@@ -55,7 +54,7 @@ returns-3 : tie.Need-returns-3
 returns-3 c = rw (workspace-passed (c .before .before .before .before), length-passed (c .before .before), ← c .before .wrong-header .ensures, c .if3 .taken)
 
 count-requires : tie.Need-count-requires
-count-requires c κs = inside _ (length-passed (c .before .before)) 0 (omega arith)
+count-requires c κs = headed _ (length-passed (c .before .before))
 
 returns-4 : tie.Need-returns-4
 returns-4 c = rw (workspace-passed (c .before .before .before .before .before .before), length-passed (c .before .before .before .before), header-passed (c .before .before), ← c .before .count .ensures, lt-ltb _ _ (c .if4 .taken))
@@ -73,7 +72,7 @@ returns-6 : tie.Need-returns-6
 returns-6 c = rw (workspace-passed (c .before .before .before .before .before .before .before .before .before .before), length-passed (c .before .before .before .before .before .before .before .before), header-passed (c .before .before .before .before .before .before), short-passed (c .before .before .before .before), values-passed (c .before .before), ← c .before .wrong-links .ensures, c .if6 .taken)
 
 -- The root is a record of a table whose links fit.
-walkable : (c : tie.Else6) → Walkable (c .before .before .before .before .before .before .before .before .before .before .before .before .before .args .table .now) (view1 (c .before .before .before .before .before .before .before .before .before .before .before .before .before .args .table .now) .root)
+walkable : (c : tie.Else6) → Walkable (stored (c .before .before .before .before .before .before .before .before .before .before .before .before .before .args .form) (c .before .before .before .before .before .before .before .before .before .before .before .before .before .args .table .now)) (viewed (c .before .before .before .before .before .before .before .before .before .before .before .before .before .args .form) (c .before .before .before .before .before .before .before .before .before .before .before .before .before .args .table .now) .root)
 walkable c =
     let root = rooted _ (header-passed (c .before .before .before .before .before .before)) in
     record { length-fits = length-passed (c .before .before .before .before .before .before .before .before); links-fit = links-passed c; link-within = root .1 }

@@ -4,12 +4,12 @@ use mathlib.Core.Option.{none}
 use native.Mathlib.Omega.{arith}
 use lib.ListN.{length}
 use borrow.Author.Needs.{needs}
-use Rattle.tables.specs.Records.{view1}
-use Rattle.tables.specs.Load.{checks, firstMet, load}
+use Rattle.tables.specs.Load.{checks, firstMet, loadStored}
+use Rattle.tables.specs.Records.{view, inForm1}
 use Rattle.tables.specs.Types.{metOf}
 use Rattle.words.specs.Placed.{Placed}
 use Rattle.tables.specs.Reading.{termWords}
-use Rattle.tables.proofs.RecordLaws.{parts, inside}
+use Rattle.tables.proofs.Refusal.RecordLaws.{headed}
 use Rattle.tables.proofs.LoadCode.{passed, root-readable, room, loaded}
 use Rattle.words.proofs.PlacedLaws.{placed-length}
 use Rattle.tables.proofs.load.Statement.{statement}
@@ -26,33 +26,32 @@ enum-told c = search needs
 
 -- No refusal is met.
 unmet : (c : tie.After-enum-told)
-    → firstMet (checks (c .before .before .before .before .before .args .table .now) (length (c .before .before .before .before .before .args .workspace .now)))
+    → firstMet (checks (inForm1 (c .before .before .before .before .before .args .table .now)) (length (c .before .before .before .before .before .args .workspace .now)))
     ≡ none
 unmet c = sym (c .before .before .first-met .ensures) ∙ ap metOf (c .enum-told .given .1)
 
-at-requires : tie.Need-at-requires
-at-requires c κs =
+root-requires : tie.Need-root-requires
+root-requires c κs =
     let start = c .before .before .before .before .before .args in
-    inside (start .table .now) (passed (start .table .now) (start .workspace .now) (unmet c) .length-fits) 0 (omega arith)
+    headed _ (passed (inForm1 (start .table .now)) (start .workspace .now) (unmet c) .length-fits)
 
 read-term-requires : tie.Need-read-term-requires
 read-term-requires c κs =
     let start = c .before .before .before .before .before .before .before .args in
     let none-met = unmet (c .before .before) in
-    rw (parts (c .before .at .ensures) .first)
-    (root-readable (start .table .now) (start .workspace .now) none-met, omega (arith, room (start .table .now) (start .workspace .now) none-met))
+    let S = inForm1 (start .table .now) in
+    rw (c .before .root .ensures) (root-readable S (start .workspace .now) none-met, omega (arith, room S (start .workspace .now) none-met))
 
 -- The words of the term that the root means have been placed.
 placed : (c : tie.After-read-term)
-    → Placed (c .before .before .before .before .before .before .before .before .args .workspace .now) 0
-    (termWords (view1 (c .before .before .before .before .before .before .before .before .args .table .now))
-    (view1 (c .before .before .before .before .before .before .before .before .args .table .now) .root))
-    (c .read-term .last .1 .1 .0)
-    (c .read-term .result)
+    → let start = c .before .before .before .before .before .before .before .before .args in
+    let T = view (inForm1 (start .table .now)) in
+    Placed (start .workspace .now) 0 (termWords T (T .root)) (c .read-term .last .1 .1 .1 .0) (c .read-term .result)
 placed c =
     let start = c .before .before .before .before .before .before .before .before .args in
-    subst (λ l. Placed (start .workspace .now) 0 (termWords (view1 (start .table .now)) l) (c .read-term .last .1 .1 .0) (c .read-term .result))
-    (parts (c .before .before .at .ensures) .first)
+    let T = view (inForm1 (start .table .now)) in
+    subst (λ l. Placed (start .workspace .now) 0 (termWords T l) (c .read-term .last .1 .1 .1 .0) (c .read-term .result))
+    (c .before .before .root .ensures)
     (c .read-term .ensures)
 
 clear-requires : tie.Need-clear-requires
@@ -61,10 +60,10 @@ clear-requires c κs =
     let start = read .before .before .before .before .before .before .before .before .args in
     let p = placed read in
     omega
-    (arith, p .position, placed-length p, room (start .table .now) (start .workspace .now) (unmet (read .before .before .before)))
+    (arith, p .position, placed-length p, room (inForm1 (start .table .now)) (start .workspace .now) (unmet (read .before .before .before)))
 
 returns : tie.Need-returns
-unfolding load
+unfolding loadStored
 returns c = rw (← c .before .before .before .first-met .ensures, c .before .number .given .1)
 
 same-length : tie.Need-same-length
@@ -74,7 +73,7 @@ returns-2 : tie.Need-returns-2
 returns-2 c =
     let read = c .before .before .before .before .before .before in
     let start = read .before .before .before .before .before .before .before .before .args in
-    loaded (start .table .now) (start .workspace .now) (unmet (read .before .before .before)) _ _ _ (placed read) (c .before .before .clear .ensures)
+    loaded (inForm1 (start .table .now)) (start .workspace .now) (unmet (read .before .before .before)) _ _ _ (placed read) (c .before .before .clear .ensures)
 
 pub load-spec : {M : Type 1} → statement M
 load-spec =
@@ -83,7 +82,7 @@ load-spec =
     first-met-requires
     enum-known-number
     enum-told
-    at-requires
+    root-requires
     read-term-requires
     clear-requires
     returns

@@ -192,7 +192,6 @@ fn encoded(request: &Request) -> Vec<u8> {
 
 /// Bytes that are most often not laid out as an input.
 fn broken_bytes(random: &mut Random, mut request: Request) -> Vec<u8> {
-    const LEFT_COUNT: usize = 8;
     let longer = random.pick(&[LONGEST_TABLE + 1, LONGEST_TABLE + 4]);
     match random.below(12) {
         0 => return Vec::new(),
@@ -207,18 +206,6 @@ fn broken_bytes(random: &mut Random, mut request: Request) -> Vec<u8> {
     }
     let mut bytes = encoded(&request);
     let right_count = LEFT_COUNT + 4 * (request.left.len() + 1);
-    let (count, actual) = random.pick(&[
-        (LEFT_COUNT, request.left.len() as u32),
-        (right_count, request.right.len() as u32),
-    ]);
-    let wrong = random.pick(&[
-        actual + 1,
-        actual.wrapping_sub(1),
-        actual + (1 << 30),
-        actual + (1 << 31),
-        LONGEST_TABLE as u32 + 1,
-        u32::MAX,
-    ]);
     match random.below(6) {
         0 => {
             let end = random.pick(&[bytes.len(), right_count, right_count + 4]);
@@ -228,7 +215,26 @@ fn broken_bytes(random: &mut Random, mut request: Request) -> Vec<u8> {
         2 => bytes.truncate(4 * random.below(bytes.len() / 4)),
         3 => bytes.extend(vec![0; random.between(1, 8)]),
         4 => bytes.extend(bytes.clone()),
-        _ => bytes[count..count + 4].copy_from_slice(&wrong.to_le_bytes()),
+        _ => break_count(random, &mut bytes, [LEFT_COUNT, right_count]),
     }
     bytes
+}
+
+/// Where the count of the left table stands, in bytes.
+const LEFT_COUNT: usize = 8;
+
+/// Changes one of the counts, which stand at these places, to another.
+fn break_count(random: &mut Random, bytes: &mut [u8], places: [usize; 2]) {
+    let place = random.pick(&places);
+    let count = &mut bytes[place..place + 4];
+    let actual = u32::from_le_bytes([count[0], count[1], count[2], count[3]]);
+    let wrong = random.pick(&[
+        actual + 1,
+        actual.wrapping_sub(1),
+        actual + (1 << 30),
+        actual + (1 << 31),
+        LONGEST_TABLE as u32 + 1,
+        u32::MAX,
+    ]);
+    count.copy_from_slice(&wrong.to_le_bytes());
 }

@@ -1,44 +1,51 @@
 -- `wrong_header` meets its contract: each return knows the tests before it.
+use mathlib.Core.Path.{sym, _∙_}
 use native.Mathlib.Omega.{arith}
-use borrow.Author.Needs.{needs}
-use borrow.Author.Tests.{le-leb, lt-leb, eq-eqb, ne-eqb}
+use borrow.Author.Tests.{le-leb, lt-leb, not-true, not-false}
 use Rattle.tables.specs.Refusals.{wrongHeader}
-use Rattle.tables.proofs.RecordLaws.{ltb-not, parts, inside}
+use Rattle.tables.proofs.Refusal.RecordLaws.{ltb-not, inside, headed}
 use Rattle.tables.proofs.header.wrong_header.Statement.{statement}
 use Rattle.tables.proofs.header.wrong_header.Tie as tie
 
-at-requires : tie.Need-at-requires
-at-requires c κs = inside _ (c .before .pre) 0 (omega arith)
+header-fits-requires : tie.Need-header-fits-requires
+header-fits-requires c κs = inside _ (c .before .pre) 0 (omega arith)
 
 returns : tie.Need-returns
 unfolding wrongHeader
-returns c =
-    let h = parts (c .before .before .at .ensures) in
-    rw (← h .kind, ne-eqb _ _ (c .if1 .taken))
+returns c = rw (← c .before .header-fits .ensures, not-true (c .before .header-fits .result) (c .if1 .taken))
+
+root-requires : tie.Need-root-requires
+root-requires c κs = headed _ (c .before .before .before .pre)
 
 returns-2 : tie.Need-returns-2
 unfolding wrongHeader
 returns-2 c =
-    let h = parts (c .before .before .before .before .at .ensures) in
-    rw (← h .kind, eq-eqb _ _ (c .before .before .if1 .left), ← h .next, ne-eqb _ _ (c .if2 .taken))
+    let fits = c .before .before .before .header-fits in
+    rw (← fits .ensures, not-false (fits .result) (c .before .before .if1 .left), ← c .before .root .ensures, lt-leb 1 _ (c .if2 .taken))
+
+count-requires : tie.Need-count-requires
+count-requires c κs = headed _ (c .before .before .before .before .before .pre)
+
+root-requires-2 : tie.Need-root-requires-2
+root-requires-2 c κs = headed _ (c .before .before .before .before .before .before .pre)
 
 returns-3 : tie.Need-returns-3
 unfolding wrongHeader
 returns-3 c =
-    let h = parts (c .before .before .before .before .before .before .at .ensures) in
-    rw (← h .kind, eq-eqb _ _ (c .before .before .before .before .if1 .left), ← h .next, eq-eqb _ _ (c .before .before .if2 .left), ← h .first, lt-leb 1 _ (c .if3 .taken))
-
-cast-result : tie.Need-cast-result
-cast-result c = search needs
-
-returns-4 : tie.Need-returns-4
-unfolding wrongHeader
-returns-4 c =
-    let t = c .before .before in
-    let header = t .before .before .before .before .before .before .at in
-    let h = parts (header .ensures) in
-    rw (← h .kind, eq-eqb _ _ (t .before .before .before .before .if1 .left), ← h .next, eq-eqb _ _ (t .before .before .if2 .left), ← h .first, le-leb 1 _ (t .if3 .left), ← h .value)
-    (ltb-not (header .result .value) (header .result .first))
+    let p = c .before .before in
+    let fits = p .before .before .before .header-fits in
+    let root = p .before .root in
+    rw (← fits .ensures, not-false (fits .result) (p .before .before .if1 .left), ← root .ensures, le-leb 1 _ (p .if2 .left), ← c .before .count .ensures)
+    (rw (c .root2 .ensures ∙ sym (root .ensures)) (ltb-not (c .before .count .result) (root .result)))
 
 pub wrong-header-spec : {M : Type 1} → statement M
-wrong-header-spec = tie.close (tie.spec at-requires returns returns-2 returns-3 cast-result returns-4)
+wrong-header-spec =
+    tie.close
+    (tie.spec
+    header-fits-requires
+    returns
+    root-requires
+    returns-2
+    count-requires
+    root-requires-2
+    returns-3)

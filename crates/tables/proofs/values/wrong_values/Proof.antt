@@ -7,10 +7,11 @@ use lib.Dec.{leb}
 use borrow.Author.Needs.{needs}
 use borrow.Author.Tests.{not-true, not-false}
 use Rattle.calculus.specs.Words.{branchKind}
-use Rattle.tables.specs.Records.{Record, view1}
-use Rattle.tables.specs.Refusals.{everyOf, valueFits, wrongValue}
-use Rattle.tables.proofs.RecordLaws.{inside}
-use Rattle.tables.proofs.Loops.{every-more, every-fails, every-end}
+use Rattle.tables.specs.Types.{viewed}
+use Rattle.tables.specs.Records.{Record, everyOf}
+use Rattle.tables.specs.Refusals.{valueFits, wrongValue}
+use Rattle.tables.proofs.Refusal.RecordLaws.{headed, inside}
+use Rattle.tables.proofs.Refusal.Loops.{every-more, every-fails, every-end}
 use Rattle.tables.proofs.values.wrong_values.Statement.{statement}
 use Rattle.tables.proofs.values.wrong_values.Tie as tie
 
@@ -19,13 +20,13 @@ abbrev valued : Record → Bool
 valued r = leb (r .kind) branchKind && valueFits (r .kind) (r .value)
 
 abbrev Inv-loop : tie.InvT-loop
-Inv-loop table n i₀ i = (i ≤ n) × (everyOf i (λ j. valued (view1 table .at j)) ≡ true)
+Inv-loop table form n i₀ i = (i ≤ n) × (everyOf i (λ j. valued (viewed form table .at j)) ≡ true)
 
 abbrev μ-loop : tie.MeasureT-loop
-μ-loop table n i₀ i = n - i
+μ-loop table form n i₀ i = n - i
 
 count-requires : tie.Need-count-requires Inv-loop μ-loop
-count-requires c κs = inside _ (c .before .pre) 0 (omega arith)
+count-requires c κs = headed _ (c .before .pre)
 
 loop-holds : tie.Need-loop-holds Inv-loop μ-loop
 loop-holds c = (omega arith, refl)
@@ -41,7 +42,7 @@ value-fits-requires c κs = search needs
 
 -- What was tested is the test of the record.
 tested : (c : tie.After-value-fits Inv-loop μ-loop)
-    → valued (view1 (c .before .before .before .before .before .before .args .table .now) .at (c .before .before .before .loop .i + 1))
+    → valued (viewed (c .before .before .before .before .before .before .args .form) (c .before .before .before .before .before .before .args .table .now) .at (c .before .before .before .loop .i + 1))
     ≡ c .value-fits .result
 tested c = sym (c .value-fits .ensures ∙ ap valued (c .before .at .ensures))
 
@@ -49,7 +50,7 @@ returns : tie.Need-returns Inv-loop μ-loop
 unfolding wrongValue
 returns c =
     let l = c .before .before .before .before in
-    let T = view1 (l .before .before .before .args .table .now) in
+    let T = viewed (l .before .before .before .args .form) (l .before .before .before .args .table .now) in
     rw (every-fails (T .n) (λ j. valued (T .at j)) (l .loop .i + 1) (omega arith) (omega (arith, l .before .count .ensures)) (tested (c .before) ∙ not-true _ (c .if1 .taken)))
 
 loop-less : tie.Need-loop-less Inv-loop μ-loop
@@ -58,14 +59,14 @@ loop-less c = omega arith
 loop-again : tie.Need-loop-again Inv-loop μ-loop
 loop-again c =
     let l = c .before .before .before .before in
-    let T = view1 (l .before .before .before .args .table .now) in
+    let T = viewed (l .before .before .before .args .form) (l .before .before .before .args .table .now) in
     (omega arith, every-more (λ j. valued (T .at j)) (l .loop .i) (l .loop .inv .1) (tested (c .before) ∙ not-false _ (c .if1 .left)))
 
 returns-2 : tie.Need-returns-2 Inv-loop μ-loop
 unfolding wrongValue
 returns-2 c =
     let l = c .before in
-    let T = view1 (l .before .before .before .args .table .now) in
+    let T = viewed (l .before .before .before .args .form) (l .before .before .before .args .table .now) in
     rw (every-end (T .n) (λ j. valued (T .at j)) (l .loop .i) (omega (arith, l .before .count .ensures)) (omega (arith, l .before .count .ensures)) (l .loop .inv .1))
 
 pub wrong-values-spec : {M : Type 1} → statement M

@@ -12,8 +12,11 @@ enum-told c = search needs
 returns : tie.Need-returns
 returns c = search needs
 
+number-requires : tie.Need-number-requires
+number-requires c κs = search needs
+
 returns-2 : tie.Need-returns-2
-returns-2 c = rw (c .before .answer .given .1)
+returns-2 c = rw (c .number .ensures, c .before .before .answer .given .1)
 
 pub refuses-spec : {M : Type 1} → statement M
-refuses-spec = tie.close (tie.spec enum-known-answer enum-told returns returns-2)
+refuses-spec = tie.close (tie.spec enum-known-answer enum-told returns number-requires returns-2)

@@ -1,0 +1,11 @@
+-- What a table means: that the records that meet no refusal mean one accepted term, and that the readers read it.
+pub mod MeaningLaws
+pub mod Extent
+pub mod ChainMeaning
+pub mod Exists
+pub mod Accepts
+pub mod SoundMeans
+pub mod Hanging
+pub mod ReadingLaws
+pub mod Turns
+pub mod ReadingMeaning

@@ -1,0 +1,121 @@
+-- The readers' turns: what is read at a link that is not 0, and how many records are ahead after it.
+use Prim.Native.Nat.{ℕ, suc, _+_, _-_, _≤_, _<_}
+use mathlib.Core.Path.{_≡_, refl, ap, _∙_}
+use mathlib.Core.Bool.{Bool, true, false, false≢true, cond, _&&_, and-eq-true-iff}
+use mathlib.Core.List.{List, [], _∷_, _++_}
+use mathlib.Core.Logic.{inl, inr}
+use native.Mathlib.Omega.{arith}
+use lib.Dec.{leb, eqb}
+use lib.ListN.{length, length-append}
+use borrow.Author.Tests.{leb-true, eqb-true, eq-eqb, ne-eqb}
+use Rattle.calculus.specs.Words.{variableKind, constructorKind, caseKind, branchKind, tagOf, countOf, word, pack, workspaceMost}
+use Rattle.calculus.specs.Accepted.{argumentLimit, indexLimit}
+use Rattle.words.specs.Limits.{payloadBound}
+use Rattle.tables.specs.Records.{Record, Table, Stored, recordAt, view}
+use Rattle.tables.specs.Refusals.{isTag, valueFits, children, childrenFit}
+use Rattle.tables.specs.Chains.{chainFrom}
+use Rattle.tables.specs.Reading.{ahead, payload, Wordable, chainWords, termWords, chainScoped, termScoped, Readable}
+use Rattle.tables.proofs.Refusal.LinkRules.{Ahead, Linked, linked}
+use Rattle.tables.proofs.Refusal.Fits.{valued, fitted}
+use Rattle.tables.proofs.Meaning.Hanging.{hanging-zero, hanging-record}
+use Rattle.tables.proofs.Refusal.RecordLaws.{sized}
+use Rattle.tables.proofs.Refusal.Walks.{walk-short, walked}
+
+module _ (T : Table) where
+  pub chainWords-end : (l : ℕ) → l ≡ 0 → chainWords T l ≡ []
+  unfolding chainWords
+  chainWords-end l e = rw e (hanging-zero T [] _ (T .n))
+
+  pub chainWords-record : Linked T → (i : ℕ) → 1 ≤ i → i ≤ T .n → chainWords T i ≡ termWords T i ++ chainWords T (T .at i .next)
+  unfolding chainWords
+  chainWords-record L i l u = hanging-record T [] _ L i l u
+
+  pub chainScoped-end : (l d : ℕ) → l ≡ 0 → chainScoped T l d ≡ true
+  unfolding chainScoped
+  chainScoped-end l d e = rw e (ap (λ (f : ℕ → Bool). f d) (hanging-zero T (λ d′. true) _ (T .n)))
+
+  pub chainScoped-record : Linked T → (i d : ℕ) → 1 ≤ i → i ≤ T .n → chainScoped T i d ≡ (termScoped T i d && chainScoped T (T .at i .next) d)
+  unfolding chainScoped
+  chainScoped-record L i d l u = ap (λ (f : ℕ → Bool). f d) (hanging-record T (λ d′. true) _ L i l u)
+
+  -- Fewer records are ahead at a link of a record than at the record.
+  pub ahead-end : (l : ℕ) → l ≡ 0 → ahead T l ≡ 0
+  ahead-end l e = rw (eq-eqb l 0 e)
+
+  pub ahead-record : (i : ℕ) → 1 ≤ i → ahead T i ≡ suc (T .n) - i
+  ahead-record i l = rw (ne-eqb i 0 (λ e. omega arith))
+
+  ahead-falls : (i l : ℕ) → 1 ≤ i → i ≤ T .n → Ahead T i l → ahead T l < ahead T i
+  ahead-falls i l v u (inl e) = omega (arith, ahead-end l e, ahead-record i v)
+  ahead-falls i l v u (inr a) = omega (arith, ahead-record l (omega arith), ahead-record i v)
+
+-- Values that fit are small, and so are payloads of them.
+value-small : (k v : ℕ) → valueFits k v ≡ true → v ≤ indexLimit
+unfolding valueFits
+value-small k v h = go (eqb k variableKind) (eqb k constructorKind) (eqb k branchKind) h
+  where
+    tag : (t : ℕ) → isTag t ≡ true → t ≤ 255
+    tag t e = leb-true t 255 (and-eq-true-iff (leb 1 t) (leb t 255) .0 e .1)
+
+    go : (a b c : Bool) → cond a (leb v indexLimit) (cond b (isTag v) (cond c (isTag (tagOf v) && leb (countOf v) argumentLimit) (eqb v 0))) ≡ true
+        → v ≤ indexLimit
+    go true b c e = leb-true v indexLimit e
+    go false true c e = omega (arith, tag v e)
+    go false false true e = omega (arith, tag (tagOf v) (and-eq-true-iff (isTag (tagOf v)) (leb (countOf v) argumentLimit) .0 e .0))
+    go false false false e = omega (arith, eqb-true v 0 e)
+
+payload-small : (k v m : ℕ) → v ≤ indexLimit → m ≤ workspaceMost → payload k v m < payloadBound
+payload-small k v m h u = go (eqb k constructorKind) (eqb k caseKind)
+  where
+    go : (a b : Bool) → cond a (pack v m) (cond b (m - 1) v) < payloadBound
+    go true b = omega arith
+    go false true = omega arith
+    go false false = omega arith
+
+some-child : (rs : List Record) → childrenFit caseKind rs ≡ true → 1 ≤ length rs
+unfolding childrenFit
+some-child [] h = absurd (false≢true h)
+some-child (r ∷ rs) h = omega arith
+
+-- A turn: a record that was read at a link, and reading on from it.
+pub record ReadOn (S : Stored) (link : ℕ) (r : Record) : Type 0 where
+  pub below : Readable S (r .first)
+  pub after : Readable S (r .next)
+  pub fewer-below : ahead (view S) (r .first) < ahead (view S) link
+  pub fewer-after : ahead (view S) (r .next) < ahead (view S) link
+  pub words : chainWords (view S) link ≡ termWords (view S) link ++ chainWords (view S) (r .next)
+  pub words-length : length (chainWords (view S) link) ≡ length (termWords (view S) link) + length (chainWords (view S) (r .next))
+  pub free-numbers : (d : ℕ) → chainScoped (view S) link d ≡ (termScoped (view S) link d && chainScoped (view S) (r .next) d)
+  pub wordable : Wordable (r .kind) (r .value) (length (children (view S) link))
+
+pub read-on : (S : Stored) (link : ℕ) (r : Record) → Readable S link → 1 ≤ link → r ≡ recordAt S link → ReadOn S link r
+read-on S link r h v e =
+    let T = view S in
+    let w = h .walkable in
+    let u = w .link-within in
+    let L = linked T (w .links-fit) in
+    let fits = fitted T (h .children-fit) in
+    let values = valued T (h .values-fit) in
+    let on = walked S link (recordAt S link) w v refl in
+    let few : length (children T link) ≤ workspaceMost = omega (arith, walk-short S (T .at link .first) (on .below), sized S (w .length-fits)) in
+    let small = value-small (T .at link .kind) (T .at link .value) (values .value-fits link v u) in
+    rw e
+    (record {
+      below = record { walkable = on .below; values-fit = h .values-fit; children-fit = h .children-fit };
+      after = record { walkable = on .after; values-fit = h .values-fit; children-fit = h .children-fit };
+      fewer-below = ahead-falls T link _ v u (L .first-ahead link v u);
+      fewer-after = ahead-falls T link _ v u (L .next-ahead link v u);
+      words = chainWords-record T L link v u;
+      words-length = ap length (chainWords-record T L link v u) ∙ length-append (termWords T link) _;
+      free-numbers = λ d. chainScoped-record T L link d v u;
+      wordable = record {
+        kind-fits = omega (arith, values .known-kind link v u);
+        payload-fits = payload-small (T .at link .kind) (T .at link .value) _ small few;
+        subject = λ k. some-child (children T link) (rw k at (fits .children-fit link v u));
+      };
+    })
+
+-- The words of the record that was read, from the number of its children.
+pub term-read : (S : Stored) (at m w : ℕ) (r : Record) → r ≡ recordAt S at → m ≡ length (chainFrom (view S) (r .first))
+    → w ≡ word (r .kind) (payload (r .kind) (r .value) m) → termWords (view S) at ≡ w ∷ chainWords (view S) (r .first)
+term-read S at m w r e q h = rw (h, q, e)

@@ -1,0 +1,11 @@
+-- Tables that are written: records in prefix order, their words, and the writer.
+pub mod PrefixLinks
+pub mod Standing
+pub mod StandingFits
+pub mod TableWords
+pub mod PrefixStanding
+pub mod WrittenTable
+pub mod WriteLaws
+pub mod EntriesLaws
+pub mod WritingLaws
+pub mod WriteCode

@@ -1,0 +1,36 @@
+-- `links_fit` meets its contract: the links that it tests are those of the record.
+use borrow.Author.Needs.{needs}
+use borrow.Author.Tests.{not-true, not-false}
+use Rattle.tables.specs.Types.{stored}
+use Rattle.tables.proofs.Refusal.RecordLaws.{parts, inside-headed}
+use Rattle.tables.proofs.links.links_fit.Statement.{statement}
+use Rattle.tables.proofs.links.links_fit.Tie as tie
+
+count-requires : tie.Need-count-requires
+count-requires c κs = inside-headed (stored (c .before .args .form) (c .before .args .table .now)) (c .before .args .i) (c .before .pre)
+
+at-requires : tie.Need-at-requires
+at-requires c κs = search needs
+
+link-fits-requires : tie.Need-link-fits-requires
+link-fits-requires c κs = search needs
+
+returns : tie.Need-returns
+returns c =
+    let n = c .before .before .before .count .ensures in
+    rw (← parts (c .before .before .at .ensures) .first, ← n, ← c .before .link-fits .ensures, not-true (c .before .link-fits .result) (c .if1 .taken))
+
+link-fits-requires-2 : tie.Need-link-fits-requires-2
+link-fits-requires-2 c κs = search needs
+
+returns-2 : tie.Need-returns-2
+returns-2 c =
+    let r = parts (c .before .before .before .at .ensures) in
+    let n = c .before .before .before .before .count .ensures in
+    let first = c .before .before .link-fits in
+    rw (← r .first, ← n, ← first .ensures, not-false (first .result) (c .before .if1 .left), ← r .next) (c .link-fits2 .ensures)
+
+pub links-fit-spec : {M : Type 1} → statement M
+links-fit-spec =
+    tie.close
+    (tie.spec count-requires at-requires link-fits-requires returns link-fits-requires-2 returns-2)

@@ -1,0 +1,17 @@
+-- `root` meets its contract.
+use native.Mathlib.Omega.{arith}
+use borrow.Author.Needs.{needs}
+use Rattle.tables.proofs.records.root.Statement.{statement}
+use Rattle.tables.proofs.records.root.Tie as tie
+
+shared-slice-read-result : tie.Need-shared-slice-read-result
+shared-slice-read-result c = search needs
+
+cast-result : tie.Need-cast-result
+cast-result c = omega (arith, c .shared-slice-known .given 2)
+
+returns : tie.Need-returns
+returns c = search needs
+
+pub root-spec : {M : Type 1} → statement M
+root-spec = tie.close (tie.spec shared-slice-read-result cast-result returns)

@@ -1,0 +1,70 @@
+-- `entry` meets its contract: each part of the record by the function that finds it.
+use Prim.Native.Nat.{suc, _+_}
+use mathlib.Core.Path.{_≡_, ap, ap₂, _∙_}
+use native.Mathlib.Omega.{arith}
+use lib.ListN.{drop, length-drop}
+use borrow.Author.Needs.{needs}
+use Rattle.calculus.specs.Skip.{span}
+use Rattle.calculus.proofs.SkipLaws.{span-bounded}
+use Rattle.tables.specs.Writing.{linkIf}
+use Rattle.tables.proofs.Written.TableWords.{entry-path}
+use Rattle.tables.proofs.writing.entry.Statement.{statement}
+use Rattle.tables.proofs.writing.entry.Tie as tie
+
+mul-t5 : tie.Need-mul-t5
+mul-t5 c = search needs
+
+shared-slice-read-t7 : tie.Need-shared-slice-read-t7
+shared-slice-read-t7 c = search needs
+
+kind-requires : tie.Need-kind-requires
+kind-requires c κs = search needs
+
+value-requires : tie.Need-value-requires
+value-requires c κs = search needs
+
+arity-requires : tie.Need-arity-requires
+arity-requires c κs = search needs
+
+add-link-if : tie.Need-add-link-if
+add-link-if c = search needs
+
+link-if-requires : tie.Need-link-if-requires
+link-if-requires c κs = search needs
+
+extent-requires : tie.Need-extent-requires
+extent-requires c κs = search needs
+
+add-link-if-2 : tie.Need-add-link-if-2
+add-link-if-2 c =
+    let start = c .before .before .before .before .before .before .before in
+    omega (arith, c .extent .ensures, span-bounded 1 (drop (start .args .i) (start .args .ws .now)), length-drop (start .args .i) (start .args .ws .now))
+
+link-if-requires-2 : tie.Need-link-if-requires-2
+link-if-requires-2 c κs = search needs
+
+returns : tie.Need-returns
+returns c =
+    let a = c .before .before .before in
+    let start = a .before .before .before .before .before .args in
+    let below : start .i + 2 ≡ suc (start .i + 1) = omega arith in
+    let after : c .before .extent .result + 1 ≡ start .i + 1 + span 1 (drop (start .i) (start .ws .now)) = omega (arith, c .before .extent .ensures) in
+    entry-path (a .before .before .kind .ensures) (a .before .value .ensures)
+    (c .before .before .link-if .ensures ∙ ap₂ linkIf (a .arity .ensures) below)
+    (c .link-if2 .ensures ∙ ap (linkIf (start .siblings)) after)
+
+pub entry-spec : {M : Type 1} → statement M
+entry-spec =
+    tie.close
+    (tie.spec
+    mul-t5
+    shared-slice-read-t7
+    kind-requires
+    value-requires
+    arity-requires
+    add-link-if
+    link-if-requires
+    extent-requires
+    add-link-if-2
+    link-if-requires-2
+    returns)

@@ -1,0 +1,142 @@
+-- `put_records` meets its contract. The invariant, `Putting`: the records of the words from the i-th on are still to be put.
+use Prim.Native.Nat.{ℕ, _+_, _-_, _<_, _≤_}
+use mathlib.Core.Path.{refl, sym}
+use mathlib.Core.List.{List}
+use native.Mathlib.Omega.{arith}
+use lib.ListN.{length, drop, getD, replicate, length-replicate, length-drop}
+use borrow.Author.Needs.{needs}
+use Rattle.calculus.specs.Words.{workspaceMost}
+use Rattle.calculus.specs.Skip.{span}
+use Rattle.calculus.proofs.SkipLaws.{span-bounded}
+use Rattle.tables.proofs.Written.WritingLaws.{entry-puttable, Putting, putting-start, putting-end, putting-stops, some-item, putting-more}
+use Rattle.tables.proofs.writing.put_records.Statement.{statement}
+use Rattle.tables.proofs.writing.put_records.Tie as tie
+
+abbrev Inv-loop : tie.InvT-loop
+Inv-loop ws table₀ levels₀ top₀ i₀ table levels top i = Putting ws table₀ table levels top i
+
+abbrev μ-loop : tie.MeasureT-loop
+μ-loop ws table₀ levels₀ top₀ i₀ table levels top i = length ws - i
+
+slice-aggregate-push : tie.Need-slice-aggregate-push Inv-loop μ-loop
+slice-aggregate-push c = refl
+
+push-requires : tie.Need-push-requires Inv-loop μ-loop
+push-requires c κs = omega arith
+
+loop-holds : tie.Need-loop-holds Inv-loop μ-loop
+loop-holds c =
+    let pushed = c .before .push in
+    let zeros : List ℕ = replicate (workspaceMost + 1) 0 in
+    putting-start _ _ zeros _ _ (length-replicate {A = ℕ} (workspaceMost + 1) 0) (pushed .kept .0) (pushed .ensures)
+
+same-length : tie.Need-same-length Inv-loop μ-loop
+same-length c = c .before .before .loop .inv .table-length
+
+returns : tie.Need-returns Inv-loop μ-loop
+returns c = putting-stops _ _ _ _ _ _ (c .if1 .taken) (c .before .before .loop .inv)
+
+-- The innermost level is there.
+inside : (c : tie.Else1 Inv-loop μ-loop) → c .before .before .loop .top < workspaceMost + 1
+inside c = omega (arith, c .before .before .loop .inv .levels-most, c .if1 .left)
+
+mul-entry : tie.Need-mul-entry Inv-loop μ-loop
+mul-entry c = omega (arith, inside c)
+
+array-read-entry : tie.Need-array-read-entry Inv-loop μ-loop
+array-read-entry c = inside c
+
+item : (c : tie.Else1 Inv-loop μ-loop) → 1 ≤ getD (c .before .before .loop .levels) (c .before .before .loop .top) 0
+item c = some-item _ _ _ _ _ _ (c .before .loop-test .taken) (inside c) (c .before .before .loop .inv)
+
+sub-entry : tie.Need-sub-entry Inv-loop μ-loop
+sub-entry c = item c
+
+entry-requires : tie.Need-entry-requires Inv-loop μ-loop
+entry-requires c κs = (c .before .loop-test .taken, c .before .before .before .before .before .before .before .before .pre .0)
+
+add-put : tie.Need-add-put Inv-loop μ-loop
+add-put c = omega arith
+
+put-requires : tie.Need-put-requires Inv-loop μ-loop
+put-requires c κs =
+    let l = c .before .before .before .before in
+    let start = l .before .before .before .before .before .before in
+    let rest = drop (l .loop .i) (start .args .ws .now) in
+    let short = start .pre .0 in
+    let room = start .pre .1 in (
+      omega (arith, l .loop .inv .table-length),
+      entry-puttable _ (l .loop .i + 1) (getD (l .loop .levels) (l .loop .top) 0 - 1) (getD (start .args .ws .now) (l .loop .i) 0) (span 1 rest) (c .before .entry .ensures) (omega arith)
+          (omega (arith, span-bounded 1 rest, length-drop (l .loop .i) (start .args .ws .now))),
+    )
+
+slice-aggregate-descend : tie.Need-slice-aggregate-descend Inv-loop μ-loop
+slice-aggregate-descend c = sym (c .before .before .before .before .before .before .before .before .loop .inv .levels-length)
+
+mul-t18 : tie.Need-mul-t18 Inv-loop μ-loop
+mul-t18 c = omega arith
+
+shared-slice-read-t22 : tie.Need-shared-slice-read-t22 Inv-loop μ-loop
+shared-slice-read-t22 c = c .before .before .before .before .before .before .before .before .loop-test .taken
+
+arity-requires : tie.Need-arity-requires Inv-loop μ-loop
+arity-requires c κs = search needs
+
+descend-requires : tie.Need-descend-requires Inv-loop μ-loop
+descend-requires c κs =
+    let turn = c .before .before .before .before .before .before .before .before in
+    let p = turn .before .before .loop .inv in (
+      omega (arith, p .levels-left, turn .before .before .before .before .before .before .before .before .pre .0),
+      omega (arith, p .levels-length, inside turn),
+      item turn,
+    )
+
+add-i : tie.Need-add-i Inv-loop μ-loop
+add-i c = omega arith
+
+loop-less : tie.Need-loop-less Inv-loop μ-loop
+loop-less c = omega arith
+
+loop-again : tie.Need-loop-again Inv-loop μ-loop
+loop-again c =
+    let down = c .before .descend in
+    let w = c .before .before .arity .ensures in
+    let turn = c .before .before .before .before .before .before .before .before .before .before in
+    let put = c .before .before .before .before .before .before .before .put in
+    let read = c .before .before .before .before .before .before .before .before .before .entry in
+    putting-more _ _ _ _ _ _ (turn .before .loop-test .taken) (inside turn) (turn .before .before .loop .inv) _ _ _ _ (read .ensures) (put .ensures) (down .kept .0)
+    (rw (← w) (down .ensures))
+
+same-length-2 : tie.Need-same-length-2 Inv-loop μ-loop
+same-length-2 c = c .before .loop .inv .table-length
+
+returns-2 : tie.Need-returns-2 Inv-loop μ-loop
+returns-2 c = putting-end _ _ _ _ _ _ (c .loop-test .left) (c .before .loop .inv)
+
+pub put-records-spec : {M : Type 1} → statement M
+put-records-spec =
+    tie.close
+    (tie.spec
+    Inv-loop
+    μ-loop
+    slice-aggregate-push
+    push-requires
+    loop-holds
+    same-length
+    returns
+    mul-entry
+    array-read-entry
+    sub-entry
+    entry-requires
+    add-put
+    put-requires
+    slice-aggregate-descend
+    mul-t18
+    shared-slice-read-t22
+    arity-requires
+    descend-requires
+    add-i
+    loop-less
+    loop-again
+    same-length-2
+    returns-2)
