@@ -8,35 +8,32 @@ use Rattle.calculus.specs.Term.{Sort, Exp, Term}
 use Rattle.calculus.specs.Contraction.{Rule, Contracts}
 use Rattle.calculus.specs.Conversion.{Contracts₁}
 use Rattle.calculus.specs.Step.{Step, firstStep}
-use Rattle.calculus.specs.Leftmost.{leftmost}
+use Rattle.calculus.specs.Leftmost.{Contracts-leftmost, leftmost}
 use Rattle.calculus.specs.Position.{stepAt}
 use Rattle.calculus.specs.Theorems.{Leftmost-step, Leftmost-none}
 use Rattle.calculus.proofs.Earliest.{Earliest, never, first}
 use Rattle.calculus.proofs.PositionLaws.{stepAt-exact, contracts-stepAt, contracts-unique, earliest-step, firstStep-none}
 
--- A contraction of e to g whose redex starts first, at every sort.
-abbrev pub First : (s : Sort) → Exp s → Exp s → Type 0
-First s e g = (p : ℕ) × (r : Rule) × Contracts s p r e g × ((q : ℕ) (r′ : Rule) (h : Exp s) → Contracts s q r′ e h → p ≤ q)
-
-first-unique : {s : Sort} {e g h : Exp s} → First s e g → First s e h → g ≡ h
-first-unique {s} {e} {g} {h} (p, r, c, l) (q, r′, d, m) =
+leftmost-unique : {s : Sort} {e g h : Exp s} → Contracts-leftmost e g → Contracts-leftmost e h → g ≡ h
+leftmost-unique {s} {e} {g} {h} (p, r, c, l) (q, r′, d, m) =
     let same : q ≡ p = omega (arith, l q r′ h d, m p r g c) in
     contracts-unique c (subst (λ q. Contracts s q r′ e h) same d) .1
 
-pub leftmost-exact : {s : Sort} (e g : Exp s) → (leftmost e ≡ some g) ↔ First s e g
+-- At every sort.
+pub leftmost-exact : {s : Sort} (e g : Exp s) → (leftmost e ≡ some g) ↔ Contracts-leftmost e g
 unfolding leftmost
 leftmost-exact {s} e g = go (earliest-step e)
   where
-    go : {o : Option (Step (Exp s))} → Earliest (λ p. stepAt p e) o → (Option·map (λ c. c .result) o ≡ some g) ↔ First s e g
+    go : {o : Option (Step (Exp s))} → Earliest (λ p. stepAt p e) o → (Option·map (λ c. c .result) o ≡ some g) ↔ Contracts-leftmost e g
     go (never h) = (λ q. absurd (Option·none-ne-some g q), λ (p, r, c, l). absurd (Option·none-ne-some (r, g) (sym (h p) ∙ contracts-stepAt c)))
-    go (first {c = c} d h) = (λ q. subst (First s e) (Option·some-injective (c .result) g q) here, λ k. ap some (first-unique here k))
+    go (first {c = c} d h) = (λ q. subst (Contracts-leftmost e) (Option·some-injective (c .result) g q) here, λ k. ap some (leftmost-unique here k))
       where
         before : (q : ℕ) (r : Rule) (k : Exp s) → Contracts s q r e k → c .position ≤ q
         before q r k b =
             let none-earlier : ¬ (q < c .position) = λ l. Option·none-ne-some (r, k) (sym (h q l) ∙ contracts-stepAt b) in
             omega arith
 
-        here : First s e (c .result)
+        here : Contracts-leftmost e (c .result)
         here = (c .position, c .rule, stepAt-exact (c .position) (c .rule) e (c .result) .0 d, before)
 
 pub leftmost-step : Leftmost-step

@@ -11,11 +11,11 @@ pub mod FirstLaws
 pub mod PrefixFree
 pub mod Move
 pub mod Indices
+pub mod Site
 pub mod Earliest
 pub mod PositionLaws
 pub mod LeftmostLaws
 pub mod Inversion
-pub mod RedexWord
 pub mod Decidable
 pub mod AcceptedLaws
 pub mod Rewriting

@@ -4,32 +4,17 @@ use Prim.Native.Nat.{ℕ, zero, suc, _-_, _<_}
 use mathlib.Core.Path.{_≡_, refl, sym, _∙_, ap, subst}
 use mathlib.Core.Logic.{_↔_}
 use mathlib.Core.Option.{Option, some, none, Option·map, orElse, bind, map-eq-some-iff, map-eq-none-iff, Option·some-injective, Option·none-ne-some, Option·some-ne-none}
-use lib.ListN.{length-append}
 use native.Mathlib.Omega.{arith}
 use Rattle.calculus.specs.Term.{Sort, Exp, var, lam, app, con, case, nil, cons, end, branch, Term}
-use Rattle.calculus.specs.Words.{words, size}
+use Rattle.calculus.specs.Words.{size}
 use Rattle.calculus.specs.Contraction.{Rule, by-case, select, Contracts, at-beta, at-case, in-body, in-function, in-argument, in-arguments, in-subject, in-branches, in-first, in-later, in-branch, in-later-branch}
 use Rattle.calculus.specs.Step.{contractum, Step, firstStep}
 use Rattle.calculus.specs.Leftmost.{leftmost}
 use Rattle.calculus.specs.Position.{through, stepAt, contractAt, redexAt}
 use Rattle.calculus.specs.Theorems.{Contraction-deterministic, Contract-at-position, Redex-first, Redex-none, Leftmost-at-redex}
 use Rattle.calculus.proofs.All.{All, nothing, holds, all-map, all-ltb, all-itself, all-some}
+use Rattle.calculus.proofs.Site.{contraction-within}
 use Rattle.calculus.proofs.Earliest.{choose-part, choose-behind, Earliest, never, first, earliest-through, earliest-word, earliest-append}
-
--- A redex starts within the words.
-pub contraction-within : {s : Sort} {p : ℕ} {r : Rule} {e g : Exp s} → Contracts s p r e g → p < size e
-contraction-within at-beta = omega arith
-contraction-within (at-case h) = omega arith
-contraction-within (in-body c) = omega (arith, contraction-within c)
-contraction-within (in-function {f = f} {a = a} c) = omega (arith, contraction-within c, length-append (words f) (words a))
-contraction-within (in-argument {f = f} {a = a} c) = omega (arith, contraction-within c, length-append (words f) (words a))
-contraction-within (in-arguments c) = omega (arith, contraction-within c)
-contraction-within (in-subject {e = e} {bs = bs} c) = omega (arith, contraction-within c, length-append (words e) (words bs))
-contraction-within (in-branches {e = e} {bs = bs} c) = omega (arith, contraction-within c, length-append (words e) (words bs))
-contraction-within (in-first {a = a} {xs = xs} c) = omega (arith, contraction-within c, length-append (words a) (words xs))
-contraction-within (in-later {a = a} {xs = xs} c) = omega (arith, contraction-within c, length-append (words a) (words xs))
-contraction-within (in-branch {b = b} {bs = bs} c) = omega (arith, contraction-within c, length-append (words b) (words bs))
-contraction-within (in-later-branch {b = b} {bs = bs} c) = omega (arith, contraction-within c, length-append (words b) (words bs))
 
 -- A contraction of e at p, by a rule and with a result.
 abbrev Contracts-to : {s : Sort} → ℕ → Exp s → Rule × Exp s → Type 0

@@ -6,11 +6,10 @@ use mathlib.Core.Logic.{_↔_}
 use mathlib.Core.Bool.{Bool, true, false, cond}
 use mathlib.Core.Option.{Option, some, none, Option·map}
 use lib.Dec.{ltb, eqb}
-use lib.ListN.{length-append}
 use borrow.Author.Tests.{lt-ltb, ltb-false}
 use native.Mathlib.Omega.{arith}
 use Rattle.calculus.specs.Term.{Sort, term, branches, Exp, var, lam, app, con, case, nil, cons, end, branch, Term, Terms, Branches, count}
-use Rattle.calculus.specs.Words.{words, size}
+use Rattle.calculus.specs.Words.{size}
 use Rattle.calculus.specs.Substitution.{subst}
 use Rattle.calculus.specs.Contraction.{Rule, select, Contracts, at-beta, at-case, in-body, in-function, in-argument}
 use Rattle.calculus.specs.Contraction.{in-arguments, in-subject, in-branches, in-first, in-later, in-branch, in-later-branch}
@@ -18,9 +17,9 @@ use Rattle.calculus.specs.Step.{contractum}
 use Rattle.calculus.specs.Position.{through, stepAt, contractAt, redexAt}
 use Rattle.calculus.specs.Theorems.{Redexes-before-kept}
 use Rattle.calculus.proofs.All.{Both, neither, each, both-map, both-cond, both-sym, both-none}
-use Rattle.calculus.proofs.WordLaws.{size-positive}
+use Rattle.calculus.proofs.Site.{contraction-within, contraction-leaves}
 use Rattle.calculus.proofs.Spine.{count-contraction}
-use Rattle.calculus.proofs.PositionLaws.{contraction-within, contract-at-position, contractAt-none, redex-none}
+use Rattle.calculus.proofs.PositionLaws.{contract-at-position, contractAt-none, redex-none}
 
 -- Both hold something, or neither does.
 abbrev pub Alike : {A B : Type 0} → Option A → Option B → Type 0
@@ -46,21 +45,6 @@ alike-behind q m x y x′ y′ a b = go (ltb q m) refl
     go : (t : Bool) → ltb q m ≡ t → Alike (cond t x y) (cond t x′ y′)
     go true e = a
     go false e = b (ltb-false q m e)
-
--- A contraction leaves a word at its position, and as many arguments as there were.
-pub contraction-leaves : {s : Sort} {p : ℕ} {r : Rule} {e g : Exp s} → Contracts s p r e g → p < size g
-contraction-leaves (at-beta {b = b} {a = a}) = size-positive (subst (cons a nil) 0 b)
-contraction-leaves (at-case {u = u} h) = size-positive u
-contraction-leaves (in-body c) = omega (arith, contraction-leaves c)
-contraction-leaves (in-function {f′ = f} {a = a} c) = omega (arith, contraction-leaves c, length-append (words f) (words a))
-contraction-leaves (in-argument {f = f} {a′ = a} c) = omega (arith, contraction-leaves c, length-append (words f) (words a))
-contraction-leaves (in-arguments c) = omega (arith, contraction-leaves c)
-contraction-leaves (in-subject {e′ = e} {bs = bs} c) = omega (arith, contraction-leaves c, length-append (words e) (words bs))
-contraction-leaves (in-branches {e = e} {bs′ = bs} c) = omega (arith, contraction-leaves c, length-append (words e) (words bs))
-contraction-leaves (in-first {a′ = a} {xs = xs} c) = omega (arith, contraction-leaves c, length-append (words a) (words xs))
-contraction-leaves (in-later {a = a} {xs′ = xs} c) = omega (arith, contraction-leaves c, length-append (words a) (words xs))
-contraction-leaves (in-branch {b′ = b} {bs = bs} c) = omega (arith, contraction-leaves c, length-append (words b) (words bs))
-contraction-leaves (in-later-branch {b = b} {bs′ = bs} c) = omega (arith, contraction-leaves c, length-append (words b) (words bs))
 
 -- At the word before a contraction's redex and further in front: the application's function and the case's subject keep what tells a redex.
 pub function-kept : {p : ℕ} {r : Rule} {f f′ : Term} (a : Term) → Contracts term p r f f′ → 1 ≤ p → Alike (contractum (app f a)) (contractum (app f′ a))

@@ -26,13 +26,13 @@ rising? end = yes tt
 rising? (branch t n b bs) = Dec·and (startsAbove? t bs) (rising? bs)
 
 -- How each question of `P` is decided.
-pub record Decided {Place : Type 0} (P : Asked Place) : Type 0 where
+pub record Deciders {Place : Type 0} (P : Asked Place) : Type 0 where
   pub of-variable? : (d : Place) (i : ℕ) → Dec (P .of-variable d i)
   pub of-constructor? : (t n : ℕ) → Dec (P .of-constructor t n)
   pub of-case? : (bs : Branches) → Dec (P .of-case bs)
   pub of-branch? : (t n : ℕ) → Dec (P .of-branch t n)
 
-unfoldable pub everywhere? : {Place : Type 0} {P : Asked Place} {s : Sort} → Decided P → (d : Place) (e : Exp s) → Dec (Everywhere P d e)
+unfoldable pub everywhere? : {Place : Type 0} {P : Asked Place} {s : Sort} → Deciders P → (d : Place) (e : Exp s) → Dec (Everywhere P d e)
 everywhere? D d (var i) = D .of-variable? d i
 everywhere? {P = P} D d (lam b) = everywhere? D (P .places .under-abstraction d) b
 everywhere? D d (app f a) = Dec·and (everywhere? D d f) (everywhere? D d a)

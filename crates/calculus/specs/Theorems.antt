@@ -127,8 +127,11 @@ abbrev pub Normality-decidable : Type 0
 Normality-decidable = (t : Term) → Dec (Normal t)
 
 -- No index of the expression is above the limit.
+abbrev pub within : ℕ → Asked (Unit {0})
+within limit = variables anywhere (λ d i. i ≤ limit)
+
 abbrev pub IndicesWithin : {s : Sort} → ℕ → Exp s → Type 0
-IndicesWithin limit e = Everywhere (variables anywhere (λ d i. i ≤ limit)) tt e
+IndicesWithin limit e = Everywhere (within limit) tt e
 
 abbrev pub Indices-bounded : Type 0
 Indices-bounded = (t : Term) → Accepted 0 t → size t ≤ workspaceMost → IndicesWithin indexLimit t

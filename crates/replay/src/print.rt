@@ -6,6 +6,7 @@ use crate::script::Side;
 use libc::STDOUT_FILENO;
 use rounds::Answer;
 use rounds::Verdict;
+use words::refusal::Refusal;
 
 fn print(text: &[u8]) {
     io::write_all(STDOUT_FILENO, text);
@@ -43,13 +44,15 @@ fn print_verdict(verdict: Verdict) {
     }
 }
 
+fn print_refused(refusal: Refusal) {
+    print(b"refused");
+    print_word(refusal.number());
+}
+
 // What loading or writing returned, behind the call's name, or the refusal's number; then words.
 fn print_table(name: &[u8], answer: tables::Answer, words: &[u32], count: usize) {
     match answer {
-        tables::Answer::Refused(number) => {
-            print(b"refused");
-            print_word(number);
-        }
+        tables::Answer::Refused(refusal) => print_refused(refusal),
         tables::Answer::Returned(number) => {
             print(name);
             print_number(number);
@@ -61,10 +64,7 @@ fn print_table(name: &[u8], answer: tables::Answer, words: &[u32], count: usize)
 // Verdict, spent and lengths, or the refusal's number.
 fn print_answer(answer: Answer) {
     match answer {
-        Answer::Refused(refusal) => {
-            print(b"refused");
-            print_word(refusal.number());
-        }
+        Answer::Refused(refusal) => print_refused(refusal),
         Answer::Shown(shown) => {
             let verdict = shown.verdict;
             print_verdict(verdict);

@@ -26,7 +26,7 @@ use Rattle.rounds.specs.Compare.{common, Agrees, Compares}
 use Rattle.rounds.specs.Turn.{next, Plan, planned, Turn, ends, goes, turn}
 use Rattle.rounds.specs.Resume.{resumeAt, agreeAfter, Agreeing}
 use Rattle.rounds.specs.Advance.{Advances, Advanced}
-use Rattle.rounds.specs.Run.{Runs, Ran}
+use Rattle.rounds.specs.Run.{Ready, Ran}
 use Rattle.rounds.specs.Claim as claim
 use Rattle.rounds.proofs.CompareLaws.{agrees-none, common-agrees, common-whole, common-equal}
 use Rattle.step.proofs.HeldLaws.{held-term, holds-term, Start, termAt-start}
@@ -90,7 +90,7 @@ module _ {ws ws′ scratch scratch′ : List ℕ} {n r from : ℕ} (h : Holds ws
 
 -- What holds before each turn: both terms, where the search on each side goes on, and the words that agree.
 pub record Going (left₀ right₀ scratch₀ : List ℕ) (l r budget : ℕ) (left right scratch : List ℕ) (m i n j agree spent : ℕ) : Type 0 where
-  pub runs : Runs left right scratch m n
+  pub ready : Ready left right scratch m n
   pub left-searched : Searched left m i
   pub right-searched : Searched right n j
   pub agrees : Agrees agree (take m left) (take n right)
@@ -101,12 +101,12 @@ pub record Going (left₀ right₀ scratch₀ : List ℕ) (l r budget : ℕ) (le
   pub rest :
       after spent (rounds (length left₀) (budget - spent) (held left m) (held right n)) ≡ rounds (length left₀) budget (held left₀ l) (held right₀ r)
 
-pub going-first : {left right scratch : List ℕ} {l r : ℕ} (budget : ℕ) → Runs left right scratch l r
+pub going-first : {left right scratch : List ℕ} {l r : ℕ} (budget : ℕ) → Ready left right scratch l r
     → Going left right scratch l r budget left right scratch l 0 r 0 0 0
 going-first {left} {right} {scratch} {l} {r} budget h =
     let all : budget - 0 ≡ budget = omega arith in
     record {
-      runs = h;
+      ready = h;
       left-searched = searched (h .left-holds);
       right-searched = searched (h .right-holds);
       agrees = agrees-none (take l left) (take r right);
@@ -120,10 +120,10 @@ going-first {left} {right} {scratch} {l} {r} budget h =
 module _ {left₀ right₀ scratch₀ : List ℕ} {l r budget : ℕ} {left right scratch : List ℕ} {m i n j agree spent : ℕ}
     (g : Going left₀ right₀ scratch₀ l r budget left right scratch m i n j agree spent) where
   left-fits : m ≤ length left
-  left-fits = begins (g .runs .left-holds) .within
+  left-fits = begins (g .ready .left-holds) .within
 
   right-fits : n ≤ length right
-  right-fits = begins (g .runs .right-holds) .within
+  right-fits = begins (g .ready .right-holds) .within
 
   pub compares : Compares left m right n agree
   compares = record { left-fits = left-fits; right-fits = right-fits; agrees = g .agrees }
@@ -133,8 +133,8 @@ module _ {left₀ right₀ scratch₀ : List ℕ} {l r budget : ℕ} {left right
     pub judged : {t : Turn} → t ≡ turn (eqb shared m) a b (budget - spent) (length left)
         → Turned (length left₀) (budget - spent) (held left m) (held right n) t
     judged e =
-        let lh = g .runs .left-holds in
-        let rh = g .runs .right-holds in
+        let lh = g .ready .left-holds in
+        let rh = g .ready .right-holds in
         rw (e, p, q, g .left-kept, s) (turned (eqb (common (take m left) (take n right)) m) (same-terms lh rh) (other-terms lh rh))
 
     shared-agrees : Agrees shared (take m left) (take n right)
@@ -142,15 +142,15 @@ module _ {left₀ right₀ scratch₀ : List ℕ} {l r budget : ℕ} {left right
 
     pub agreeing : Agreeing left m shared a
     agreeing =
-        record { holds = g .runs .left-holds; within = omega (arith, shared-agrees .left-has, length-take-le m left left-fits); plan-is = p }
+        record { holds = g .ready .left-holds; within = omega (arith, shared-agrees .left-has, length-take-le m left left-fits); plan-is = p }
 
     -- The words that agree after both sides' parts.
     agrees-next : Agrees (agreeAfter left m shared a b) (words (next (held left m))) (words (next (held right n)))
     agrees-next =
-        let ls = begins (g .runs .left-holds) in
-        let rs = begins (g .runs .right-holds) in
+        let ls = begins (g .ready .left-holds) in
+        let rs = begins (g .ready .right-holds) in
         rw (p, q)
-        (agree-after ls rs (omega (arith, left-fits, g .runs .left-holds .limit)) (omega (arith, right-fits, g .runs .right-holds .limit))
+        (agree-after ls rs (omega (arith, left-fits, g .ready .left-holds .limit)) (omega (arith, right-fits, g .ready .right-holds .limit))
         (rw (ls .taken, rs .taken) shared-agrees) (planned-tells (held left m)) (planned-tells (held right n)))
 
   pub ran : {v : Verdict} → Turned (length left₀) (budget - spent) (held left m) (held right n) (ends v)
@@ -158,8 +158,8 @@ module _ {left₀ right₀ scratch₀ : List ℕ} {l r budget : ℕ} {left right
   ran {v} t =
       let o : after spent (ended v (held left m) (held right n)) ≡ rounds (length left₀) budget (held left₀ l) (held right₀ r)
       = sym (ap (after spent) (rounds-stopped t)) ∙ g .rest in
-      let ls = begins (g .runs .left-holds) in
-      let rs = begins (g .runs .right-holds) in
+      let ls = begins (g .ready .left-holds) in
+      let rs = begins (g .ready .right-holds) in
       let all : spent ≡ spent + 0 = omega arith in
       let here-shown : record { verdict = v; spent = spent; left = m; right = n } ≡ shows (after spent (ended v (held left m) (held right n)))
       = λ i. record { verdict = v; spent = all i; left = sym (ls .long) i; right = sym (rs .long) i } in
@@ -170,7 +170,7 @@ module _ {left₀ right₀ scratch₀ : List ℕ} {l r budget : ℕ} {left right
         left-words = sym (ls .start) ∙ ap (λ k. words (k .left) ++ drop m left) o;
         right-others = drop n right;
         right-words = sym (rs .start) ∙ ap (λ k. words (k .right) ++ drop n right) o;
-        scratch-length = g .runs .scratch-length;
+        scratch-length = g .ready .scratch-length;
       }
 
   module _ {p : ℕ} (t : Turned (length left₀) (budget - spent) (held left m) (held right n) (goes p)) where
@@ -187,23 +187,23 @@ module _ {left₀ right₀ scratch₀ : List ℕ} {l r budget : ℕ} {left right
             → (size (next (held left m)) ≤ length left) × (size (next (held right n)) ≤ length left)
         by (going q pos h mv) =
             let f = walk-fits (further mv here) in
-            let lm : size (held left m) ≤ length left₀ = omega (arith, begins (g .runs .left-holds) .long, left-fits, g .left-kept) in
-            let rn : size (held right n) ≤ length left₀ = omega (arith, begins (g .runs .right-holds) .long, right-fits, g .left-kept, g .runs .right-length) in
+            let lm : size (held left m) ≤ length left₀ = omega (arith, begins (g .ready .left-holds) .long, left-fits, g .left-kept) in
+            let rn : size (held right n) ≤ length left₀ = omega (arith, begins (g .ready .right-holds) .long, right-fits, g .left-kept, g .ready .right-length) in
             (omega (arith, f .0 lm, g .left-kept), omega (arith, f .1 rn, g .left-kept))
 
     pub left-advances : {a : Plan} → a ≡ planned (held left m) → Advances left m a scratch
     left-advances e =
-        record { holds = g .runs .left-holds; plan-is = e; fits = both-fit .0; scratch-fits = omega (arith, both-fit .0, g .runs .scratch-length) }
+        record { holds = g .ready .left-holds; plan-is = e; fits = both-fit .0; scratch-fits = omega (arith, both-fit .0, g .ready .scratch-length) }
 
     module _ {left′ scratch′ : List ℕ} {m′ i′ : ℕ} (lk : length left′ ≡ length left) (sk : length scratch′ ≡ length scratch)
         (la : Advanced left m scratch m′ i′ left′ scratch′) where
       pub right-advances : {b : Plan} → b ≡ planned (held right n) → Advances right n b scratch′
       right-advances e =
           record {
-            holds = g .runs .right-holds;
+            holds = g .ready .right-holds;
             plan-is = e;
-            fits = omega (arith, both-fit .1, g .runs .right-length);
-            scratch-fits = omega (arith, both-fit .1, sk, g .runs .scratch-length);
+            fits = omega (arith, both-fit .1, g .ready .right-length);
+            scratch-fits = omega (arith, both-fit .1, sk, g .ready .scratch-length);
           }
 
       module _ {right′ scratch″ : List ℕ} {n′ j′ : ℕ} (rk : length right′ ≡ length right) (sk′ : length scratch″ ≡ length scratch′)
@@ -215,24 +215,24 @@ module _ {left₀ right₀ scratch₀ : List ℕ} {l r budget : ℕ} {left right
             let (pos, h) = spends in
             let less : budget - (spent + p) ≡ budget - spent - p = omega arith in
             record {
-              runs =
+              ready =
                   record {
-                    left-holds = advanced-holds (g .runs .left-holds) lk la;
-                    right-holds = advanced-holds (g .runs .right-holds) rk ra;
-                    right-length = rk ∙ g .runs .right-length ∙ sym lk;
-                    scratch-length = sk′ ∙ sk ∙ g .runs .scratch-length ∙ sym lk;
+                    left-holds = advanced-holds (g .ready .left-holds) lk la;
+                    right-holds = advanced-holds (g .ready .right-holds) rk ra;
+                    right-length = rk ∙ g .ready .right-length ∙ sym lk;
+                    scratch-length = sk′ ∙ sk ∙ g .ready .scratch-length ∙ sym lk;
                   };
-              left-searched = advanced-searched (g .runs .left-holds) lk la;
-              right-searched = advanced-searched (g .runs .right-holds) rk ra;
+              left-searched = advanced-searched (g .ready .left-holds) lk la;
+              right-searched = advanced-searched (g .ready .right-holds) rk ra;
               agrees =
-                  rw (k, advanced-words (g .runs .left-holds) lk la, advanced-words (g .runs .right-holds) rk ra)
+                  rw (k, advanced-words (g .ready .left-holds) lk la, advanced-words (g .ready .right-holds) rk ra)
                   (agrees-next s x y);
               left-kept = lk ∙ g .left-kept;
               right-kept = rk ∙ g .right-kept;
               scratch-kept = sk′ ∙ sk ∙ g .scratch-kept;
               within = omega (arith, g .within);
               rest =
-                  rw (advanced-held (g .runs .left-holds) lk la, advanced-held (g .runs .right-holds) rk ra, less)
+                  rw (advanced-held (g .ready .left-holds) lk la, advanced-held (g .ready .right-holds) rk ra, less)
                   (sym (after-after spent p (rounds (length left₀) (budget - spent - p) (next (held left m)) (next (held right n))))
                   ∙ ap (after spent) (sym (rounds-going t))
                   ∙ g .rest);

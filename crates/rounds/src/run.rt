@@ -1,7 +1,7 @@
 // The rounds of a press.
 ghost use lib.ListN.{length};
 ghost use Rattle.calculus.specs.Rounds.{rounds};
-ghost use Rattle.rounds.specs.Run.{Runs, Ran};
+ghost use Rattle.rounds.specs.Run.{Ready, Ran};
 ghost use Rattle.rounds.specs.Types.{shownOf};
 ghost use Rattle.step.specs.Held.{held};
 use crate::Shown;
@@ -22,7 +22,7 @@ pub fn run(
     r: usize,
     budget: u32,
 ) -> Shown
-    requires { ⌜ Runs (now left) (now right) (now scratch) l r ⌝ }
+    requires { ⌜ Ready (now left) (now right) (now scratch) l r ⌝ }
     ensures { λ o. ⌜ Ran budget (rounds (length (now (left .entry))) budget (held (now (left .entry)) l) (held (now (right .entry)) r)) (shownOf o) (now (left .exit)) (now (right .exit)) (now (scratch .exit)) ⌝ }
 {
     let mut a = Side { length: l, from: 0 };

@@ -7,8 +7,8 @@ ghost use mathlib.Core.Path.{_≡_};
 ghost use Prim.Native.Nat.{_≤_};
 ghost use Rattle.words.specs.Limits.{depthLimit};
 ghost use Rattle.tables.specs.Types.{stored, viewed};
-ghost use Rattle.tables.specs.Refusals.{wrongFree};
-ghost use Rattle.tables.specs.Reading.{indexFits, chainScoped, termScoped, Readable, Shallow};
+ghost use Rattle.tables.specs.Reading.{Readable};
+ghost use Rattle.tables.specs.FreeNumbers.{wrongFree, indexFits, chainScoped, termScoped, Shallow};
 
 // Whether a record of this kind and value is no variable, or one whose free number under so many binders is in range.
 fn index_fits(kind: u32, value: u32, binders: u32) -> bool

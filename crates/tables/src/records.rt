@@ -9,8 +9,8 @@ ghost use Rattle.calculus.specs.Words.{word, tagOf};
 ghost use Rattle.calculus.specs.Accepted.{indexLimit};
 ghost use Rattle.words.specs.Bound.{binding};
 ghost use Rattle.tables.specs.Records.{headerCount, headerRoot, recordAt, declaredAt, Inside, form1, inForm1, recordsWords};
-ghost use Rattle.tables.specs.Types.{formOf, stored, declaredOf, recordOf};
 ghost use Rattle.tables.specs.Reading.{payload, Wordable};
+ghost use Rattle.tables.specs.Types.{formOf, stored, declaredOf, recordOf};
 ghost use Rattle.tables.specs.Writing.{Puttable};
 
 pub enum Form {

@@ -8,7 +8,8 @@ ghost use mathlib.Core.Bool.{false, _&&_};
 ghost use lib.Dec.{leb};
 ghost use Rattle.calculus.specs.Words.{branchKind};
 ghost use Rattle.tables.specs.Types.{stored, viewed};
-ghost use Rattle.tables.specs.Refusals.{wrongLength, isTag, valueFits, wrongValue};
+ghost use Rattle.tables.specs.Header.{wrongLength};
+ghost use Rattle.tables.specs.Values.{isTag, valueFits, wrongValue};
 
 fn is_tag(tag: u32) -> bool
     ensures { λ r. ⌜ r ≡ isTag tag ⌝ }

@@ -11,7 +11,10 @@ use Rattle.calculus.specs.Equality.{tree, from-trees, equal?}
 use Rattle.calculus.specs.Workspace.{termAt}
 use Rattle.calculus.specs.Rounds.{round, rounds}
 use Rattle.rounds.specs.Press.{press}
-use Rattle.tables.specs.Refusals.{wrongLength, wrongHeader, valueFits, wrongValue, namings, wrongLink, childrenFit, wrongChildren}
+use Rattle.tables.specs.Header.{wrongLength, wrongHeader}
+use Rattle.tables.specs.Values.{valueFits, wrongValue}
+use Rattle.tables.specs.Links.{namings, wrongLink}
+use Rattle.tables.specs.Children.{childrenFit, wrongChildren}
 use Rattle.tables.specs.Meaning.{termOf, meantTerm, meantTerms, meantBranch, meantBranches, meant, meaning}
 use Rattle.tables.specs.Load.{loadStored}
 use Rattle.text.specs.Bytes.{wordsOf}

@@ -3,7 +3,7 @@
 use crate::numbers::grouped;
 use unit::limits::MAX_BUDGET;
 use unit::program::input;
-use unit::Term;
+use unit::{table, Term};
 
 /// The words of each workspace.
 pub const C: u32 = 2_048;
@@ -28,13 +28,13 @@ impl Case {
         }
     }
 
-    /// What the measuring of the stack reads: budget, C, and the words of both sides.
+    /// What the measuring of the stack reads: budget, C, the words of both sides, the left table.
     pub fn words(&self, budget: u32) -> Vec<u8> {
+        let side = |term: &Term| term.words().expect("the case is within the limits");
         let mut words = vec![budget, C];
-        for term in [&self.left, &self.right] {
-            let side = term.words().expect("the case is within the limits");
-            words.push(side.len() as u32);
-            words.extend(side);
+        for list in [side(&self.left), side(&self.right), table(&self.left)] {
+            words.push(list.len() as u32);
+            words.extend(list);
         }
         words.into_iter().flat_map(u32::to_le_bytes).collect()
     }

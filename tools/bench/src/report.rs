@@ -9,6 +9,7 @@ use crate::elf::text_size;
 use crate::measure::{spent, Each, Programs, Row, COUNTED, NAMES};
 use crate::numbers::{grouped, rounded};
 use crate::run::Counter;
+use crate::stack::Stack;
 use crate::times::Times;
 
 /// Stands where nothing was measured.
@@ -108,22 +109,23 @@ impl Report {
 
     fn stack(&self) -> String {
         let mut text = "## Machine stack\n\n\
-             KiB. Of the unit's calls alone, by painting the stack below the call; and the smallest \
+             KiB. Of the unit's calls alone, by painting the stack below the call (loading and writing: of \
+             the left side); and the smallest \
              limit, in steps of 4 KiB, under which each whole program prints its line, start and \
              loading included.\n\n"
             .to_string();
         let rows = self.groups().into_iter().flat_map(|(_, rows)| rows);
-        let titles = ["a press", "showing", NAMES[0], NAMES[1], NAMES[2]];
+        let calls = ["a press", "showing", "loading", "writing"];
+        let titles = [&calls[..], &NAMES].concat();
         text += &table(&[], &titles, rows, |row| {
             let alone = |bytes: Option<usize>| {
                 bytes.map_or(NONE.to_string(), |bytes| {
                     format!("{:.1}", bytes as f64 / 1024.0)
                 })
             };
-            let mut cells = vec![
-                alone(row.stack.map(|stack| stack.press)),
-                alone(row.stack.map(|stack| stack.show)),
-            ];
+            let calls = |stack: Stack| [stack.press, stack.show, stack.load, stack.write];
+            let calls = row.stack.map(calls).map(|calls| calls.map(Some));
+            let mut cells = calls.unwrap_or_default().map(alone).to_vec();
             let limit = |kib: Option<u32>| kib.map_or(NONE.to_string(), |kib| kib.to_string());
             cells.extend(row.limit_kib.map(limit));
             (Vec::new(), cells)
@@ -221,7 +223,6 @@ fn compiler() -> String {
 #[cfg(test)]
 mod tests {
     use super::*;
-    use crate::stack::Stack;
     use crate::times::Estimate;
 
     fn row(name: &str, line: &str, press: Option<Estimate>) -> Row {
@@ -234,6 +235,8 @@ mod tests {
             stack: Some(Stack {
                 press: 10_240,
                 show: 1_100,
+                load: 20_480,
+                write: 512,
             }),
             limit_kib: [Some(136), Some(56), None],
         }
@@ -268,7 +271,7 @@ mod tests {
         for line in [
             "| Loop | `Budget 100 9 1` | 1,235 | 7 | n/a |",
             "| Loop | 1,000,000 ±2% | 1,000,000 ±2% | 1,000,000 ±2% |",
-            "| Loop | 10.0 | 1.1 | 136 | 56 | n/a |",
+            "| Loop | 10.0 | 1.1 | 20.0 | 0.5 | 136 | 56 | n/a |",
             "| Long | n/a | n/a | n/a |",
             "| Normal | 2.00 ±2% | 2.00 ±2% | 2.00 ±2% |",
             "### Contractions: contractions a second",

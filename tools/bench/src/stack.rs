@@ -11,10 +11,10 @@ use crate::cases::Case;
 use crate::measure::spent;
 use crate::run::{line_of, InputFile};
 
-/// The library's one crate, over the crate that has the calls. It is proved when it is built; no crate
+/// The library's one crate, over the crates that have the calls. It is proved when it is built; no crate
 /// of the repository holds it, so it has no name that rt would look for.
 const LIBRARY: &str = include_str!("../stack/library.txt");
-const LISTED: &str = "probe: rounds\n";
+const LISTED: &str = "probe: rounds tables\n";
 const PROGRAM: &str = include_str!("../stack/main.rs");
 
 /// Bytes of machine stack.
@@ -22,6 +22,9 @@ const PROGRAM: &str = include_str!("../stack/main.rs");
 pub struct Stack {
     pub press: usize,
     pub show: usize,
+    /// Of the left side's table.
+    pub load: usize,
+    pub write: usize,
 }
 
 /// The program that measures.
@@ -53,7 +56,12 @@ impl Probe {
         let (printed, _) = line_of(&self.program, &input)?;
         let numbers: Option<Vec<usize>> = printed.split(' ').map(|n| n.parse().ok()).collect();
         match numbers.as_deref() {
-            Some(&[made, press, show]) if made == spent(line) as usize => Ok(Stack { press, show }),
+            Some(&[made, press, show, load, write]) if made == spent(line) as usize => Ok(Stack {
+                press,
+                show,
+                load,
+                write,
+            }),
             _ => Err(format!(
                 "the stack's program printed `{printed}` for `{line}`"
             )),

@@ -1,6 +1,7 @@
 //! Measures the machine stack of the unit's calls by painting it. Standard input holds little-endian
-//! words: budget, C, left length, left words, right length, right words. Prints what the press spends
-//! and the bytes of stack that the press and a showing of the first terms take.
+//! words: budget, C, left length, left words, right length, right words, length of the left table, its
+//! words. Prints what the press spends and the bytes of stack that these take: the press, showing the
+//! first terms, loading the table and writing it again.
 
 use std::arch::asm;
 use std::io::{self, Read};
@@ -28,6 +29,16 @@ extern "C" {
         left_length: usize,
         right_length: usize,
     ) -> usize;
+
+    fn probe_load(table: *const u32, table_words: usize, workspace: *mut u32, words: usize);
+
+    fn probe_write(
+        workspace: *const u32,
+        words: usize,
+        length: usize,
+        table: *mut u32,
+        table_words: usize,
+    );
 }
 
 /// Bytes that are painted, of a larger stack.
@@ -60,60 +71,99 @@ struct Pair {
     left_length: usize,
     right: Vec<u32>,
     right_length: usize,
+    table: Vec<u32>,
 }
 
 fn read(bytes: &[u8]) -> Option<Pair> {
     let words = bytes.chunks_exact(4);
     let mut words = words.map(|word| u32::from_le_bytes([word[0], word[1], word[2], word[3]]));
     let (budget, c) = (words.next()?, words.next()? as usize);
-    let mut side = || {
+    let mut counted = || {
         let length = words.next()? as usize;
-        let mut workspace: Vec<u32> = words.by_ref().take(length).collect();
-        workspace.resize(c, 0);
-        Some((workspace, length))
+        Some(words.by_ref().take(length).collect::<Vec<u32>>())
     };
-    let ((left, left_length), (right, right_length)) = (side()?, side()?);
+    let (mut left, mut right, table) = (counted()?, counted()?, counted()?);
+    let (left_length, right_length) = (left.len(), right.len());
+    left.resize(c, 0);
+    right.resize(c, 0);
     Some(Pair {
         budget,
         left,
         left_length,
         right,
         right_length,
+        table,
     })
 }
 
-/// What the press spends, and the stack of the press and of the showing.
-fn measured(mut pair: Pair) -> (u32, usize, usize) {
-    let c = pair.left.len();
-    let mut scratch = vec![0_u32; c];
-    // Safety: each pointer is that of as many words as stand behind it, none lent twice.
-    let show = used(&mut || unsafe {
-        let (left, right) = (pair.left.as_ptr(), pair.right.as_ptr());
-        probe_show(left, c, right, c, pair.left_length, pair.right_length);
-    });
-    let mut spent = 0;
-    let press = used(&mut || unsafe {
-        spent = probe_press(
-            pair.left.as_mut_ptr(),
-            c,
-            pair.right.as_mut_ptr(),
-            c,
-            scratch.as_mut_ptr(),
-            c,
-            pair.left_length,
-            pair.right_length,
-            pair.budget,
-        );
-    });
-    (spent, press, show)
+impl Pair {
+    fn show(&self) -> usize {
+        let c = self.left.len();
+        // Safety: each pointer is that of as many words as stand behind it, none lent twice.
+        used(&mut || unsafe {
+            let (left, right) = (self.left.as_ptr(), self.right.as_ptr());
+            probe_show(left, c, right, c, self.left_length, self.right_length);
+        })
+    }
+
+    fn load(&self) -> usize {
+        let c = self.left.len();
+        let mut workspace = vec![7; c];
+        // Safety: as above.
+        let stack = used(&mut || unsafe {
+            let (table, words) = (self.table.as_ptr(), self.table.len());
+            probe_load(table, words, workspace.as_mut_ptr(), c);
+        });
+        assert!(workspace == self.left, "the table is loaded");
+        stack
+    }
+
+    fn write(&self) -> usize {
+        let mut table = vec![7; self.table.len()];
+        // Safety: as above.
+        let stack = used(&mut || unsafe {
+            let (workspace, c) = (self.left.as_ptr(), self.left.len());
+            let (words, count) = (table.as_mut_ptr(), table.len());
+            probe_write(workspace, c, self.left_length, words, count);
+        });
+        assert!(table == self.table, "the table is written");
+        stack
+    }
+
+    /// What the press spends, and its stack.
+    fn press(&mut self) -> (u32, usize) {
+        let c = self.left.len();
+        let mut scratch = vec![7; c];
+        let mut spent = 0;
+        // Safety: as above.
+        let stack = used(&mut || unsafe {
+            spent = probe_press(
+                self.left.as_mut_ptr(),
+                c,
+                self.right.as_mut_ptr(),
+                c,
+                scratch.as_mut_ptr(),
+                c,
+                self.left_length,
+                self.right_length,
+                self.budget,
+            );
+        });
+        (spent, stack)
+    }
+}
+
+fn measured(mut pair: Pair) -> String {
+    let (show, load, write) = (pair.show(), pair.load(), pair.write());
+    let (spent, press) = pair.press();
+    format!("{spent} {press} {show} {load} {write}")
 }
 
 fn main() {
     let mut bytes = Vec::new();
     io::stdin().read_to_end(&mut bytes).expect("an input");
-    let pair = read(&bytes).expect("a pair of terms");
+    let pair = read(&bytes).expect("a pair of terms and a table");
     let thread = thread::Builder::new().stack_size(STACK);
     let thread = thread.spawn(move || measured(pair)).expect("a thread");
-    let (spent, press, show) = thread.join().expect("the calls return");
-    println!("{spent} {press} {show}");
+    println!("{}", thread.join().expect("the calls return"));
 }

@@ -67,7 +67,7 @@ fn broken_inputs_are_broken_in_every_way() {
         census
     });
     census.assert_reaches(
-        8,
+        4,
         &[
             "no byte",
             "no whole words",
@@ -121,7 +121,7 @@ fn mixed_inputs_come_to_every_end() {
         "8",
         "9",
     ];
-    census.assert_reaches(4, &ends);
+    census.assert_reaches(2, &ends);
 }
 
 /// Each call of a script with the machine before it, and what is left unread.
@@ -280,7 +280,7 @@ fn scripts_reach_every_call_and_answer() {
         features.extend(lengths.map(|wrong| format!("press, 10 by the {side}'s {wrong}")));
     }
     let features: Vec<&str> = features.iter().map(String::as_str).collect();
-    census.assert_reaches(4, &[&features[..], &CALLS].concat());
+    census.assert_reaches(2, &[&features[..], &CALLS].concat());
 }
 
 /// Why the words at the break are no operation.
@@ -420,7 +420,7 @@ fn scripts_reach_the_limits_of_a_press() {
         census
     });
     census.assert_reaches(
-        8,
+        5,
         &[
             "loaded over other words",
             "a tail becomes zeros",

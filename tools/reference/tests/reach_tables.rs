@@ -100,7 +100,7 @@ fn refusal_1() {
         });
         census.meet_if(count == 0 && length == 4, "the header alone");
     });
-    census.assert_reaches(8, &LENGTHS);
+    census.assert_reaches(4, &LENGTHS);
 }
 
 #[test]
@@ -127,7 +127,7 @@ fn refusal_2() {
         }
     });
     census.assert_reaches(
-        8,
+        5,
         &[
             "form 0",
             "form 2",
@@ -156,7 +156,7 @@ fn refusal_8() {
         census.meet_if(table[1] == 2_048, "2,048 words");
     });
     census.assert_reaches(
-        20,
+        12,
         &[
             "one word",
             "a few words",
@@ -226,7 +226,7 @@ fn refusal_3() {
             }
         }
     });
-    census.assert_reaches(8, &VALUES);
+    census.assert_reaches(5, &VALUES);
 }
 
 /// Ways in which links are wrong.
@@ -286,7 +286,7 @@ fn refusal_4() {
         census.meet_if(back && !twice && !unnamed, "a circle, all named once");
         census.meet_if(table[2] != 1, "another root");
     });
-    census.assert_reaches(6, &LINKS);
+    census.assert_reaches(2, &LINKS);
 }
 
 /// The records on the chain of a record's children.
@@ -408,7 +408,7 @@ fn refusal_5() {
             }
         }
     });
-    census.assert_reaches(5, &STRUCTURES);
+    census.assert_reaches(2, &STRUCTURES);
 }
 
 /// Each variable's index with the binders around it, from a record on.
@@ -449,7 +449,7 @@ fn refusal_6() {
         }
     });
     census.assert_reaches(
-        8,
+        3,
         &[
             "free number 256",
             "free number 257",

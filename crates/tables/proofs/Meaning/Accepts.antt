@@ -10,7 +10,9 @@ use Rattle.calculus.specs.Words.{constructorKind, caseKind, branchKind, tagOf, 
 use Rattle.calculus.specs.Accepted.{tagLimit, argumentLimit, branchLimit, IsTag, Rising, Accepted}
 use Rattle.tables.specs.Records.{Table, OfKind}
 use Rattle.tables.specs.Meaning.{Means, variable, abstraction, application, constructor, case-of, no-term, a-term, no-branch, a-branch}
-use Rattle.tables.specs.Refusals.{isTag, valueFits, children, allTerms, childrenFit, freeFits}
+use Rattle.tables.specs.Values.{isTag, valueFits}
+use Rattle.tables.specs.Children.{children, allTerms, childrenFit}
+use Rattle.tables.specs.FreeNumbers.{freeFits}
 use Rattle.tables.proofs.Refusal.LinkRules.{Linked, children-enough}
 use Rattle.tables.proofs.Meaning.ChainMeaning.{terms-chain, case-chain}
 use Rattle.tables.proofs.Refusal.Fits.{Valued, Fitted}

@@ -12,9 +12,10 @@ use Rattle.calculus.specs.Words.{variableKind, constructorKind, caseKind, branc
 use Rattle.calculus.specs.Accepted.{argumentLimit, indexLimit}
 use Rattle.words.specs.Limits.{payloadBound}
 use Rattle.tables.specs.Records.{Record, Table, Stored, recordAt, view}
-use Rattle.tables.specs.Refusals.{isTag, valueFits, children, childrenFit}
-use Rattle.tables.specs.Chains.{chainFrom}
-use Rattle.tables.specs.Reading.{ahead, payload, Wordable, chainWords, termWords, chainScoped, termScoped, Readable}
+use Rattle.tables.specs.Values.{isTag, valueFits}
+use Rattle.tables.specs.Children.{children, childrenFit, chainFrom}
+use Rattle.tables.specs.Reading.{ahead, payload, Wordable, chainWords, termWords, Readable}
+use Rattle.tables.specs.FreeNumbers.{chainScoped, termScoped}
 use Rattle.tables.proofs.Refusal.LinkRules.{Ahead, Linked, linked}
 use Rattle.tables.proofs.Refusal.Fits.{valued, fitted}
 use Rattle.tables.proofs.Meaning.Hanging.{hanging-zero, hanging-record}

@@ -16,8 +16,10 @@ use Rattle.calculus.proofs.WordLaws.{pack-of-parts}
 use Rattle.words.specs.Bound.{binding}
 use Rattle.tables.specs.Records.{Table, Stored, view}
 use Rattle.tables.specs.Meaning.{Means, variable, abstraction, application, constructor, case-of, no-term, a-term, no-branch, a-branch}
-use Rattle.tables.specs.Refusals.{valueFits, children, freeFits, freeAbove, wrongFree}
-use Rattle.tables.specs.Reading.{chainWords, termWords, chainScoped, termScoped, Readable}
+use Rattle.tables.specs.Values.{valueFits}
+use Rattle.tables.specs.Children.{children}
+use Rattle.tables.specs.Reading.{chainWords, termWords, Readable}
+use Rattle.tables.specs.FreeNumbers.{freeFits, freeAbove, wrongFree, chainScoped, termScoped}
 use Rattle.tables.proofs.Refusal.LinkRules.{Linked, linked, children-enough, next-enough}
 use Rattle.tables.proofs.Refusal.Fits.{Valued, valued, fitted}
 use Rattle.tables.proofs.Meaning.MeaningLaws.{term-inside, meaning-complete}

@@ -6,12 +6,7 @@ use mathlib.Core.Option.{Option}
 use lib.Dec.{leb}
 use borrow.Author.Tests.{leb-true, le-leb}
 use Rattle.calculus.proofs.All.{All}
-use Rattle.tables.specs.Records.{Table}
-use Rattle.tables.specs.Meaning.{isRecord}
-
-pub both-false : (a b : Bool) → (a || b) ≡ false → (a ≡ false) × (b ≡ false)
-both-false true b h = absurd (true≢false h)
-both-false false b h = (refl, h)
+use Rattle.tables.specs.Records.{Table, isRecord}
 
 pub if-true : {A : Type 0} (b : Bool) (x y : A) → b ≡ true → _≡_ {A = A} (elim b [ true ↦ x | false ↦ y ]) x
 if-true true x y h = refl

@@ -4,29 +4,29 @@ use mathlib.Core.Path.{_≡_, refl, sym, ap, _∙_}
 use mathlib.Core.Bool.{Bool, true, false, cond}
 use mathlib.Core.List.{List, [], _∷_}
 use mathlib.Core.Option.{some, none, Option·none-ne-some}
-use lib.Dec.{leb, ltb}
+use lib.Dec.{leb}
 use lib.ListN.{length, take}
 use lib.Seq.{sets, length-take-le}
-use borrow.Author.Tests.{leb-true, ltb-false, eq-eqb}
+use borrow.Author.Tests.{leb-true, eq-eqb, not-false}
 use Rattle.calculus.specs.Term.{Term}
-use Rattle.calculus.specs.Words.{words, size, workspaceLeast, workspaceMost}
+use Rattle.calculus.specs.Words.{words, size, workspaceMost}
 use Rattle.calculus.specs.Accepted.{Accepted}
 use Rattle.calculus.specs.Read.{read}
 use Rattle.calculus.specs.Workspace.{termAt}
 use Rattle.calculus.proofs.WordLaws.{accepted-packable}
+use Rattle.calculus.proofs.WorkspaceLaws.{sized-most}
 use Rattle.calculus.proofs.ReadLaws.{read-sound, read-accepted}
 use Rattle.words.proofs.PlacedLaws.{sets-whole}
 use Rattle.tables.specs.Records.{form1, recordsWords}
-use Rattle.tables.specs.Refusals.{wrongWorkspace}
+use Rattle.tables.specs.Header.{wrongWorkspace}
 use Rattle.tables.specs.Load.{returned}
 use Rattle.tables.specs.Write.{entry, records, tableOf, Written, write}
 use Rattle.tables.specs.Writing.{entries}
-use Rattle.tables.proofs.Refusal.Tests.{both-false}
 use Rattle.tables.proofs.Written.WrittenTable.{tableOf-length}
 use Rattle.tables.proofs.Written.EntriesLaws.{entries-records}
 
 pub workspace-short : (C : ℕ) → wrongWorkspace C ≡ false → C ≤ workspaceMost
-workspace-short C h = ltb-false workspaceMost C (both-false (ltb C workspaceLeast) (ltb workspaceMost C) h .1)
+workspace-short C h = sized-most C [] (not-false _ h)
 
 -- The words of the term that a workspace holds.
 pub record Held (ws : List ℕ) (n : ℕ) (t : Term) : Type 0 where

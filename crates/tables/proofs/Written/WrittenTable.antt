@@ -13,7 +13,9 @@ use Rattle.calculus.proofs.WordLaws.{size-positive, accepted-packable}
 use Rattle.calculus.proofs.Indices.{indices-bounded}
 use Rattle.tables.specs.Records.{form1, recordAt, inForm1, view}
 use Rattle.tables.specs.Meaning.{Means}
-use Rattle.tables.specs.Refusals.{wrongWorkspace, wrongLength, wrongHeader, wrongLink, freeFits, wrongFree}
+use Rattle.tables.specs.Header.{wrongWorkspace, wrongLength, wrongHeader}
+use Rattle.tables.specs.Links.{wrongLink}
+use Rattle.tables.specs.FreeNumbers.{freeFits, wrongFree}
 use Rattle.tables.specs.PrefixOrder.{nothing, InPrefixOrder}
 use Rattle.tables.specs.Write.{entry, records, tableOf}
 use Rattle.tables.proofs.Refusal.Tests.{record-isRecord}

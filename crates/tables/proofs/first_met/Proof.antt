@@ -4,8 +4,11 @@ use mathlib.Core.Bool.{false}
 use borrow.Author.Needs.{needs}
 use borrow.Author.Tests.{lt-ltb, le-ltb}
 use Rattle.tables.specs.Types.{stored, viewed}
-use Rattle.tables.specs.Refusals.{wrongWorkspace, wrongLength, wrongHeader, tooLong, wrongValue, wrongLink, wrongChildren, wrongFree}
-use Rattle.tables.specs.Chains.{Walkable}
+use Rattle.tables.specs.Header.{wrongWorkspace, wrongLength, wrongHeader, tooLong}
+use Rattle.tables.specs.Values.{wrongValue}
+use Rattle.tables.specs.Links.{wrongLink}
+use Rattle.tables.specs.Children.{wrongChildren, Walkable}
+use Rattle.tables.specs.FreeNumbers.{wrongFree}
 use Rattle.tables.proofs.Refusal.RecordLaws.{headed, rooted}
 use Rattle.tables.proofs.first_met.Statement.{statement}
 use Rattle.tables.proofs.first_met.Tie as tie

@@ -3,7 +3,7 @@ use mathlib.Core.Path.{ap, sym, _∙_}
 use mathlib.Core.Bool.{not}
 use native.Mathlib.Omega.{arith}
 use Rattle.tables.specs.Types.{viewed}
-use Rattle.tables.specs.Reading.{termScoped}
+use Rattle.tables.specs.FreeNumbers.{termScoped}
 use Rattle.tables.proofs.Refusal.RecordLaws.{headed}
 use Rattle.tables.proofs.Meaning.ReadingLaws.{ahead-record}
 use Rattle.tables.proofs.Meaning.ReadingMeaning.{wrongFree-scoped}

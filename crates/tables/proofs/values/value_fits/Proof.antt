@@ -4,7 +4,7 @@ use native.Mathlib.Omega.{arith}
 use borrow.Author.Needs.{needs}
 use borrow.Author.Tests.{le-leb, lt-leb, ne-eqb}
 use Rattle.calculus.specs.Words.{countOf}
-use Rattle.tables.specs.Refusals.{valueFits}
+use Rattle.tables.specs.Values.{valueFits}
 use Rattle.tables.proofs.values.value_fits.Statement.{statement}
 use Rattle.tables.proofs.values.value_fits.Tie as tie
 
