@@ -10,6 +10,7 @@ use Rattle.calculus.specs.Term.{Term}
 use Rattle.calculus.specs.Words.{words, size}
 use Rattle.calculus.specs.Leftmost.{leftmost}
 use Rattle.calculus.specs.Position.{contractAt, redexAt}
+use Rattle.calculus.specs.Rounds.{next}
 use Rattle.calculus.proofs.PositionLaws.{redex-first}
 use Rattle.step.specs.declared.Found.{Found}
 use Rattle.step.specs.declared.Found.the-variants.{At, Nothing}
@@ -17,7 +18,7 @@ use Rattle.step.specs.Held.{held, Holds}
 use Rattle.step.specs.Search.{found, Searched}
 use Rattle.step.specs.Next.{HoldsRedex, HasRoom, Contracted}
 use Rattle.step.specs.Next as stepNext
-use Rattle.rounds.specs.Turn.{next, Plan, normal, contract, planAt, planned}
+use Rattle.rounds.specs.Turn.{Plan, normal, contract, planAt, planned}
 use Rattle.rounds.specs.Resume.{resumeAt}
 use Rattle.rounds.specs.Advance.{Advances, scratchAfter, Advanced}
 use Rattle.step.proofs.HeldLaws.{next-term, Start, termAt-start}

@@ -2,7 +2,7 @@
 -- end in what all the rounds end in.
 use Prim.Native.Nat.{ℕ, _+_, _-_, _≤_, _<_}
 use mathlib.Core.Path.{_≡_, refl, sym, _∙_, ap, subst, subst⁻¹}
-use mathlib.Core.Bool.{true, false}
+use mathlib.Core.Bool.{true, false, cond}
 use mathlib.Core.List.{List, _++_}
 use mathlib.Core.Option.{some, none}
 use native.Mathlib.Omega.{arith}
@@ -15,7 +15,7 @@ use Rattle.calculus.specs.Words.{words, size}
 use Rattle.calculus.specs.Accepted.{Accepted}
 use Rattle.calculus.specs.Workspace.{termAt}
 use Rattle.calculus.specs.Position.{contractAt}
-use Rattle.calculus.specs.Rounds.{Verdict, shows, ended, after, rounds}
+use Rattle.calculus.specs.Rounds.{Verdict, Same, shows, Round, ends, goes, round, next, nextLength, same, roundBy, ended, after, rounds}
 use Rattle.calculus.proofs.WordLaws.{accepted-packable}
 use Rattle.calculus.proofs.PositionLaws.{redex-first}
 use Rattle.calculus.proofs.ResumeLaws.{none-before, none-anywhere}
@@ -23,18 +23,17 @@ use Rattle.calculus.proofs.AcceptedLaws.{leftmost-keeps-accepted}
 use Rattle.step.specs.Held.{held, Holds}
 use Rattle.step.specs.Search.{Searched}
 use Rattle.rounds.specs.Compare.{common, Agrees, Compares}
-use Rattle.rounds.specs.Turn.{next, Plan, planned, Turn, ends, goes, turn}
+use Rattle.rounds.specs.Turn.{Plan, lengthIn, planned}
 use Rattle.rounds.specs.Resume.{resumeAt, agreeAfter, Agreeing}
 use Rattle.rounds.specs.Advance.{Advances, Advanced}
 use Rattle.rounds.specs.Run.{Ready, Ran}
-use Rattle.rounds.specs.Claim as claim
 use Rattle.rounds.proofs.CompareLaws.{agrees-none, common-agrees, common-whole, common-equal}
 use Rattle.step.proofs.HeldLaws.{held-term, holds-term, Start, termAt-start}
 use Rattle.rounds.proofs.Workspaces.{termAt-size}
 use Rattle.rounds.proofs.AgreeLaws.{agree-after}
 use Rattle.rounds.proofs.RunCode.{searched}
-use Rattle.rounds.proofs.Walk.{here, further, walk-fits, after-zero, after-after}
-use Rattle.rounds.proofs.TurnLaws.{Planned, is-normal, contracts, planned-tells, next-is, next-normal, Turned, going, turned, rounds-stopped, rounds-going}
+use Rattle.calculus.proofs.RoundsLaws.{Goes, goes-on, goes-wider, Moves, here, further, rounds-end, rounds-go, walk-fits, after-zero, after-after}
+use Rattle.rounds.proofs.TurnLaws.{Planned, is-normal, contracts, planned-tells, next-is, next-normal, planned-length, asked}
 
 begins : {ws : List ℕ} {n : ℕ} → Holds ws n → Start ws n (held ws n)
 begins {ws} {n} h = termAt-start ws n (held ws n) (h .term)
@@ -130,12 +129,11 @@ module _ {left₀ right₀ scratch₀ : List ℕ} {l r budget : ℕ} {left right
 
   -- What the calls before the judgement tell: the words that both sides share, and both plans.
   module _ {shared : ℕ} {a b : Plan} (s : shared ≡ common (take m left) (take n right)) (p : a ≡ planned (held left m)) (q : b ≡ planned (held right n)) where
-    pub judged : {t : Turn} → t ≡ turn (eqb shared m) a b (budget - spent) (length left)
-        → Turned (length left₀) (budget - spent) (held left m) (held right n) t
+    pub judged : {x : Round} → x ≡ round (cond (eqb shared m) (some Same) none) (length left) (budget - spent) (lengthIn a) (lengthIn b)
+        → roundBy same (length left₀) (budget - spent) (held left m) (held right n) ≡ x
     judged e =
-        let lh = g .ready .left-holds in
-        let rh = g .ready .right-holds in
-        rw (e, p, q, g .left-kept, s) (turned (eqb (common (take m left) (take n right)) m) (same-terms lh rh) (other-terms lh rh))
+        let first = asked (eqb (common (take m left) (take n right)) m) (same-terms (g .ready .left-holds) (g .ready .right-holds)) (other-terms (g .ready .left-holds) (g .ready .right-holds)) in
+        sym (rw (e, p, q, g .left-kept, s, first, planned-length (held left m), planned-length (held right n)))
 
     shared-agrees : Agrees shared (take m left) (take n right)
     shared-agrees = rw s (common-agrees (take m left) (take n right))
@@ -153,11 +151,11 @@ module _ {left₀ right₀ scratch₀ : List ℕ} {l r budget : ℕ} {left right
         (agree-after ls rs (omega (arith, left-fits, g .ready .left-holds .limit)) (omega (arith, right-fits, g .ready .right-holds .limit))
         (rw (ls .taken, rs .taken) shared-agrees) (planned-tells (held left m)) (planned-tells (held right n)))
 
-  pub ran : {v : Verdict} → Turned (length left₀) (budget - spent) (held left m) (held right n) (ends v)
+  pub ran : {v : Verdict} → roundBy same (length left₀) (budget - spent) (held left m) (held right n) ≡ ends v
       → Ran budget (rounds (length left₀) budget (held left₀ l) (held right₀ r)) (record { verdict = v; spent = spent; left = m; right = n }) left right scratch
   ran {v} t =
       let o : after spent (ended v (held left m) (held right n)) ≡ rounds (length left₀) budget (held left₀ l) (held right₀ r)
-      = sym (ap (after spent) (rounds-stopped t)) ∙ g .rest in
+      = sym (ap (after spent) (rounds-end same (length left₀) (budget - spent) (held left m) (held right n) t)) ∙ g .rest in
       let ls = begins (g .ready .left-holds) in
       let rs = begins (g .ready .right-holds) in
       let all : spent ≡ spent + 0 = omega arith in
@@ -173,23 +171,22 @@ module _ {left₀ right₀ scratch₀ : List ℕ} {l r budget : ℕ} {left right
         scratch-length = g .ready .scratch-length;
       }
 
-  module _ {p : ℕ} (t : Turned (length left₀) (budget - spent) (held left m) (held right n) (goes p)) where
+  module _ {p : ℕ} (t : roundBy same (length left₀) (budget - spent) (held left m) (held right n) ≡ goes p) where
+    goes-here : Goes (same (held left m) (held right n)) (length left₀) (budget - spent) (nextLength (held left m)) (nextLength (held right n)) p
+    goes-here = goes-on (same (held left m) (held right n)) (length left₀) (budget - spent) (nextLength (held left m)) (nextLength (held right n)) t
+
+    moves : Moves same (length left₀) p (held left m) (held right n)
+    moves = goes-wider {C′ = length left₀} {rest′ = p} (omega arith) (omega arith) goes-here
+
     pub spends : (1 ≤ p) × (p ≤ budget - spent)
-    spends = by t
-      where
-        by : Turned (length left₀) (budget - spent) (held left m) (held right n) (goes p) → (1 ≤ p) × (p ≤ budget - spent)
-        by (going q pos h mv) = (pos, h)
+    spends = (goes-here .moves, goes-here .covered)
 
     both-fit : (size (next (held left m)) ≤ length left) × (size (next (held right n)) ≤ length left)
-    both-fit = by t
-      where
-        by : Turned (length left₀) (budget - spent) (held left m) (held right n) (goes p)
-            → (size (next (held left m)) ≤ length left) × (size (next (held right n)) ≤ length left)
-        by (going q pos h mv) =
-            let f = walk-fits (further mv here) in
-            let lm : size (held left m) ≤ length left₀ = omega (arith, begins (g .ready .left-holds) .long, left-fits, g .left-kept) in
-            let rn : size (held right n) ≤ length left₀ = omega (arith, begins (g .ready .right-holds) .long, right-fits, g .left-kept, g .ready .right-length) in
-            (omega (arith, f .0 lm, g .left-kept), omega (arith, f .1 rn, g .left-kept))
+    both-fit =
+        let f = walk-fits same (further moves here) in
+        let lm : size (held left m) ≤ length left₀ = omega (arith, begins (g .ready .left-holds) .long, left-fits, g .left-kept) in
+        let rn : size (held right n) ≤ length left₀ = omega (arith, begins (g .ready .right-holds) .long, right-fits, g .left-kept, g .ready .right-length) in
+        (omega (arith, f .0 lm, g .left-kept), omega (arith, f .1 rn, g .left-kept))
 
     pub left-advances : {a : Plan} → a ≡ planned (held left m) → Advances left m a scratch
     left-advances e =
@@ -214,6 +211,7 @@ module _ {left₀ right₀ scratch₀ : List ℕ} {l r budget : ℕ} {left right
         going-on s x y k =
             let (pos, h) = spends in
             let less : budget - (spent + p) ≡ budget - spent - p = omega arith in
+            let whole : p + (budget - spent - p) ≡ budget - spent = omega arith in
             record {
               ready =
                   record {
@@ -234,6 +232,7 @@ module _ {left₀ right₀ scratch₀ : List ℕ} {l r budget : ℕ} {left right
               rest =
                   rw (advanced-held (g .ready .left-holds) lk la, advanced-held (g .ready .right-holds) rk ra, less)
                   (sym (after-after spent p (rounds (length left₀) (budget - spent - p) (next (held left m)) (next (held right n))))
-                  ∙ ap (after spent) (sym (rounds-going t))
+                  ∙ ap (after spent) (sym (rounds-go same moves (budget - spent - p)))
+                  ∙ ap (λ b. after spent (rounds (length left₀) b (held left m) (held right n))) whole
                   ∙ g .rest);
             }

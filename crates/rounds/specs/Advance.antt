@@ -5,8 +5,9 @@ use mathlib.Core.List.{List, _++_}
 use lib.ListN.{length, drop}
 use lib.Seq.{sets}
 use Rattle.calculus.specs.Words.{words, size}
+use Rattle.calculus.specs.Rounds.{next}
 use Rattle.step.specs.Held.{held, Holds}
-use Rattle.rounds.specs.Turn.{next, Plan, normal, contract, planned}
+use Rattle.rounds.specs.Turn.{Plan, normal, contract, planned}
 use Rattle.rounds.specs.Resume.{resumeAt}
 
 -- The workspace holds a term, the plan is the one for it, and the next term fits the workspace and the scratch.

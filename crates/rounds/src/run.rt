@@ -6,8 +6,8 @@ ghost use Rattle.rounds.specs.Types.{shownOf};
 ghost use Rattle.step.specs.Held.{held};
 use crate::Shown;
 use crate::compare::agreeing;
+use crate::turn::Round;
 use crate::turn::Side;
-use crate::turn::Turn;
 use crate::turn::advance;
 use crate::turn::agreed;
 use crate::turn::judge;
@@ -35,7 +35,7 @@ pub fn run(
         let q = plan_for(right, b);
         // No term's words are the start of another's, so a term whose words are all shared is the other one.
         match judge(shared == a.length, p, q, budget - spent, left.len()) {
-            Turn::Ends(verdict) => {
+            Round::Ends(verdict) => {
                 return Shown {
                     verdict,
                     spent,
@@ -43,7 +43,7 @@ pub fn run(
                     right: b.length,
                 };
             }
-            Turn::Goes(count) => {
+            Round::Goes(count) => {
                 agree = agreed(left, a.length, shared, p, q);
                 a = advance(left, a, p, scratch);
                 b = advance(right, b, q, scratch);

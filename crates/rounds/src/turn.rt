@@ -1,11 +1,12 @@
 // One round: what each side would do, what the round comes to, and a side's part in it.
 ghost use mathlib.Core.Path.{_≡_};
-ghost use mathlib.Core.Bool.{_||_};
-ghost use lib.Dec.{ltb};
-ghost use Prim.Native.Nat.{_-_};
-ghost use Rattle.rounds.specs.Turn.{contract, spend, turn, planned};
+ghost use mathlib.Core.Bool.{cond};
+ghost use mathlib.Core.Option.{some, none, Option·getD};
+ghost use Prim.Native.Nat.{_-_, max};
+ghost use Rattle.calculus.specs.Rounds.{Same, contractions, round};
+ghost use Rattle.rounds.specs.Turn.{contract, lengthIn, planned};
 ghost use Rattle.rounds.specs.Resume.{agreeBoth, agreeAfter, Agreeing};
-ghost use Rattle.rounds.specs.Types.{turnOf, planOf};
+ghost use Rattle.rounds.specs.Types.{roundOf, planOf};
 ghost use Rattle.rounds.specs.Advance.{Advances, Advanced};
 ghost use Rattle.step.specs.Held.{held};
 ghost use Rattle.step.specs.Search.{Searched};
@@ -26,54 +27,59 @@ pub struct Side {
 }
 
 // What a round comes to: it ends in a verdict, or makes so many contractions.
-pub enum Turn {
+pub enum Round {
     Ends(Verdict),
     Goes(u32),
 }
 
-// Points 3 to 5 of a round for `count` sides that are not normal, of which one has a next term that is too `long`, or none has.
-fn spend(rest: u32, count: u32, long: bool) -> Turn
-    ensures { λ r. ⌜ turnOf r ≡ spend rest count long ⌝ }
-{
-    if rest < count {
-        return Turn::Ends(Verdict::Budget);
+impl Plan {
+    fn contractions(self) -> u32
+        ensures { λ r. ⌜ r ≡ contractions (lengthIn (planOf self)) ⌝ }
+    {
+        match self {
+            Plan::Normal => 0,
+            Plan::Contract { at: _, length: _ } => 1,
+        }
     }
-    if long {
-        return Turn::Ends(Verdict::Full);
+
+    // The length of the next term, 0 where there is none.
+    fn next_length(self) -> usize
+        ensures { λ r. ⌜ r ≡ Option·getD (lengthIn (planOf self)) 0 ⌝ }
+    {
+        match self {
+            Plan::Normal => 0,
+            Plan::Contract { at: _, length } => length,
+        }
     }
-    Turn::Goes(count)
 }
 
-// Whether one of two terms is longer than a workspace of c words.
-fn either_long(c: usize, n: usize, m: usize) -> bool
-    ensures { λ r. ⌜ r ≡ (ltb c n || ltb c m) ⌝ }
+fn longer(n: usize, m: usize) -> usize
+    ensures { λ r. ⌜ r ≡ max n m ⌝ }
 {
-    if c < n {
-        return true;
+    if n < m {
+        return m;
     }
-    c < m
+    n
 }
 
-// One round, points 1 to 5, with `rest` left of the budget and workspaces of c words.
-pub fn judge(equal: bool, left: Plan, right: Plan, rest: u32, c: usize) -> Turn
-    ensures { λ r. ⌜ turnOf r ≡ turn equal (planOf left) (planOf right) rest c ⌝ }
+// One round, points 1 to 5 in this order, with `rest` left of the budget and workspaces of c words.
+pub fn judge(equal: bool, left: Plan, right: Plan, rest: u32, c: usize) -> Round
+    ensures { λ r. ⌜ roundOf r ≡ round (cond equal (some Same) none) c rest (lengthIn (planOf left)) (lengthIn (planOf right)) ⌝ }
 {
     if equal {
-        return Turn::Ends(Verdict::Same);
+        return Round::Ends(Verdict::Same);
     }
-    match left {
-        Plan::Normal => match right {
-            Plan::Normal => Turn::Ends(Verdict::Different),
-            Plan::Contract { at: _, length } => spend(rest, 1, c < length),
-        },
-        Plan::Contract { at: _, length } => match right {
-            Plan::Normal => spend(rest, 1, c < length),
-            Plan::Contract {
-                at: _,
-                length: other,
-            } => spend(rest, 2, either_long(c, length, other)),
-        },
+    let count = left.contractions() + right.contractions();
+    if count == 0 {
+        return Round::Ends(Verdict::Different);
     }
+    if rest < count {
+        return Round::Ends(Verdict::Budget);
+    }
+    if c < longer(left.next_length(), right.next_length()) {
+        return Round::Ends(Verdict::Full);
+    }
+    Round::Goes(count)
 }
 
 // What a side would do in a round.

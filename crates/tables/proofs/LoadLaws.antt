@@ -7,6 +7,7 @@ use mathlib.Core.Logic.{_⊎_, inl, inr}
 use mathlib.Core.Option.{some, none}
 use native.Mathlib.Omega.{arith}
 use lib.ListN.{length, replicate}
+use borrow.Author.Needs.{needs}
 use borrow.Author.Tests.{not-false}
 use Rattle.calculus.specs.Term.{term, Term}
 use Rattle.calculus.specs.Words.{words, size}
@@ -56,32 +57,19 @@ pub record Passes (S : Stored) (C : ℕ) : Type 0 where
 
 pub passes : (S : Stored) (C : ℕ) → NoneMet (checks S C) → Passes S C
 passes S C h =
-    let records = h .1 .1 .1 .1 in
     record {
-      workspace-fits = h .0;
-      length-fits = h .1 .0;
-      header-fits = h .1 .1 .0;
-      short-enough = h .1 .1 .1 .0;
-      values-fit = records .0;
-      links-fit = records .1 .0;
-      children-fit = records .1 .1 .0;
-      free-numbers-fit = records .1 .1 .1 .0;
+      workspace-fits = search needs;
+      length-fits = search needs;
+      header-fits = search needs;
+      short-enough = search needs;
+      values-fit = search needs;
+      links-fit = search needs;
+      children-fit = search needs;
+      free-numbers-fit = search needs;
     }
 
 pub passes-unmet : (S : Stored) (C : ℕ) → Passes S C → NoneMet (checks S C)
-passes-unmet S C p = (
-  p .workspace-fits,
-  (
-    p .length-fits,
-    (
-      p .header-fits,
-      (
-        p .short-enough,
-        (p .values-fit, (p .links-fit, (p .children-fit, (p .free-numbers-fit, tt)))),
-      ),
-    ),
-  ),
-)
+passes-unmet S C p = search needs
 
 -- What refusals 1 and 2 leave.
 pub table-length : (S : Stored) → wrongLength S ≡ false → length (S .words) ≡ S .form .recordWords * (view S .n + 1)

@@ -8,7 +8,7 @@ use Rattle.calculus.specs.Term.{Term}
 use Rattle.calculus.specs.Words.{words, size}
 use Rattle.calculus.specs.Workspace.{padded}
 use Rattle.calculus.specs.Refusal.{Refusal, WrongLength, WrongHeader, WrongValue, WrongLink, WrongChildren, WrongFree, WrongWorkspace, TooLong}
-use Rattle.tables.specs.Records.{Stored, view, inForm1}
+use Rattle.tables.specs.Records.{Table, Stored, view, inForm1}
 use Rattle.tables.specs.Meaning.{meaning}
 use Rattle.tables.specs.Header.{wrongWorkspace, wrongLength, wrongHeader, tooLong}
 use Rattle.tables.specs.Values.{wrongValue}
@@ -27,18 +27,22 @@ pub record Loaded : Type 0 where
   pub workspace : List ℕ
 
 -- The refusals in the order in which loading checks them, 7, 1, 2, 8, 3, 4, 5, 6, each with whether it is met, by the table and the length C of
--- the workspace.
+-- the workspace. The last four are about the records.
+abbrev pub recordChecks : Table → List (Refusal × Bool)
+recordChecks T =
+    (WrongValue, wrongValue T)
+    ∷ (WrongLink, wrongLink T)
+    ∷ (WrongChildren, wrongChildren T)
+    ∷ (WrongFree, wrongFree T)
+    ∷ []
+
 abbrev pub checks : Stored → (C : ℕ) → List (Refusal × Bool)
 checks S C =
     (WrongWorkspace, wrongWorkspace C)
     ∷ (WrongLength, wrongLength S)
     ∷ (WrongHeader, wrongHeader S)
     ∷ (TooLong, tooLong (view S) C)
-    ∷ (WrongValue, wrongValue (view S))
-    ∷ (WrongLink, wrongLink (view S))
-    ∷ (WrongChildren, wrongChildren (view S))
-    ∷ (WrongFree, wrongFree (view S))
-    ∷ []
+    ∷ recordChecks (view S)
 
 abbrev pub firstMet : List (Refusal × Bool) → Option Refusal
 firstMet [] = none

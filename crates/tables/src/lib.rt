@@ -25,9 +25,11 @@ use words::is_term;
 use words::refusal::Refusal;
 use writing::put_records;
 ghost use mathlib.Core.Path.{_≡_};
-ghost use Rattle.tables.specs.Load.{checks, firstMet, load};
+ghost use mathlib.Core.Bool.{false};
+ghost use Rattle.tables.specs.Header.{wrongLength, wrongHeader};
+ghost use Rattle.tables.specs.Load.{recordChecks, checks, firstMet, load};
 ghost use Rattle.tables.specs.Write.{write};
-ghost use Rattle.tables.specs.Types.{stored, metOf, loadedOf, writtenOf};
+ghost use Rattle.tables.specs.Types.{stored, viewed, metOf, loadedOf, writtenOf};
 
 // What loading and writing answer: a refusal, or the length of the term or the number of records.
 pub enum Answer {
@@ -56,6 +58,14 @@ fn first_met(table: &[u32], form: Form, room: usize) -> Check
     if room < count(table) {
         return Check::Met(Refusal::TooLong);
     }
+    record_met(table, form)
+}
+
+// The same of the refusals that are about the records.
+fn record_met(table: &[u32], form: Form) -> Check
+    requires { ⌜ (wrongLength (stored form (now table)) ≡ false) × (wrongHeader (stored form (now table)) ≡ false) ⌝ }
+    ensures { λ r. ⌜ metOf r ≡ firstMet (recordChecks (viewed form (now (table .entry)))) ⌝ }
+{
     if wrong_values(table, form) {
         return Check::Met(Refusal::WrongValue);
     }

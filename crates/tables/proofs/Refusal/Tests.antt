@@ -1,7 +1,7 @@
 -- What a test decides: values and options that are made by an `elim` on it, and the test whether an index is a record.
 use Prim.Native.Nat.{ℕ, _≤_}
 use mathlib.Core.Path.{_≡_, refl}
-use mathlib.Core.Bool.{Bool, true, false, true≢false, false≢true, _||_, and-eq-true-iff}
+use mathlib.Core.Bool.{Bool, true, false, true≢false, false≢true, and-eq-true-iff}
 use mathlib.Core.Option.{Option}
 use lib.Dec.{leb}
 use borrow.Author.Tests.{leb-true, le-leb}

@@ -14,7 +14,8 @@ use Rattle.calculus.specs.Workspace.{termAt}
 use Rattle.words.proofs.IsTerm.{isTerm-some, isTerm-none}
 use Rattle.tables.specs.Header.{wrongWorkspace}
 use Rattle.tables.specs.Write.{write}
-use Rattle.tables.proofs.Written.WriteCode.{workspace-short, held, written}
+use Rattle.tables.proofs.Meaning.Held.{held}
+use Rattle.tables.proofs.Written.WriteCode.{workspace-short, written}
 use Rattle.tables.proofs.write.Statement.{statement}
 use Rattle.tables.proofs.write.Tie as tie
 

@@ -5,11 +5,11 @@ use mathlib.Core.Path.{_≡_, sym, _∙_, ap}
 use native.Mathlib.Omega.{arith}
 use lib.ListN.{length, take}
 use borrow.Author.Needs.{needs}
+use Rattle.calculus.specs.Rounds.{Round, goes, same, roundBy}
 use Rattle.step.specs.Held.{held}
 use Rattle.rounds.specs.Compare.{common}
-use Rattle.rounds.specs.Turn.{planned, Turn, goes}
-use Rattle.rounds.specs.Types.{planOf, turnOf}
-use Rattle.rounds.proofs.TurnLaws.{Turned}
+use Rattle.rounds.specs.Turn.{planned}
+use Rattle.rounds.specs.Types.{planOf, roundOf}
 use Rattle.rounds.proofs.RunLoop.{Going, going-first, compares, judged, agreeing, ran, spends, left-advances, right-advances, going-on}
 use Rattle.rounds.proofs.run.run.Statement.{statement}
 use Rattle.rounds.proofs.run.run.Tie as tie
@@ -61,12 +61,12 @@ right-plan : (c : tie.After-judge Inv-loop μ-loop) → planOf (c .before .befor
 right-plan c = c .before .before .plan-for2 .ensures
 
 -- The judged round of the rounds' definition.
-abbrev Judged : tie.After-judge Inv-loop μ-loop → Turn → Type 0
-Judged c t =
-    Turned (length (call c .args .left .now)) (call c .args .budget - turn c .loop .spent) (held (turn c .loop .left) (turn c .loop .a .length))
-    (held (turn c .loop .right) (turn c .loop .b .length)) t
+abbrev Judged : tie.After-judge Inv-loop μ-loop → Round → Type 0
+Judged c x =
+    roundBy same (length (call c .args .left .now)) (call c .args .budget - turn c .loop .spent) (held (turn c .loop .left) (turn c .loop .a .length))
+    (held (turn c .loop .right) (turn c .loop .b .length)) ≡ x
 
-the-round : (c : tie.After-judge Inv-loop μ-loop) → {t : Turn} → turnOf (c .judge .result) ≡ t → Judged c t
+the-round : (c : tie.After-judge Inv-loop μ-loop) → {x : Round} → roundOf (c .judge .result) ≡ x → Judged c x
 the-round c e = judged (turn c .loop .inv) (shares c) (left-plan c) (right-plan c) (sym e ∙ c .judge .ensures)
 
 same-length : tie.Need-same-length Inv-loop μ-loop
@@ -79,13 +79,13 @@ same-length-3 : tie.Need-same-length-3 Inv-loop μ-loop
 same-length-3 c = turn (c .before .before .before) .loop .inv .scratch-kept
 
 returns : tie.Need-returns Inv-loop μ-loop
-returns c = ran (turn (c .before .before .before) .loop .inv) (the-round (c .before .before .before) (ap turnOf (c .before .verdict .given .1)))
+returns c = ran (turn (c .before .before .before) .loop .inv) (the-round (c .before .before .before) (ap roundOf (c .before .verdict .given .1)))
 
 enum-known-count : tie.Need-enum-known-count Inv-loop μ-loop
 enum-known-count c = search needs
 
 goes-on : (c : tie.After-count Inv-loop μ-loop) → Judged (c .before .before) (goes (c .count .given .0 .0))
-goes-on c = the-round (c .before .before) (ap turnOf (c .count .given .1))
+goes-on c = the-round (c .before .before) (ap roundOf (c .count .given .1))
 
 agreed-requires : tie.Need-agreed-requires Inv-loop μ-loop
 agreed-requires c κs =
