@@ -9,7 +9,7 @@ use Rattle.calculus.specs.Step.{firstStep}
 use Rattle.calculus.specs.Leftmost.{leftmost}
 use Rattle.calculus.specs.Equality.{tree, from-trees, equal?}
 use Rattle.calculus.specs.Workspace.{termAt}
-use Rattle.calculus.specs.Rounds.{round, rounds}
+use Rattle.calculus.specs.Rounds.{same, roundsIn, roundsBy}
 use Rattle.rounds.specs.Press.{press}
 use Rattle.tables.specs.Header.{wrongLength, wrongHeader}
 use Rattle.tables.specs.Values.{valueFits, wrongValue}
@@ -24,7 +24,7 @@ use Rattle.verdict_line.specs.Line.{printed}
 use Rattle.verdict_line.specs.Examples.{bytesOf, Printed-examples}
 
 pub printed-examples : Printed-examples
-unfolding printed request wordsOf bytesOf digits decimal loadStored wrongLength wrongHeader valueFits wrongValue namings wrongLink childrenFit wrongChildren termOf meantTerm meantTerms meantBranch meantBranches meant meaning press termAt read items item takeTerm takeTerms takeBranches readLam readApp readCon readCase readBranch oneTerm accepted? everywhere? tagged? both₃ isTag? startsAbove? rising? Dec·and decLe decLt bind orElse firstStep leftmost tree from-trees equal? ℕ-discrete round rounds
+unfolding printed request wordsOf bytesOf digits decimal loadStored wrongLength wrongHeader valueFits wrongValue namings wrongLink childrenFit wrongChildren termOf meantTerm meantTerms meantBranch meantBranches meant meaning press termAt read items item takeTerm takeTerms takeBranches readLam readApp readCon readCase readBranch oneTerm accepted? everywhere? tagged? both₃ isTag? startsAbove? rising? Dec·and decLe decLt bind orElse firstStep leftmost tree from-trees equal? ℕ-discrete same roundsIn roundsBy
 printed-examples =
     record {
       same = refl;
