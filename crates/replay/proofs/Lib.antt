@@ -1,5 +1,5 @@
 pub mod ScriptLaws
-pub mod TextLaws
 pub mod ShowLaws
 pub mod CallLaws
 pub mod WholeLaws
+pub mod Examples

@@ -1,12 +1,12 @@
--- The side that a shown part belongs to, told by its length and the lengths that were given.
-use Prim.Native.Nat.{ℕ, zero, suc, _≤_}
+-- The part that is shown, told by its length and the lengths that were given.
+use Prim.Native.Nat.{ℕ, zero, suc}
 use mathlib.Core.Path.{_≡_, refl, _∙_, ap, ap₂}
 use mathlib.Core.Bool.{Bool, true, false, cond}
 use mathlib.Core.List.{List, [], _∷_}
 use mathlib.Core.Option.{Option, some, none, Option·none-ne-some, bind}
 use native.Mathlib.Omega.{arith}
 use lib.Dec.{leb, eqb}
-use lib.ListN.{length, take, length-take}
+use lib.ListN.{length, take}
 use lib.Seq.{length-take-le}
 use borrow.Author.Tests.{leb-true, leb-false, le-leb, lt-ltb, le-ltb, ne-eqb}
 use Rattle.calculus.specs.Term.{Term}
@@ -15,8 +15,9 @@ use Rattle.calculus.specs.Workspace.{sized, termAt}
 use Rattle.rounds.specs.Show.{Part, show, showTerms, nothing, partBy}
 use Rattle.rounds.specs.Show as shown
 use Rattle.rounds.proofs.PressCode.{term-within}
-use Rattle.replay.specs.Text.{line}
-use Rattle.replay.specs.Replay.{showName, sideNumber, sideShown, shownLine}
+use Rattle.replay.specs.declared.script.Side.{Side}
+use Rattle.replay.specs.declared.script.Side.the-variants as side
+use Rattle.replay.specs.Replay.{sideShown, sideOf, partOf}
 
 -- No words are no term.
 no-words : (ws : List ℕ) {t : Term} → termAt ws 0 ≡ some t → ⊥
@@ -32,39 +33,40 @@ module _ (ws vs : List ℕ) (l r : ℕ) where
   part p = take (p .count) (partBy (p .side) ws vs)
 
   abbrev Told : Part → Type 0
-  Told p = sideShown (length (part p)) l r ≡ sideNumber (p .side)
+  Told p = (sideOf (sideShown (length (part p)) l r) ≡ p .side) × (length (part p) ≡ p .count)
 
-  either : (b : Bool) → _≡_ {A = ℕ} (cond b 0 0) 0
+  either : (b : Bool) → sideOf (cond b side.Left side.Left) ≡ shown.left
   either true = refl
   either false = refl
 
-  shorter-told : {u : Term} → termAt vs r ≡ some u → (b : Bool) → leb l r ≡ b
+  shorter-told : {t u : Term} → termAt ws l ≡ some t → termAt vs r ≡ some u → (b : Bool) → leb l r ≡ b
       → Told (cond b (record { side = shown.left; count = l }) (record { side = shown.right; count = r }))
-  shorter-told f true e = rw (le-ltb r l (leb-true l r e)) (either (eqb (length (take l ws)) 0))
-  shorter-told f false e =
-      rw (length-take-le r vs (term-within vs r f), ne-eqb r 0 (some-words vs r f), lt-ltb r l (leb-false l r e))
+  shorter-told e f true h = (
+    rw (le-ltb r l (leb-true l r h)) (either (eqb (length (take l ws)) 0)),
+    length-take-le l ws (term-within ws l e),
+  )
+  shorter-told e f false h = (
+    rw (length-take-le r vs (term-within vs r f), ne-eqb r 0 (some-words vs r f), lt-ltb r l (leb-false l r h)),
+    length-take-le r vs (term-within vs r f),
+  )
 
   terms-told : (x y : Option Term) → termAt ws l ≡ x → termAt vs r ≡ y → Told (showTerms l r x y)
-  terms-told none y e f = refl
-  terms-told (some t) none e f = refl
-  terms-told (some t) (some u) e f = shorter-told f (leb l r) refl
+  terms-told none y e f = (refl, refl)
+  terms-told (some t) none e f = (refl, refl)
+  terms-told (some t) (some u) e f = shorter-told e f (leb l r) refl
 
   sized-told : (b : Bool) → Told (cond b (showTerms l r (termAt ws l) (termAt vs r)) nothing)
   sized-told true = terms-told (termAt ws l) (termAt vs r) refl refl
-  sized-told false = refl
+  sized-told false = (refl, refl)
 
-  side-told : Told (show ws vs l r)
+  show-told : Told (show ws vs l r)
   unfolding show
-  side-told = sized-told (sized (length ws ∷ length vs ∷ []))
+  show-told = sized-told (sized (length ws ∷ length vs ∷ []))
 
-  part-within : (s : shown.Side) (n m : ℕ) → length ws ≤ m → length vs ≤ m → length (take n (partBy s ws vs)) ≤ m
-  part-within shown.left n m h g = rw length-take (omega arith)
-  part-within shown.right n m h g = rw length-take (omega arith)
-
-  -- Words that are the shown part: they are no more than a workspace may have, and their line is the one that is due.
-  module _ (words : List ℕ) (e : words ≡ part (show ws vs l r)) where
-    pub shown-within : (m : ℕ) → length ws ≤ m → length vs ≤ m → length words ≤ m
-    shown-within m h g = rw e (part-within (show ws vs l r .side) (show ws vs l r .count) m h g)
-
-    pub shown-line : (side : ℕ) → side ≡ sideShown (length words) l r → line showName (side ∷ words) ≡ shownLine ws vs (show ws vs l r)
-    shown-line side f = ap₂ (λ n part. line showName (n ∷ part)) (f ∙ ap (λ part. sideShown (length part) l r) e ∙ side-told) e
+  -- Words that are the shown part tell it.
+  pub part-told : (words : List ℕ) → words ≡ part (show ws vs l r) → {s : Side} → s ≡ sideShown (length words) l r
+      → partOf (record { side = s; words = length words }) ≡ show ws vs l r
+  part-told words e f =
+      ap₂ (λ s n. record { side = s; count = n })
+      (ap sideOf f ∙ ap (λ part. sideOf (sideShown (length part) l r)) e ∙ show-told .0)
+      (ap length e ∙ show-told .1)

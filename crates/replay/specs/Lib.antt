@@ -1,4 +1,4 @@
--- What the program prints for a script.
+-- What a script asks, and what its operations do and tell.
 pub mod Script
-pub mod Text
 pub mod Replay
+pub mod Examples

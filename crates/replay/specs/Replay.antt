@@ -1,42 +1,51 @@
--- What the operations do and print ("A program that replays calls").
+-- What the operations do and tell.
 use Prim.Native.Nat.{ℕ, _≤_}
 use mathlib.Core.Path.{_≡_}
 use mathlib.Core.Bool.{cond}
 use mathlib.Core.List.{List, [], _∷_}
 use lib.Dec.{eqb, ltb}
 use lib.ListN.{length, take, replicate, set}
-use Rattle.calculus.specs.Refusal.{number}
 use Rattle.rounds.specs.Press.{Memory, press}
 use Rattle.rounds.specs.Press as press
-use Rattle.rounds.specs.Show.{show, partBy}
+use Rattle.rounds.specs.Show.{show}
 use Rattle.rounds.specs.Show as shown
-use Rattle.rounds.specs.Types.{sessionOf, memoryOf, callOf}
+use Rattle.rounds.specs.Types.{answerOf, sessionOf, memoryOf, callOf}
 use Rattle.tables.specs.Load.{load}
 use Rattle.tables.specs.Load as tables
 use Rattle.tables.specs.Write.{write}
 use Rattle.tables.specs.Write as written
-use Rattle.verdict_line.specs.Parse.{wordsOfTable}
-use Rattle.verdict_line.specs.Request.{tableLimit}
-use Rattle.verdict_line.specs.Judge.{lentMost}
-use Rattle.verdict_line.specs.Line.{lineBytes, shows}
+use Rattle.tables.specs.declared.Answer as codeAnswer
+use Rattle.tables.specs.Types.{answerOf as tableAnswerOf}
+use Rattle.text.specs.Decode.{wordsFrom}
 use Rattle.replay.specs.declared.script.Side.{Side}
 use Rattle.replay.specs.declared.script.Side.the-variants as side
 use Rattle.replay.specs.declared.script.Call.{Call}
 use Rattle.replay.specs.declared.script.Operation.{Operation}
 use Rattle.replay.specs.declared.script.Operation.the-variants as operation
 use Rattle.replay.specs.declared.calls.Kept.{Kept}
+use Rattle.replay.specs.declared.calls.Part.{Part}
+use Rattle.replay.specs.declared.calls.Report.{Report}
+use Rattle.replay.specs.declared.calls.Report.the-variants as report
 use Rattle.replay.specs.declared.calls.Done.{Done}
-use Rattle.replay.specs.Text.{line, sessionName, stateLines, textMost, Printed}
+use Rattle.replay.specs.Script.{tableLimit}
 
 -- What is kept from operation to operation: both workspaces and the session, and the last press's scratch at exit.
 pub record State : Type 0 where
   pub memory : Memory
   pub scratch : List ℕ
 
--- The state that an operation leaves, and what it prints.
+-- What an operation tells: what a call answers, the part that is shown, a table that was written.
+pub data Told : Type 0 where
+  ofLoad : tables.Answer → Told
+  ofPress : press.Answer → Told
+  ofShow : shown.Part → Told
+  ofWrite : tables.Answer → (table : List ℕ) → Told
+  ofSet ofStore ofPrint : Told
+
+-- The state that an operation leaves, and what it tells.
 pub record Performed : Type 0 where
   pub state : State
-  pub text : List ℕ
+  pub told : Told
 
 -- The workspace of a side, and both workspaces with another in its place.
 abbrev pub chosen : Side → (left right : List ℕ) → List ℕ
@@ -54,46 +63,9 @@ replaced m ws = record { left = ws .0; right = ws .1; session = m .session }
 abbrev pub filler : ℕ
 filler = 7
 
--- The names, as ASCII.
-abbrev pub refusedName : List ℕ
-refusedName = 114 ∷ 101 ∷ 102 ∷ 117 ∷ 115 ∷ 101 ∷ 100 ∷ []
-
-abbrev pub loadName : List ℕ
-loadName = 108 ∷ 111 ∷ 97 ∷ 100 ∷ []
-
-abbrev pub showName : List ℕ
-showName = 115 ∷ 104 ∷ 111 ∷ 119 ∷ []
-
-abbrev pub writeName : List ℕ
-writeName = 119 ∷ 114 ∷ 105 ∷ 116 ∷ 101 ∷ []
-
-abbrev pub storeName : List ℕ
-storeName = 115 ∷ 116 ∷ 111 ∷ 114 ∷ 101 ∷ []
-
--- What loading or writing returned, or the refusal's number; then words.
-abbrev pub tableLine : (name : List ℕ) → tables.Answer → (words : List ℕ) → List ℕ
-tableLine name (tables.refused why) ws = line refusedName (number why ∷ ws)
-tableLine name (tables.returned n) ws = line name (n ∷ ws)
-
-abbrev pub writtenLine : written.Written → List ℕ
-writtenLine w = tableLine writeName (w .answer) (w .table)
-
--- Verdict, spent and lengths, or the refusal's number.
-abbrev pub answerLine : press.Answer → List ℕ
-answerLine (press.refused why) = line refusedName (number why ∷ [])
-answerLine (press.shown a) = lineBytes (shows (a .verdict) (a .spent) (a .left) (a .right))
-
--- The side that a part belongs to, and its words. What is refused is the empty start of the left workspace.
-abbrev pub sideNumber : shown.Side → ℕ
-sideNumber shown.left = 0
-sideNumber shown.right = 1
-
-abbrev pub shownLine : (left right : List ℕ) → shown.Part → List ℕ
-shownLine l r p = line showName (sideNumber (p .side) ∷ take (p .count) (partBy (p .side) l r))
-
 -- The side by the lengths alone: of the part, and those of both sides' terms.
-abbrev pub sideShown : (part left right : ℕ) → ℕ
-sideShown part l r = cond (eqb part 0) 0 (cond (ltb r l) 1 0)
+abbrev pub sideShown : (part left right : ℕ) → Side
+sideShown part l r = cond (eqb part 0) side.Left (cond (ltb r l) side.Right side.Left)
 
 abbrev pub performLoad : State → Side → (table : List ℕ) → Performed
 performLoad s side table =
@@ -104,23 +76,25 @@ performLoad s side table =
             memory = replaced (s .memory) (changed side (s .memory .left) (s .memory .right) (loaded .workspace));
             scratch = s .scratch;
           };
-      text = tableLine loadName (loaded .answer) [];
+      told = ofLoad (loaded .answer);
     }
 
-abbrev pub pressed : press.Pressed → Performed
-pressed p = record { state = record { memory = p .memory; scratch = p .scratch }; text = answerLine (p .answer) }
+abbrev pub afterPress : press.Pressed → Performed
+afterPress p = record { state = record { memory = p .memory; scratch = p .scratch }; told = ofPress (p .answer) }
 
 abbrev pub performPress : State → Call → Performed
-performPress s c = pressed (press (s .memory) (callOf (replicate (c .scratch) filler) (c .left) (c .right) (c .budget)))
+performPress s c = afterPress (press (s .memory) (callOf (replicate (c .scratch) filler) (c .left) (c .right) (c .budget)))
 
 abbrev pub performShow : State → (left right : ℕ) → Performed
 performShow s l r =
     let m = s .memory in
-    record { state = s; text = shownLine (m .left) (m .right) (show (m .left) (m .right) l r) }
+    record { state = s; told = ofShow (show (m .left) (m .right) l r) }
+
+abbrev pub afterWrite : State → written.Written → Performed
+afterWrite s w = record { state = s; told = ofWrite (w .answer) (w .table) }
 
 abbrev pub performWrite : State → Side → (len table : ℕ) → Performed
-performWrite s side len table =
-    record { state = s; text = writtenLine (write (chosen side (s .memory .left) (s .memory .right)) len (replicate table filler)) }
+performWrite s side len table = afterWrite s (write (chosen side (s .memory .left) (s .memory .right)) len (replicate table filler))
 
 -- A store changes nothing outside.
 abbrev pub performStore : State → Side → (at word : ℕ) → Performed
@@ -129,16 +103,12 @@ performStore s side at word =
     let r = s .memory .right in
     record {
       state = record { memory = replaced (s .memory) (changed side l r (set (chosen side l r) at word)); scratch = s .scratch };
-      text = line storeName [];
+      told = ofStore;
     }
 
-abbrev pub performPrint : State → Performed
-performPrint s =
-    record { state = s; text = stateLines (s .memory .left) (s .memory .right) (s .scratch) (s .memory .session) }
-
--- What an operation of a script does and prints.
+-- What an operation of a script does and tells.
 abbrev pub performed : (bytes : List ℕ) → Operation → State → Performed
-performed bytes (operation.Load side table) s = performLoad s side (wordsOfTable bytes table)
+performed bytes (operation.Load side at table) s = performLoad s side (wordsFrom table bytes at)
 performed bytes (operation.Press call) s = performPress s call
 performed bytes (operation.Show l r) s = performShow s l r
 performed bytes (operation.Write side len table) s = performWrite s side len table
@@ -149,28 +119,43 @@ performed bytes (operation.Set session) s =
             memory = record { left = s .memory .left; right = s .memory .right; session = sessionOf session };
             scratch = s .scratch;
           };
-      text = line sessionName [];
+      told = ofSet;
     }
 performed bytes (operation.Store side at word) s = performStore s side at word
-performed bytes operation.Print s = performPrint s
+performed bytes operation.Print s = record { state = s; told = ofPrint }
 
 -- The state in lent slices: the scratch is the first words of a longer slice.
 abbrev pub stateOf : (left right scratch : List ℕ) → Kept → State
 stateOf l r s k = record { memory = memoryOf l r (k .session); scratch = take (k .scratch) s }
 
--- What an operation was to do is done: the slices and what is kept are the state that it leaves, and the text is put at the start of the bytes.
-pub record Does (due : Performed) (before left right scratch after : List ℕ) (r : Done) : Type 0 where
-  pub state : stateOf left right scratch (r .kept) ≡ due .state
-  pub text : Printed before (due .text) after (r .used)
+-- What a report stands for. A table that was written is the first words of the room.
+abbrev pub sideOf : Side → shown.Side
+sideOf side.Left = shown.left
+sideOf side.Right = shown.right
 
--- Loading by itself: both workspaces, and the text.
-pub record Loads (side : Side) (table left right left′ right′ before after : List ℕ) (used : ℕ) : Type 0 where
+abbrev pub partOf : Part → shown.Part
+partOf p = record { side = sideOf (p .side); count = p .words }
+
+abbrev pub reportOf : (room : List ℕ) → Report → Told
+reportOf room (report.Loaded a) = ofLoad (tableAnswerOf a)
+reportOf room (report.Pressed a) = ofPress (answerOf a)
+reportOf room (report.Shown p) = ofShow (partOf p)
+reportOf room (report.Written a n) = ofWrite (tableAnswerOf a) (take n room)
+reportOf room report.Set = ofSet
+reportOf room report.Stored = ofStore
+reportOf room report.State = ofPrint
+
+-- What an operation was to do is done: the slices and what is kept are the state that it leaves, and the report is what it tells.
+pub record Does (due : Performed) (left right scratch room : List ℕ) (r : Done) : Type 0 where
+  pub state : stateOf left right scratch (r .kept) ≡ due .state
+  pub told : reportOf room (r .report) ≡ due .told
+
+-- Loading by itself: both workspaces, and the answer.
+pub record Loads (side : Side) (table left right left′ right′ : List ℕ) (r : codeAnswer.Answer) : Type 0 where
   pub workspaces : (left′, right′) ≡ changed side left right (load table (chosen side left right) .workspace)
-  pub text : Printed before (tableLine loadName (load table (chosen side left right) .answer) []) after used
+  pub answer : tableAnswerOf r ≡ load table (chosen side left right) .answer
 
 -- The slices are as long as the operations need.
-pub record Lent (left right scratch out : List ℕ) : Type 0 where
-  pub left-fits : length left ≤ lentMost
-  pub right-fits : length right ≤ lentMost
+pub record Lent (scratch room : List ℕ) : Type 0 where
   pub scratch-full : length scratch ≡ tableLimit
-  pub room : textMost ≤ length out
+  pub room-full : length room ≡ tableLimit

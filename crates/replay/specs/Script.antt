@@ -1,19 +1,19 @@
--- What a script asks ("A program that replays calls"): operations of little-endian words, one after the other. Each is told by where its words
--- stand in the bytes.
+-- What a script asks: operations of little-endian words, one after the other. Each starts with its number and has its operands behind it.
 use Prim.Native.Nat.{ℕ, zero, suc, _+_, _*_, _-_, _/_, _≤_, _<_}
 use mathlib.Core.Path.{_≡_}
 use mathlib.Core.Bool.{Bool, true, false, cond, _&&_}
 use mathlib.Core.List.{List, [], _∷_}
 use lib.Dec.{leb, ltb, eqb}
-use lib.ListN.{length}
+use lib.ListN.{length, getD}
+use Rattle.calculus.specs.Words.{workspaceMost}
 use Rattle.rounds.specs.declared.Verdict.{Verdict}
 use Rattle.rounds.specs.declared.Verdict.the-variants as verdict
 use Rattle.text.specs.Bytes.{wordBytes}
 use Rattle.text.specs.Decode.{wordAt}
-use Rattle.verdict_line.specs.Request.{tableLimit}
-use Rattle.verdict_line.specs.Parse.{Stands}
+use Rattle.tables.specs.Records.{form1}
 use Rattle.replay.specs.declared.script.Side.{Side}
 use Rattle.replay.specs.declared.script.Side.the-variants as side
+use Rattle.replay.specs.declared.script.Operands.{Operands}
 use Rattle.replay.specs.declared.script.Operation.{Operation}
 use Rattle.replay.specs.declared.script.Operation.the-variants as operation
 use Rattle.replay.specs.declared.script.Read.{Read}
@@ -45,74 +45,107 @@ abbrev pub verdictNumbered : ℕ → Verdict
 verdictNumbered n =
     cond (eqb n 0) verdict.Same (cond (eqb n 1) verdict.Different (cond (eqb n 2) verdict.Budget verdict.Full))
 
--- An operation of so many words, if they are there and pass a test.
-abbrev pub ofWords : (bytes : List ℕ) (at count : ℕ) → Bool → Operation → Read
-ofWords bytes at count passes o =
-    cond (leb count (ahead bytes at) && passes) (read.Whole o (at + wordBytes * count)) read.Broken
+-- The most words of a table and of a scratch: those of a header and of as many records as a workspace has words.
+abbrev pub tableLimit : ℕ
+tableLimit = form1 .recordWords * (workspaceMost + 1)
 
--- Load: side, count, that many words.
-abbrev pub loadAt : List ℕ → ℕ → Read
-loadAt bytes at =
-    ofWords bytes at (3 + nth bytes at 2)
-    (leb (nth bytes at 1) sideMost && leb (nth bytes at 2) tableLimit)
-    (operation.Load (sideOf (nth bytes at 1)) (record { at = at + wordBytes * 3; words = nth bytes at 2 }))
+-- A workspace is lent by at most one word more than it may have.
+abbrev pub lentMost : ℕ
+lentMost = suc workspaceMost
 
--- Press: scratch length, left length, right length, budget.
-abbrev pub pressAt : List ℕ → ℕ → Read
-pressAt bytes at =
-    ofWords bytes at 5 (leb (nth bytes at 1) tableLimit)
-    (operation.Press
-    (record { scratch = nth bytes at 1; left = nth bytes at 2; right = nth bytes at 3; budget = nth bytes at 4 }))
+-- How many words each operation has, its number's included, by the numbers from 0, which is none: load, press, show, write, set session, store, print.
+-- Those of a load stand before its table.
+abbrev pub operations : ℕ
+operations = 8
 
--- Show: left length, right length.
-abbrev pub showAt : List ℕ → ℕ → Read
-showAt bytes at = ofWords bytes at 3 true (operation.Show (nth bytes at 1) (nth bytes at 2))
+abbrev pub counts : List ℕ
+counts = 0 ∷ 3 ∷ 5 ∷ 3 ∷ 4 ∷ 5 ∷ 4 ∷ 1 ∷ []
 
--- Write: side, length, table length.
-abbrev pub writeAt : List ℕ → ℕ → Read
-writeAt bytes at =
-    ofWords bytes at 4
-    (leb (nth bytes at 1) sideMost && leb (nth bytes at 3) tableLimit)
-    (operation.Write (sideOf (nth bytes at 1)) (nth bytes at 2) (nth bytes at 3))
+abbrev pub wordsOf : (number : ℕ) → ℕ
+wordsOf n = getD counts n 0
 
--- Set session: total, left, right, verdict.
-abbrev pub setAt : List ℕ → ℕ → Read
-setAt bytes at =
-    ofWords bytes at 5 (leb (nth bytes at 4) verdictMost)
-    (operation.Set
-    (record { total = nth bytes at 1; left = nth bytes at 2; right = nth bytes at 3; verdict = verdictNumbered (nth bytes at 4) }))
+-- The largest number of each operand, in the same order; an operand of 32 bits may be any.
+abbrev pub operandsMost : ℕ
+operandsMost = 4
 
--- Store: side, at, word.
-abbrev pub storeAt : List ℕ → ℕ → Read
-storeAt bytes at =
-    ofWords bytes at 4 (leb (nth bytes at 1) sideMost) (operation.Store (sideOf (nth bytes at 1)) (nth bytes at 2) (nth bytes at 3))
+abbrev pub any : ℕ
+any = 4294967295
 
-abbrev pub printAt : List ℕ → ℕ → Read
-printAt bytes at = ofWords bytes at 1 true operation.Print
-
--- The operations by their numbers; no other number is one.
-abbrev pub byNumber : ℕ → List (ℕ × Read) → Read
-byNumber n [] = read.Broken
-byNumber n (o ∷ os) = cond (eqb n (o .0)) (o .1) (byNumber n os)
-
-abbrev pub operations : List ℕ → (at : ℕ) → List (ℕ × Read)
-operations bytes at =
-    (1, loadAt bytes at)
-    ∷ (2, pressAt bytes at)
-    ∷ (3, showAt bytes at)
-    ∷ (4, writeAt bytes at)
-    ∷ (5, setAt bytes at)
-    ∷ (6, storeAt bytes at)
-    ∷ (7, printAt bytes at)
+abbrev pub limits : List ℕ
+limits =
+    any ∷ any ∷ any ∷ any
+    -- load: side, count
+    ∷ sideMost ∷ tableLimit ∷ any ∷ any
+    -- press: scratch length, left length, right length, budget
+    ∷ tableLimit ∷ any ∷ any ∷ any
+    -- show: left length, right length
+    ∷ any ∷ any ∷ any ∷ any
+    -- write: side, length, table length
+    ∷ sideMost ∷ any ∷ tableLimit ∷ any
+    -- set session: total, left, right, verdict
+    ∷ any ∷ any ∷ any ∷ verdictMost
+    -- store: side, at, word
+    ∷ sideMost ∷ any ∷ any ∷ any
+    -- print
+    ∷ any ∷ any ∷ any ∷ any
     ∷ []
+
+abbrev pub mostOf : (number k : ℕ) → ℕ
+mostOf n k = getD limits (operandsMost * n + k) 0
+
+unfoldable pub within : (number : ℕ) → Operands → Bool
+within n o =
+    ((leb (o .first) (mostOf n 0) && leb (o .second) (mostOf n 1)) && leb (o .third) (mostOf n 2)) && leb (o .fourth) (mostOf n 3)
+
+-- The operands that stand behind the number; 0 for those that the operation does not have.
+abbrev pub operandAt : List ℕ → (at count k : ℕ) → ℕ
+operandAt bytes at count k = cond (ltb k count) (nth bytes at k) 0
+
+unfoldable pub operandsAt : List ℕ → (at count : ℕ) → Operands
+operandsAt bytes at count =
+    record {
+      first = operandAt bytes at count 1;
+      second = operandAt bytes at count 2;
+      third = operandAt bytes at count 3;
+      fourth = operandAt bytes at count 4;
+    }
+
+-- How many words follow the operation's own: those of a load's table.
+abbrev pub following : (number : ℕ) → Operands → ℕ
+following n o = cond (eqb n 1) (o .second) 0
+
+-- The operation of a number, with what follows it at a position.
+abbrev pub operationOf : (number : ℕ) → Operands → (from : ℕ) → Operation
+operationOf n o from =
+    cond (eqb n 1) (operation.Load (sideOf (o .first)) from (o .second))
+    (cond (eqb n 2) (operation.Press (record { scratch = o .first; left = o .second; right = o .third; budget = o .fourth }))
+    (cond (eqb n 3) (operation.Show (o .first) (o .second))
+    (cond (eqb n 4) (operation.Write (sideOf (o .first)) (o .second) (o .third))
+    (cond (eqb n 5)
+    (operation.Set
+    (record { total = o .first; left = o .second; right = o .third; verdict = verdictNumbered (o .fourth) }))
+    (cond (eqb n 6) (operation.Store (sideOf (o .first)) (o .second) (o .third)) operation.Print)))))
+
+-- The operation of a number with these operands and so many words that stands at a position, if all its words are there and its operands are within
+-- their limits.
+unfoldable pub operationWith : List ℕ → (at number count : ℕ) → Operands → Read
+operationWith bytes at n count o =
+    cond (within n o && leb (count + following n o) (ahead bytes at))
+    (read.Whole (operationOf n o (at + wordBytes * count)) (at + wordBytes * (count + following n o)))
+    read.Broken
 
 -- The operation that stands at a position.
 unfoldable pub operationAt : List ℕ → (at : ℕ) → Read
-operationAt bytes at = cond (leb 1 (ahead bytes at)) (byNumber (nth bytes at 0) (operations bytes at)) read.Broken
+operationAt bytes at =
+    let n = nth bytes at 0 in
+    let count = wordsOf n in
+    cond (leb 1 (ahead bytes at) && (leb 1 count && leb count (ahead bytes at)))
+    (operationWith bytes at n count (operandsAt bytes at count))
+    read.Broken
 
 -- What an operation needs lies within the bytes, a table's and a scratch's length within their limit.
 abbrev pub Fits : List ℕ → Operation → Type 0
-Fits bytes (operation.Load side table) = Stands bytes table
+Fits bytes (operation.Load side at table) = (table ≤ tableLimit) × (at + wordBytes * table ≤ length bytes)
 Fits bytes (operation.Press call) = call .scratch ≤ tableLimit
 Fits bytes (operation.Show left right) = Unit {0}
 Fits bytes (operation.Write side len table) = table ≤ tableLimit

@@ -1,6 +1,4 @@
-// What the operations of a script do: the unit's calls on the lent slices, each with its line.
-use crate::print::put_numbered;
-use crate::print::put_state;
+// What the operations of a script do: the unit's calls on the lent slices, each with what it reports.
 use crate::script::Call;
 use crate::script::Operation;
 use crate::script::Side;
@@ -8,27 +6,22 @@ use rounds::Answer;
 use rounds::Pressed;
 use rounds::Session;
 use session::press_owned;
-use text::decimal::put_bytes;
-use verdict_line::judge::load_from;
-use verdict_line::print::Line;
-use verdict_line::print::put_line;
-use verdict_line::request::TABLE_MOST;
-use verdict_line::request::Table;
+use text::bytes::words_from;
+use words::slices::fill;
 ghost use mathlib.Core.Path.{_≡_};
-ghost use Prim.Native.Nat.{_≤_};
+ghost use Prim.Native.Nat.{_≤_, _+_, _*_};
 ghost use lib.ListN.{length, replicate, set};
 ghost use lib.ListN.{length as List·length};
 ghost use Rattle.rounds.specs.Press.{press};
 ghost use Rattle.rounds.specs.Show.{show};
-ghost use Rattle.rounds.specs.Types.{answerOf, memoryOf, callOf, pressedOf};
+ghost use Rattle.rounds.specs.Types.{memoryOf, callOf, pressedOf};
+ghost use Rattle.tables.specs.Load.{load};
 ghost use Rattle.tables.specs.Write.{write};
-ghost use Rattle.tables.specs.Types.{answerOf as Types·answerOf};
-ghost use Rattle.verdict_line.specs.Request.{tableLimit};
-ghost use Rattle.verdict_line.specs.Parse.{wordsOfTable, Stands};
-ghost use Rattle.verdict_line.specs.Judge.{lentMost};
+ghost use Rattle.tables.specs.Types.{writtenOf};
+ghost use Rattle.text.specs.Bytes.{wordBytes};
+ghost use Rattle.text.specs.Decode.{wordsFrom};
 ghost use Rattle.replay.specs.Script.{Fits};
-ghost use Rattle.replay.specs.Text.{textMost, Printed};
-ghost use Rattle.replay.specs.Replay.{filler, refusedName, chosen, changed, answerLine, tableLine, writtenLine, sideShown, shownLine};
+ghost use Rattle.replay.specs.Replay.{filler, chosen, changed, sideShown, partOf};
 ghost use Rattle.replay.specs.Replay.{performPress, performed, stateOf, Does, Loads, Lent};
 
 // A scratch and a table are first filled with this word.
@@ -40,41 +33,37 @@ pub struct Kept {
     pub session: Session,
 }
 
-// What an operation leaves to keep, and how many bytes it prints.
+// A part that is shown: the first words of a side's workspace.
+pub struct Part {
+    pub side: Side,
+    pub words: usize,
+}
+
+// What an operation tells. A table that was written is the first words of the room.
+pub enum Report {
+    Loaded(tables::Answer),
+    Pressed(Answer),
+    Shown(Part),
+    Written {
+        answer: tables::Answer,
+        words: usize,
+    },
+    Set,
+    Stored,
+    State,
+}
+
+// What an operation leaves to keep, and what it tells.
 pub struct Done {
-    pub used: usize,
     pub kept: Kept,
+    pub report: Report,
 }
 
-fn fill(words: &mut [u32])
-    ensures { λ r. ⌜ now (words .exit) ≡ replicate (length (now (words .entry))) filler ⌝ }
+fn fill_all(slice: &mut [u32])
+    ensures { λ r. ⌜ now (slice .exit) ≡ replicate (length (now (slice .entry))) filler ⌝ }
 {
-    let mut i = 0;
-    while i < words.len() {
-        words[i] = FILLER;
-        i += 1;
-    }
-}
-
-fn put_answer(answer: Answer, out: &mut [u8]) -> usize
-    requires { ⌜ textMost ≤ length (now out) ⌝ }
-    ensures { λ r. ⌜ Printed (now (out .entry)) (answerLine (answerOf answer)) (now (out .exit)) r ⌝ }
-{
-    match answer {
-        Answer::Refused(refusal) => put_numbered(b"refused", refusal.number() as usize, &[], out),
-        Answer::Shown(shown) => {
-            let verdict = shown.verdict;
-            put_line(
-                Line::Shows {
-                    verdict,
-                    spent: shown.spent,
-                    left: shown.left,
-                    right: shown.right,
-                },
-                out,
-            )
-        }
-    }
+    let end = slice.len();
+    fill(slice, 0, end, FILLER);
 }
 
 // A press with a scratch that is first filled.
@@ -87,7 +76,7 @@ fn press_filled(
 ) -> Pressed
     ensures { λ p. ⌜ pressedOf p (now (left .exit)) (now (right .exit)) (now (scratch .exit)) ≡ press (memoryOf (now (left .entry)) (now (right .entry)) session) (callOf (replicate (length (now (scratch .entry))) filler) (call .left) (call .right) (call .budget)) ⌝ }
 {
-    fill(scratch);
+    fill_all(scratch);
     press_owned(
         left,
         right,
@@ -105,12 +94,10 @@ fn press(
     right: &mut [u32],
     scratch: &mut [u32],
     kept: Kept,
-    out: &mut [u8],
+    room: &[u32],
 ) -> Done
     requires { ⌜ call .scratch ≤ length (now scratch) ⌝ }
-    requires { ⌜ textMost ≤ length (now out) ⌝ }
-    ensures { λ r. ⌜ Does (performPress (stateOf (now (left .entry)) (now (right .entry)) (now (scratch .entry)) kept) call) (now (out .entry)) (now (left .exit)) (now (right .exit)) (now (scratch .exit)) (now (out .exit)) r ⌝ }
-    ensures { λ r. ⌜ r .kept .scratch ≡ call .scratch ⌝ }
+    ensures { λ r. ⌜ Does (performPress (stateOf (now (left .entry)) (now (right .entry)) (now (scratch .entry)) kept) call) (now (left .exit)) (now (right .exit)) (now (scratch .exit)) (now (room .entry)) r ⌝ }
 {
     let n = call.scratch;
     let session = kept.session;
@@ -118,86 +105,58 @@ fn press(
     let answer = pressed.answer;
     let after = pressed.session;
     Done {
-        used: put_answer(answer, out),
         kept: Kept {
             scratch: n,
             session: after,
         },
+        report: Report::Pressed(answer),
     }
 }
 
-// The number of the side that a shown part belongs to.
-fn shown_side(part: usize, left_length: usize, right_length: usize) -> usize
+// The side that a shown part of so many words belongs to.
+fn shown_side(part: usize, left_length: usize, right_length: usize) -> Side
     ensures { λ r. ⌜ r ≡ sideShown part «left_length» «right_length» ⌝ }
 {
     if part == 0 {
-        return 0;
+        return Side::Left;
     }
     if right_length < left_length {
-        return 1;
+        return Side::Right;
     }
-    0
+    Side::Left
 }
 
-fn show<'a>(
-    left: &'a [u32],
-    right: &'a [u32],
-    left_length: usize,
-    right_length: usize,
-    out: &mut [u8],
-) -> usize
-    requires { ⌜ (length (now left) ≤ lentMost) × (length (now right) ≤ lentMost) ⌝ }
-    requires { ⌜ textMost ≤ length (now out) ⌝ }
-    ensures { λ r. ⌜ Printed (now (out .entry)) (shownLine (now (left .entry)) (now (right .entry)) (show (now (left .entry)) (now (right .entry)) «left_length» «right_length»)) (now (out .exit)) r ⌝ }
+fn show<'a>(left: &'a [u32], right: &'a [u32], left_length: usize, right_length: usize) -> Part
+    ensures { λ r. ⌜ partOf r ≡ show (now (left .entry)) (now (right .entry)) «left_length» «right_length» ⌝ }
 {
     let part = rounds::show(left, right, left_length, right_length);
-    let side = shown_side(part.len(), left_length, right_length);
-    put_numbered(b"show", side, part, out)
-}
-
-// What loading or writing answers, behind the call's name; then words.
-fn put_table_line(name: &[u8], answer: tables::Answer, words: &[u32], out: &mut [u8]) -> usize
-    requires { ⌜ (length (now name) ≤ length refusedName) × (length (now words) ≤ tableLimit) ⌝ }
-    requires { ⌜ textMost ≤ length (now out) ⌝ }
-    ensures { λ r. ⌜ Printed (now (out .entry)) (tableLine (now (name .entry)) (Types·answerOf answer) (now (words .entry))) (now (out .exit)) r ⌝ }
-{
-    match answer {
-        tables::Answer::Refused(refusal) => put_numbered(
-            b"refused",
-            refusal.number() as usize,
-            words,
-            out,
-        ),
-        tables::Answer::Returned(number) => put_numbered(name, number, words, out),
+    Part {
+        side: shown_side(part.len(), left_length, right_length),
+        words: part.len(),
     }
 }
 
+// Loads the table whose bytes stand at a position, by way of a slice of its length.
 fn load(
     bytes: &[u8],
-    table: Table,
+    at: usize,
     side: Side,
     left: &mut [u32],
     right: &mut [u32],
-    out: &mut [u8],
-) -> usize
-    requires { ⌜ Stands (now bytes) table ⌝ }
-    requires { ⌜ textMost ≤ length (now out) ⌝ }
-    ensures { λ r. ⌜ Loads side (wordsOfTable (now (bytes .entry)) table) (now (left .entry)) (now (right .entry)) (now (left .exit)) (now (right .exit)) (now (out .entry)) (now (out .exit)) r ⌝ }
+    table: &mut [u32],
+) -> tables::Answer
+    requires { ⌜ at + wordBytes * length (now table) ≤ length (now bytes) ⌝ }
+    ensures { λ r. ⌜ Loads side (wordsFrom (length (now (table .entry))) (now (bytes .entry)) at) (now (left .entry)) (now (right .entry)) (now (left .exit)) (now (right .exit)) r ⌝ }
 {
+    words_from(bytes, at, table);
     match side {
-        Side::Left => {
-            let answer = load_from(bytes, table, left);
-            put_table_line(b"load", answer, &[], out)
-        }
-        Side::Right => {
-            let answer = load_from(bytes, table, right);
-            put_table_line(b"load", answer, &[], out)
-        }
+        Side::Left => tables::load(table, left),
+        Side::Right => tables::load(table, right),
     }
 }
 
 // The workspace of a side.
-fn chosen<'a>(side: Side, left: &'a [u32], right: &'a [u32]) -> &'a [u32]
+pub fn chosen<'a>(side: Side, left: &'a [u32], right: &'a [u32]) -> &'a [u32]
     ensures { λ r. ⌜ now r ≡ chosen side (now (left .entry)) (now (right .entry)) ⌝ }
 {
     match side {
@@ -206,22 +165,18 @@ fn chosen<'a>(side: Side, left: &'a [u32], right: &'a [u32]) -> &'a [u32]
     }
 }
 
-// A write into a table of so many words that is first filled.
+// A write into a table that is first filled.
 fn write<'a>(
     side: Side,
     length: usize,
     left: &'a [u32],
     right: &'a [u32],
-    words: usize,
-    out: &mut [u8],
-) -> usize
-    requires { ⌜ words ≤ tableLimit ⌝ }
-    requires { ⌜ textMost ≤ List·length (now out) ⌝ }
-    ensures { λ r. ⌜ Printed (now (out .entry)) (writtenLine (write (chosen side (now (left .entry)) (now (right .entry))) length (replicate words filler))) (now (out .exit)) r ⌝ }
+    table: &mut [u32],
+) -> tables::Answer
+    ensures { λ r. ⌜ writtenOf r (now (table .exit)) ≡ write (chosen side (now (left .entry)) (now (right .entry))) length (replicate (List·length (now (table .entry))) filler) ⌝ }
 {
-    let mut table = [FILLER; TABLE_MOST];
-    let answer = tables::write(chosen(side, left, right), length, &mut table[..words]);
-    put_table_line(b"write", answer, &table[..words], out)
+    fill_all(table);
+    tables::write(chosen(side, left, right), length, table)
 }
 
 // A store where the position is inside.
@@ -242,58 +197,57 @@ fn store(side: Side, at: usize, word: u32, left: &mut [u32], right: &mut [u32])
     }
 }
 
-// Performs an operation: the slices and what is kept are then the state that it leaves, and what it prints stands at the start of `out`.
+// Performs an operation: the slices and what is kept are then the state that it leaves, and the report is what it tells.
 pub fn perform(
     operation: Operation,
     bytes: &[u8],
     left: &mut [u32],
     right: &mut [u32],
     scratch: &mut [u32],
+    room: &mut [u32],
     kept: Kept,
-    out: &mut [u8],
 ) -> Done
     requires { ⌜ Fits (now bytes) operation ⌝ }
-    requires { ⌜ Lent (now left) (now right) (now scratch) (now out) ⌝ }
-    requires { ⌜ kept .scratch ≤ tableLimit ⌝ }
-    ensures { λ r. ⌜ Does (performed (now (bytes .entry)) operation (stateOf (now (left .entry)) (now (right .entry)) (now (scratch .entry)) kept)) (now (out .entry)) (now (left .exit)) (now (right .exit)) (now (scratch .exit)) (now (out .exit)) r ⌝ }
-    ensures { λ r. ⌜ r .kept .scratch ≤ tableLimit ⌝ }
+    requires { ⌜ Lent (now scratch) (now room) ⌝ }
+    ensures { λ r. ⌜ Does (performed (now (bytes .entry)) operation (stateOf (now (left .entry)) (now (right .entry)) (now (scratch .entry)) kept)) (now (left .exit)) (now (right .exit)) (now (scratch .exit)) (now (room .exit)) r ⌝ }
 {
     match operation {
-        Operation::Load { side, table } => {
-            let used = load(bytes, table, side, left, right, out);
-            Done { used, kept }
+        Operation::Load { side, at, words } => {
+            let answer = load(bytes, at, side, left, right, &mut room[..words]);
+            let report = Report::Loaded(answer);
+            Done { kept, report }
         }
-        Operation::Press(call) => press(call, left, right, scratch, kept, out),
+        Operation::Press(call) => press(call, left, right, scratch, kept, room),
         Operation::Show { left: l, right: r } => {
-            let used = show(left, right, l, r, out);
-            Done { used, kept }
+            let part = show(left, right, l, r);
+            let report = Report::Shown(part);
+            Done { kept, report }
         }
         Operation::Write {
             side,
             length,
             words,
         } => {
-            let used = write(side, length, left, right, words, out);
-            Done { used, kept }
+            let answer = write(side, length, left, right, &mut room[..words]);
+            let report = Report::Written { answer, words };
+            Done { kept, report }
         }
         Operation::Set(session) => {
             let scratch = kept.scratch;
-            let used = put_bytes(b"session\n", out, 0);
+            let report = Report::Set;
             Done {
-                used,
                 kept: Kept { scratch, session },
+                report,
             }
         }
         Operation::Store { side, at, word } => {
             store(side, at, word, left, right);
-            let used = put_bytes(b"store\n", out, 0);
-            Done { used, kept }
+            let report = Report::Stored;
+            Done { kept, report }
         }
         Operation::Print => {
-            let n = kept.scratch;
-            let session = kept.session;
-            let used = put_state(left, right, &scratch[..n], session, out);
-            Done { used, kept }
+            let report = Report::State;
+            Done { kept, report }
         }
     }
 }

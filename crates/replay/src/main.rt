@@ -1,20 +1,19 @@
-// Replays calls of the unit: reads a script from standard input and prints what each of its operations prints, or `Script` where it is broken.
+// Replays calls of the unit: reads a script from standard input and prints what each of its operations reports, or `Script` where it is broken.
 use crate::calls::Kept;
 use crate::calls::perform;
-use crate::print::TEXT_MOST;
+use crate::print::print_report;
 use crate::script::Read;
+use crate::script::TABLE_MOST;
 use crate::script::operation_at;
 use libc::STDIN_FILENO;
 use libc::STDOUT_FILENO;
 use rounds::Session;
 use text::bytes::WORD_BYTES;
 use text::bytes::word_at;
-use verdict_line::judge::LENT_MOST;
-use verdict_line::judge::lent;
-use verdict_line::request::TABLE_MOST;
+use words::Word;
 ghost use mathlib.Core.Path.{_≡_};
-ghost use Rattle.replay.specs.Script.{scriptMost, isScript};
-ghost use Rattle.replay.specs.Text.{textMost};
+ghost use Prim.Native.Nat.{min};
+ghost use Rattle.replay.specs.Script.{scriptMost, tableLimit, lentMost, isScript};
 
 mod calls;
 mod print;
@@ -29,6 +28,20 @@ const LEFT: usize = 0;
 const RIGHT: usize = WORD_BYTES;
 
 const FIRST: usize = 2 * WORD_BYTES;
+
+// A workspace is lent by so many words at most, one above its limit, so that the calls themselves refuse it.
+const LENT_MOST: usize = Word::WORKSPACE_MOST + 1;
+
+// How many words of a workspace of c words are lent.
+fn lent(c: u32) -> usize
+    ensures { λ r. ⌜ r ≡ min c lentMost ⌝ }
+{
+    let n = c as usize;
+    if n < LENT_MOST {
+        return n;
+    }
+    LENT_MOST
+}
 
 // Performs the operations of a script, and says whether it was whole.
 fn replay(bytes: &[u8]) -> bool
@@ -45,7 +58,7 @@ fn replay(bytes: &[u8]) -> bool
     let mut left = [0u32; LENT_MOST];
     let mut right = [0u32; LENT_MOST];
     let mut scratch = [0u32; TABLE_MOST];
-    let mut out = [0u8; TEXT_MOST];
+    let mut room = [0u32; TABLE_MOST];
     let mut kept = Kept {
         scratch: 0,
         session: Session::fresh(),
@@ -61,11 +74,12 @@ fn replay(bytes: &[u8]) -> bool
             &mut left[..l],
             &mut right[..r],
             &mut scratch,
+            &mut room,
             kept,
-            &mut out,
         );
-        io::write_all(STDOUT_FILENO, &out[..done.used]);
+        let report = done.report;
         kept = done.kept;
+        print_report(report, &left[..l], &right[..r], &scratch, &room, kept);
         at = next;
     }
     true
@@ -74,7 +88,8 @@ fn replay(bytes: &[u8]) -> bool
 // Does nothing. Its contract says that each constant is the number that the definitions give its name.
 fn constants()
     ensures { λ r. do ⌜ (← ⟦SCRIPT_MOST⟧ .entry) ≡ scriptMost ⌝ }
-    ensures { λ r. do ⌜ (← ⟦TEXT_MOST⟧ .entry) ≡ textMost ⌝ }
+    ensures { λ r. do ⌜ (← ⟦TABLE_MOST⟧ .entry) ≡ tableLimit ⌝ }
+    ensures { λ r. do ⌜ (← ⟦LENT_MOST⟧ .entry) ≡ lentMost ⌝ }
 {}
 
 fn main() {

@@ -1,82 +1,127 @@
-// Lines of text put into lent bytes; what is returned is the position after them.
-use rounds::Session;
-use text::decimal::put_bytes;
-use text::decimal::put_end;
-use text::decimal::put_field;
-use verdict_line::print::put_verdict;
-ghost use Prim.Native.Nat.{_≤_, _+_};
-ghost use mathlib.Core.List.{_∷_};
-ghost use lib.ListN.{length};
-ghost use Rattle.rounds.specs.Types.{sessionOf};
-ghost use Rattle.text.specs.Put.{Put};
-ghost use Rattle.replay.specs.Text.{fields, line, sessionLine, stateLines, Printed};
+// What the operations print: a line for each report, four for the state. No contract can say what is written; what is told stands in the report.
+use crate::calls::Kept;
+use crate::calls::Report;
+use crate::calls::chosen;
+use crate::script::Side;
+use libc::STDOUT_FILENO;
+use rounds::Answer;
+use rounds::Verdict;
+use words::refusal::Refusal;
 
-// The most bytes of an operation's text: two workspaces and a scratch, each at its longest.
-pub const TEXT_MOST: usize = 259000;
+fn print(text: &[u8]) {
+    io::write_all(STDOUT_FILENO, text);
+}
 
-// Words, each behind a space.
-fn put_words(words: &[u32], out: &mut [u8], at: usize) -> usize
-    requires { ⌜ at + length (fields (now words)) ≤ length (now out) ⌝ }
-    ensures { λ r. ⌜ Put (now (out .entry)) at (fields (now (words .entry))) (now (out .exit)) r ⌝ }
-{
-    let mut to = at;
+// A number behind a space.
+fn print_number(n: usize) {
+    print(b" ");
+    io::print_decimal(STDOUT_FILENO, n as u64);
+}
+
+fn print_word(word: u32) {
+    print_number(word as usize);
+}
+
+// The first words of a slice, each behind a space, and the line's end.
+fn print_words(words: &[u32], count: usize) {
     let mut i = 0;
     while i < words.len() {
-        to = put_field(words[i] as usize, out, to);
+        if count <= i {
+            break;
+        }
+        print_word(words[i]);
         i += 1;
     }
-    to
+    print(b"\n");
 }
 
-// A line of a name and words.
-fn put_line(name: &[u8], words: &[u32], out: &mut [u8], at: usize) -> usize
-    requires { ⌜ at + length (line (now name) (now words)) ≤ length (now out) ⌝ }
-    ensures { λ r. ⌜ Put (now (out .entry)) at (line (now (name .entry)) (now (words .entry))) (now (out .exit)) r ⌝ }
-{
-    let start = put_bytes(name, out, at);
-    let end = put_words(words, out, start);
-    put_end(out, end)
+fn print_verdict(verdict: Verdict) {
+    match verdict {
+        Verdict::Same => print(b"Same"),
+        Verdict::Different => print(b"Different"),
+        Verdict::Budget => print(b"Budget"),
+        Verdict::Full => print(b"Full"),
+    }
 }
 
-// A line of a name, a number and words, at the start.
-pub fn put_numbered(name: &[u8], number: usize, words: &[u32], out: &mut [u8]) -> usize
-    requires { ⌜ length (line (now name) (number ∷ now words)) ≤ length (now out) ⌝ }
-    ensures { λ r. ⌜ Printed (now (out .entry)) (line (now (name .entry)) (number ∷ now (words .entry))) (now (out .exit)) r ⌝ }
-{
-    let start = put_bytes(name, out, 0);
-    let first = put_field(number, out, start);
-    let end = put_words(words, out, first);
-    put_end(out, end)
+fn print_refused(refusal: Refusal) {
+    print(b"refused");
+    print_word(refusal.number());
 }
 
-// A line of what the session keeps.
-fn put_session(session: Session, out: &mut [u8], at: usize) -> usize
-    requires { ⌜ at + length (sessionLine (sessionOf session)) ≤ length (now out) ⌝ }
-    ensures { λ r. ⌜ Put (now (out .entry)) at (sessionLine (sessionOf session)) (now (out .exit)) r ⌝ }
-{
+// What loading or writing returned, behind the call's name, or the refusal's number; then words.
+fn print_table(name: &[u8], answer: tables::Answer, words: &[u32], count: usize) {
+    match answer {
+        tables::Answer::Refused(refusal) => print_refused(refusal),
+        tables::Answer::Returned(number) => {
+            print(name);
+            print_number(number);
+        }
+    }
+    print_words(words, count);
+}
+
+// Verdict, spent and lengths, or the refusal's number.
+fn print_answer(answer: Answer) {
+    match answer {
+        Answer::Refused(refusal) => print_refused(refusal),
+        Answer::Shown(shown) => {
+            let verdict = shown.verdict;
+            print_verdict(verdict);
+            print_word(shown.spent);
+            print_number(shown.left);
+            print_number(shown.right);
+        }
+    }
+    print(b"\n");
+}
+
+fn side_number(side: Side) -> usize {
+    match side {
+        Side::Left => 0,
+        Side::Right => 1,
+    }
+}
+
+// Both workspaces, the last press's scratch and the session.
+fn print_state(left: &[u32], right: &[u32], scratch: &[u32], kept: Kept) {
+    print(b"left");
+    print_words(left, left.len());
+    print(b"right");
+    print_words(right, right.len());
+    print(b"scratch");
+    print_words(scratch, kept.scratch);
+    let session = kept.session;
     let verdict = session.verdict;
-    let start = put_bytes(b"session", out, at);
-    let total = put_field(session.total as usize, out, start);
-    let left = put_field(session.left, out, total);
-    let right = put_field(session.right, out, left);
-    let space = put_bytes(b" ", out, right);
-    let name = put_verdict(verdict, out, space);
-    put_end(out, name)
+    print(b"session");
+    print_word(session.total);
+    print_number(session.left);
+    print_number(session.right);
+    print(b" ");
+    print_verdict(verdict);
+    print(b"\n");
 }
 
-// The lines of both workspaces, the scratch and the session.
-pub fn put_state(
-    left: &[u32],
-    right: &[u32],
+pub fn print_report<'a>(
+    report: Report,
+    left: &'a [u32],
+    right: &'a [u32],
     scratch: &[u32],
-    session: Session,
-    out: &mut [u8],
-) -> usize
-    requires { ⌜ length (stateLines (now left) (now right) (now scratch) (sessionOf session)) ≤ length (now out) ⌝ }
-    ensures { λ r. ⌜ Printed (now (out .entry)) (stateLines (now (left .entry)) (now (right .entry)) (now (scratch .entry)) (sessionOf session)) (now (out .exit)) r ⌝ }
-{
-    let first = put_line(b"left", left, out, 0);
-    let second = put_line(b"right", right, out, first);
-    let third = put_line(b"scratch", scratch, out, second);
-    put_session(session, out, third)
+    room: &[u32],
+    kept: Kept,
+) {
+    match report {
+        Report::Loaded(answer) => print_table(b"load", answer, room, 0),
+        Report::Pressed(answer) => print_answer(answer),
+        Report::Shown(part) => {
+            let side = part.side;
+            print(b"show");
+            print_number(side_number(side));
+            print_words(chosen(side, left, right), part.words);
+        }
+        Report::Written { answer, words } => print_table(b"write", answer, room, words),
+        Report::Set => print(b"session\n"),
+        Report::Stored => print(b"store\n"),
+        Report::State => print_state(left, right, scratch, kept),
+    }
 }

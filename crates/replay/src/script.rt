@@ -1,17 +1,17 @@
-// What a script asks: operations of little-endian words, one after the other.
+// What a script asks: operations of little-endian words, one after the other. The first word of an operation is its number; one table tells how many
+// words each has, and one the largest number that each of its operands may be.
 use rounds::Session;
 use rounds::Verdict;
 use text::bytes::WORD_BYTES;
 use text::bytes::word_at;
-use verdict_line::request::TABLE_MOST;
-use verdict_line::request::Table;
+use words::Word;
 ghost use mathlib.Core.Path.{_≡_};
 ghost use Prim.Native.Nat.{_≤_, _<_};
 ghost use lib.ListN.{length};
-ghost use Rattle.replay.specs.Script.{ahead, nth, sideOf, verdictNumbered};
-ghost use Rattle.replay.specs.Script.{loadAt, pressAt, showAt, writeAt, setAt, storeAt, printAt, operationAt, Reads};
+ghost use Rattle.replay.specs.Script.{ahead, nth, sideOf, verdictNumbered, operations, operandsMost, wordsOf, mostOf};
+ghost use Rattle.replay.specs.Script.{operandAt, operandsAt, within, following, operationOf, operationAt, Reads};
 
-// The operations' numbers.
+// The operations' numbers. 7 is a print, and 0 is none.
 const LOAD: u32 = 1;
 
 const PRESS: u32 = 2;
@@ -24,27 +24,71 @@ const SET: u32 = 5;
 
 const STORE: u32 = 6;
 
-const PRINT: u32 = 7;
+const OPERATIONS: usize = 8;
 
-// The words of each operation; those of a load stand before its table.
-const LOAD_WORDS: usize = 3;
+// The words of each operation, its number's included; those of a load stand before its table.
+const WORDS: [usize; OPERATIONS] = [0, 3, 5, 3, 4, 5, 4, 1];
 
-const PRESS_WORDS: usize = 5;
+// The words of a record, and the most words of a table and of a scratch: those of a header and of as many records as a workspace has words.
+const RECORD_WORDS: usize = 4;
 
-const SHOW_WORDS: usize = 3;
+pub const TABLE_MOST: usize = RECORD_WORDS * (Word::WORKSPACE_MOST + 1);
 
-const WRITE_WORDS: usize = 4;
+// The largest numbers of operands: of a side, of a verdict, of a length of a table or a scratch, and of any other.
+const SIDE: u32 = 1;
 
-const SET_WORDS: usize = 5;
+const VERDICT: u32 = 3;
 
-const STORE_WORDS: usize = 4;
+const TABLE: u32 = TABLE_MOST as u32;
 
-const PRINT_WORDS: usize = 1;
+const ANY: u32 = 4294967295;
 
-// The largest number of a side and of a verdict.
-const SIDE_MOST: u32 = 1;
+// No operation has more operands.
+const OPERANDS: usize = 4;
 
-const VERDICT_MOST: u32 = 3;
+// A line for each operation: the largest numbers of its operands.
+const MOST: [u32; OPERATIONS * OPERANDS] = [
+    ANY,
+    ANY,
+    ANY,
+    ANY,
+    SIDE,
+    TABLE,
+    ANY,
+    ANY,
+    TABLE,
+    ANY,
+    ANY,
+    ANY,
+    ANY,
+    ANY,
+    ANY,
+    ANY,
+    SIDE,
+    ANY,
+    TABLE,
+    ANY,
+    ANY,
+    ANY,
+    ANY,
+    VERDICT,
+    SIDE,
+    ANY,
+    ANY,
+    ANY,
+    ANY,
+    ANY,
+    ANY,
+    ANY,
+];
+
+// What stands behind an operation's number; 0 for those that it does not have.
+pub struct Operands {
+    pub first: u32,
+    pub second: u32,
+    pub third: u32,
+    pub fourth: u32,
+}
 
 pub enum Side {
     Left,
@@ -59,10 +103,12 @@ pub struct Call {
     pub budget: u32,
 }
 
+// A table is told by the position of its first byte, and its words.
 pub enum Operation {
     Load {
         side: Side,
-        table: Table,
+        at: usize,
+        words: usize,
     },
     Press(Call),
     Show {
@@ -126,158 +172,106 @@ fn verdict_of(number: u32) -> Verdict
     }
 }
 
-fn load_at(bytes: &[u8], at: usize) -> Read
-    requires { ⌜ at ≤ length (now bytes) ⌝ }
-    ensures { λ r. ⌜ Reads (now (bytes .entry)) at (loadAt (now (bytes .entry)) at) r ⌝ }
+// The words of the operation of a number; 0 where none has it.
+fn words_of(number: u32) -> usize
+    ensures { λ r. ⌜ r ≡ wordsOf number ⌝ }
 {
-    let ahead = ahead(bytes, at);
-    if ahead < LOAD_WORDS {
-        return Read::Broken;
+    let n = number as usize;
+    if OPERATIONS <= n {
+        return 0;
     }
-    let side = nth(bytes, at, 1);
-    if SIDE_MOST < side {
-        return Read::Broken;
+    WORDS[n]
+}
+
+// The largest number of an operand.
+fn most_of(number: u32, k: usize) -> u32
+    requires { ⌜ (number < operations) × (k < operandsMost) ⌝ }
+    ensures { λ r. ⌜ r ≡ mostOf number k ⌝ }
+{
+    MOST[OPERANDS * number as usize + k]
+}
+
+// Whether no operand is above its largest number.
+fn within(number: u32, o: Operands) -> bool
+    requires { ⌜ number < operations ⌝ }
+    ensures { λ r. ⌜ r ≡ within number o ⌝ }
+{
+    (o.first <= most_of(number, 0))
+        & (o.second <= most_of(number, 1))
+        & (o.third <= most_of(number, 2))
+        & (o.fourth <= most_of(number, 3))
+}
+
+// The k-th word of an operation of so many words.
+fn operand_at(bytes: &[u8], at: usize, words: usize, k: usize) -> u32
+    requires { ⌜ (at ≤ length (now bytes)) × (words ≤ ahead (now bytes) at) ⌝ }
+    ensures { λ r. ⌜ r ≡ operandAt (now (bytes .entry)) at words k ⌝ }
+{
+    if k < words {
+        return nth(bytes, at, k);
     }
-    let words = nth(bytes, at, 2) as usize;
-    if TABLE_MOST < words {
-        return Read::Broken;
-    }
-    if ahead - LOAD_WORDS < words {
-        return Read::Broken;
-    }
-    let first = at + WORD_BYTES * LOAD_WORDS;
-    let next = at + WORD_BYTES * (LOAD_WORDS + words);
-    Read::Whole {
-        operation: Operation::Load {
-            side: side_of(side),
-            table: Table { at: first, words },
-        },
-        next,
+    0
+}
+
+fn operands_at(bytes: &[u8], at: usize, words: usize) -> Operands
+    requires { ⌜ (at ≤ length (now bytes)) × (words ≤ ahead (now bytes) at) ⌝ }
+    ensures { λ r. ⌜ r ≡ operandsAt (now (bytes .entry)) at words ⌝ }
+{
+    Operands {
+        first: operand_at(bytes, at, words, 1),
+        second: operand_at(bytes, at, words, 2),
+        third: operand_at(bytes, at, words, 3),
+        fourth: operand_at(bytes, at, words, 4),
     }
 }
 
-fn press_at(bytes: &[u8], at: usize) -> Read
-    requires { ⌜ at ≤ length (now bytes) ⌝ }
-    ensures { λ r. ⌜ Reads (now (bytes .entry)) at (pressAt (now (bytes .entry)) at) r ⌝ }
+// How many words follow an operation's own: those of a load's table.
+fn following(number: u32, o: Operands) -> usize
+    ensures { λ r. ⌜ r ≡ following number o ⌝ }
 {
-    if ahead(bytes, at) < PRESS_WORDS {
-        return Read::Broken;
+    if number == LOAD {
+        return o.second as usize;
     }
-    let scratch = nth(bytes, at, 1) as usize;
-    if TABLE_MOST < scratch {
-        return Read::Broken;
-    }
-    let next = at + WORD_BYTES * PRESS_WORDS;
-    Read::Whole {
-        operation: Operation::Press(Call {
-            scratch,
-            left: nth(bytes, at, 2) as usize,
-            right: nth(bytes, at, 3) as usize,
-            budget: nth(bytes, at, 4),
+    0
+}
+
+// The operation of a number, with what follows it at a position.
+fn operation_of(number: u32, o: Operands, from: usize) -> Operation
+    ensures { λ r. ⌜ r ≡ operationOf number o from ⌝ }
+{
+    match number {
+        LOAD => Operation::Load {
+            side: side_of(o.first),
+            at: from,
+            words: o.second as usize,
+        },
+        PRESS => Operation::Press(Call {
+            scratch: o.first as usize,
+            left: o.second as usize,
+            right: o.third as usize,
+            budget: o.fourth,
         }),
-        next,
-    }
-}
-
-fn show_at(bytes: &[u8], at: usize) -> Read
-    requires { ⌜ at ≤ length (now bytes) ⌝ }
-    ensures { λ r. ⌜ Reads (now (bytes .entry)) at (showAt (now (bytes .entry)) at) r ⌝ }
-{
-    if ahead(bytes, at) < SHOW_WORDS {
-        return Read::Broken;
-    }
-    let next = at + WORD_BYTES * SHOW_WORDS;
-    Read::Whole {
-        operation: Operation::Show {
-            left: nth(bytes, at, 1) as usize,
-            right: nth(bytes, at, 2) as usize,
+        SHOW => Operation::Show {
+            left: o.first as usize,
+            right: o.second as usize,
         },
-        next,
-    }
-}
-
-fn write_at(bytes: &[u8], at: usize) -> Read
-    requires { ⌜ at ≤ length (now bytes) ⌝ }
-    ensures { λ r. ⌜ Reads (now (bytes .entry)) at (writeAt (now (bytes .entry)) at) r ⌝ }
-{
-    if ahead(bytes, at) < WRITE_WORDS {
-        return Read::Broken;
-    }
-    let side = nth(bytes, at, 1);
-    if SIDE_MOST < side {
-        return Read::Broken;
-    }
-    let words = nth(bytes, at, 3) as usize;
-    if TABLE_MOST < words {
-        return Read::Broken;
-    }
-    let next = at + WORD_BYTES * WRITE_WORDS;
-    Read::Whole {
-        operation: Operation::Write {
-            side: side_of(side),
-            length: nth(bytes, at, 2) as usize,
-            words,
+        WRITE => Operation::Write {
+            side: side_of(o.first),
+            length: o.second as usize,
+            words: o.third as usize,
         },
-        next,
-    }
-}
-
-fn set_at(bytes: &[u8], at: usize) -> Read
-    requires { ⌜ at ≤ length (now bytes) ⌝ }
-    ensures { λ r. ⌜ Reads (now (bytes .entry)) at (setAt (now (bytes .entry)) at) r ⌝ }
-{
-    if ahead(bytes, at) < SET_WORDS {
-        return Read::Broken;
-    }
-    let verdict = nth(bytes, at, 4);
-    if VERDICT_MOST < verdict {
-        return Read::Broken;
-    }
-    let next = at + WORD_BYTES * SET_WORDS;
-    Read::Whole {
-        operation: Operation::Set(Session {
-            total: nth(bytes, at, 1),
-            left: nth(bytes, at, 2) as usize,
-            right: nth(bytes, at, 3) as usize,
-            verdict: verdict_of(verdict),
+        SET => Operation::Set(Session {
+            total: o.first,
+            left: o.second as usize,
+            right: o.third as usize,
+            verdict: verdict_of(o.fourth),
         }),
-        next,
-    }
-}
-
-fn store_at(bytes: &[u8], at: usize) -> Read
-    requires { ⌜ at ≤ length (now bytes) ⌝ }
-    ensures { λ r. ⌜ Reads (now (bytes .entry)) at (storeAt (now (bytes .entry)) at) r ⌝ }
-{
-    if ahead(bytes, at) < STORE_WORDS {
-        return Read::Broken;
-    }
-    let side = nth(bytes, at, 1);
-    if SIDE_MOST < side {
-        return Read::Broken;
-    }
-    let next = at + WORD_BYTES * STORE_WORDS;
-    Read::Whole {
-        operation: Operation::Store {
-            side: side_of(side),
-            at: nth(bytes, at, 2) as usize,
-            word: nth(bytes, at, 3),
+        STORE => Operation::Store {
+            side: side_of(o.first),
+            at: o.second as usize,
+            word: o.third,
         },
-        next,
-    }
-}
-
-fn print_at(bytes: &[u8], at: usize) -> Read
-    requires { ⌜ at ≤ length (now bytes) ⌝ }
-    ensures { λ r. ⌜ Reads (now (bytes .entry)) at (printAt (now (bytes .entry)) at) r ⌝ }
-{
-    if ahead(bytes, at) < PRINT_WORDS {
-        return Read::Broken;
-    }
-    let next = at + WORD_BYTES * PRINT_WORDS;
-    Read::Whole {
-        operation: Operation::Print,
-        next,
+        _ => Operation::Print,
     }
 }
 
@@ -286,17 +280,30 @@ pub fn operation_at(bytes: &[u8], at: usize) -> Read
     requires { ⌜ at ≤ length (now bytes) ⌝ }
     ensures { λ r. ⌜ Reads (now (bytes .entry)) at (operationAt (now (bytes .entry)) at) r ⌝ }
 {
-    if ahead(bytes, at) < 1 {
+    let ahead = ahead(bytes, at);
+    if ahead < 1 {
         return Read::Broken;
     }
-    match nth(bytes, at, 0) {
-        LOAD => load_at(bytes, at),
-        PRESS => press_at(bytes, at),
-        SHOW => show_at(bytes, at),
-        WRITE => write_at(bytes, at),
-        SET => set_at(bytes, at),
-        STORE => store_at(bytes, at),
-        PRINT => print_at(bytes, at),
-        _ => Read::Broken,
+    let number = nth(bytes, at, 0);
+    let words = words_of(number);
+    if words < 1 {
+        return Read::Broken;
+    }
+    if ahead < words {
+        return Read::Broken;
+    }
+    let operands = operands_at(bytes, at, words);
+    if !within(number, operands) {
+        return Read::Broken;
+    }
+    let more = following(number, operands);
+    if ahead - words < more {
+        return Read::Broken;
+    }
+    let from = at + WORD_BYTES * words;
+    let next = at + WORD_BYTES * (words + more);
+    Read::Whole {
+        operation: operation_of(number, operands, from),
+        next,
     }
 }

@@ -1,22 +1,16 @@
 -- The digits of a number, as a loop finds them from the lowest on; and that they are the number's.
 use Prim.Native.Nat.{ℕ, zero, suc, _+_, _-_, _*_, _/_, _%_, _^_, _≤_, _<_}
-use mathlib.Core.Path.{_≡_, refl, _∙_, ap₂}
+use mathlib.Core.Path.{_≡_, refl, _∙_}
 use mathlib.Core.Bool.{Bool, true, false}
 use mathlib.Core.List.{List, [], _∷_, _++_, append-assoc}
-use native.Mathlib.Nat.{le-refl, pow-suc, div-lt-iff-lt-mul}
+use native.Mathlib.Nat.{pow-suc, div-lt-iff-lt-mul}
 use native.Mathlib.Omega.{arith}
-use lib.ListN.{length, length-append, take, drop, set, length-set, length-drop}
-use lib.Seq.{take-all, drop-cons, getD-set-same, drop-set-lt}
+use lib.ListN.{length, length-append, take, drop, set, length-drop}
+use lib.Seq.{take-all}
 use lib.Dec.{ltb}
 use borrow.Author.Tests.{ltb-true, lt-ltb, le-ltb}
-use Rattle.text.specs.Decimal.{digit, digitsMost, digits, decimal, field}
-use Rattle.text.specs.Put.{Kept}
-
--- What stands from k on after a store at k.
-drop-set : (l : List ℕ) (k v : ℕ) → k < length l → drop k (set l k v) ≡ v ∷ drop (suc k) l
-drop-set l k v h =
-    drop-cons (set l k v) k 0 (rw (length-set l k v) h)
-    ∙ ap₂ _∷_ (getD-set-same l k v 0 h) (drop-set-lt (suc k) l k v (le-refl (suc k)))
+use Rattle.text.specs.Decimal.{digit, digitsMost, digits, decimal, Kept}
+use Rattle.words.proofs.PlacedLaws.{drop-set}
 
 -- One digit more is kept in `text`, and others are left.
 pub digits-next : (text : List ℕ) (i n : ℕ) → 0 < i → i ≤ length text → 10 ≤ n

@@ -1,8 +1,10 @@
 -- Numbers in base ten, as ASCII bytes, and what stands between them.
-use Prim.Native.Nat.{ℕ, zero, suc, _+_, _/_, _%_}
+use Prim.Native.Nat.{ℕ, zero, suc, _+_, _/_, _%_, _≤_}
+use mathlib.Core.Path.{_≡_}
 use mathlib.Core.Bool.{true, false}
 use mathlib.Core.List.{List, [], _∷_, _++_}
 use lib.Dec.{ltb}
+use lib.ListN.{length, drop}
 
 -- The digit 0 is byte 48.
 abbrev pub digit : ℕ → ℕ
@@ -26,3 +28,8 @@ field n = 32 ∷ decimal n
 
 abbrev pub newline : ℕ
 newline = 10
+
+-- The digits of a number stand at the end of `kept`, from a position on.
+pub record Kept (n : ℕ) (kept : List ℕ) (from : ℕ) : Type 0 where
+  pub inside : from ≤ length kept
+  pub digits : drop from kept ≡ decimal n

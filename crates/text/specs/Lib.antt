@@ -2,4 +2,3 @@
 pub mod Bytes
 pub mod Decode
 pub mod Decimal
-pub mod Put

@@ -3,8 +3,8 @@ ghost use mathlib.Core.Path.{_≡_};
 ghost use mathlib.Core.List.{[], _∷_};
 ghost use Prim.Native.Nat.{_≤_, _+_};
 ghost use lib.ListN.{length};
-ghost use Rattle.text.specs.Decimal.{digitsMost, decimal, field, newline};
-ghost use Rattle.text.specs.Put.{Put, Kept};
+ghost use Rattle.words.specs.Placed.{Placed};
+ghost use Rattle.text.specs.Decimal.{digitsMost, decimal, field, newline, Kept};
 
 // A number of 64 bits has at most so many digits.
 pub const DIGITS_MOST: usize = 20;
@@ -13,7 +13,7 @@ const BASE: usize = 10;
 
 pub fn put_bytes(bytes: &[u8], out: &mut [u8], at: usize) -> usize
     requires { ⌜ at + length (now bytes) ≤ length (now out) ⌝ }
-    ensures { λ r. ⌜ Put (now (out .entry)) at (now (bytes .entry)) (now (out .exit)) r ⌝ }
+    ensures { λ r. ⌜ Placed (now (out .entry)) at (now (bytes .entry)) (now (out .exit)) r ⌝ }
 {
     let mut i = 0;
     while i < bytes.len() {
@@ -44,7 +44,7 @@ fn keep_digits(n: usize, kept: &mut [u8]) -> usize
 // A number in base ten.
 pub fn put_decimal(n: usize, out: &mut [u8], at: usize) -> usize
     requires { ⌜ at + length (decimal n) ≤ length (now out) ⌝ }
-    ensures { λ r. ⌜ Put (now (out .entry)) at (decimal n) (now (out .exit)) r ⌝ }
+    ensures { λ r. ⌜ Placed (now (out .entry)) at (decimal n) (now (out .exit)) r ⌝ }
 {
     let mut digits = [0u8; DIGITS_MOST];
     let from = keep_digits(n, &mut digits);
@@ -54,7 +54,7 @@ pub fn put_decimal(n: usize, out: &mut [u8], at: usize) -> usize
 // A number behind a space.
 pub fn put_field(n: usize, out: &mut [u8], at: usize) -> usize
     requires { ⌜ at + length (field n) ≤ length (now out) ⌝ }
-    ensures { λ r. ⌜ Put (now (out .entry)) at (field n) (now (out .exit)) r ⌝ }
+    ensures { λ r. ⌜ Placed (now (out .entry)) at (field n) (now (out .exit)) r ⌝ }
 {
     out[at] = b' ';
     put_decimal(n, out, at + 1)
@@ -63,7 +63,7 @@ pub fn put_field(n: usize, out: &mut [u8], at: usize) -> usize
 // The end of a line.
 pub fn put_end(out: &mut [u8], at: usize) -> usize
     requires { ⌜ at + 1 ≤ length (now out) ⌝ }
-    ensures { λ r. ⌜ Put (now (out .entry)) at (newline ∷ []) (now (out .exit)) r ⌝ }
+    ensures { λ r. ⌜ Placed (now (out .entry)) at (newline ∷ []) (now (out .exit)) r ⌝ }
 {
     out[at] = b'\n';
     at + 1

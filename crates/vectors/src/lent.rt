@@ -1,17 +1,6 @@
-// Lent words: filled and compared.
+// Lent words, compared.
 ghost use mathlib.Core.Path.{_≡_};
-ghost use lib.ListN.{length, replicate};
 ghost use Rattle.vectors.specs.Compared.{wordAt, areWords};
-
-pub fn fill(words: &mut [u32], word: u32)
-    ensures { λ _. ⌜ now (words .exit) ≡ replicate (length (now (words .entry))) word ⌝ }
-{
-    let mut i = 0;
-    while i < words.len() {
-        words[i] = word;
-        i += 1;
-    }
-}
 
 // The first n words, or all where there are fewer.
 pub fn front<'a>(words: &'a mut [u32], n: usize) -> &'a mut [u32] {

@@ -7,7 +7,6 @@ use crate::vector::tally_all;
 use libc::STDIN_FILENO;
 use libc::STDOUT_FILENO;
 
-mod contraction;
 mod lent;
 mod pair;
 mod stored;

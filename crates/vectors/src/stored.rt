@@ -15,6 +15,7 @@ use crate::pair::ROOM;
 use crate::text::LIST_MOST;
 use crate::text::List;
 use crate::text::NOWHERE;
+use crate::text::RECORD_WORDS;
 use crate::text::after;
 use crate::text::compare;
 use crate::text::read_list;
@@ -26,8 +27,7 @@ ghost use mathlib.Core.Path.{_≡_};
 ghost use Rattle.tables.specs.Types.{answerOf};
 ghost use Rattle.vectors.specs.Answers.{isReturned};
 
-// The words of a record.
-const RECORD: u32 = 4;
+const RECORD: u32 = RECORD_WORDS as u32;
 
 fn returns_count(answer: Answer, count: usize) -> bool
     ensures { λ r. ⌜ r ≡ isReturned (answerOf answer) count ⌝ }
@@ -81,7 +81,7 @@ fn read_table(line: &[u8], at: usize, table: &mut [u32]) -> List {
     let index = read_number(line, records.next);
     put_chain(table, records.value, index.value);
     List {
-        count: RECORD as usize * (records.value as usize + 1),
+        count: RECORD_WORDS * (records.value as usize + 1),
         next: index.next,
     }
 }

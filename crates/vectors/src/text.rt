@@ -1,7 +1,8 @@
 // Reading a vector's line: keywords, numbers and lists of words, with spaces between them. Where what is wanted does not come next, reading goes on
 // nowhere: no later read finds anything, and the vector fails.
-use crate::lent::fill;
 use crate::lent::holds;
+use words::Word;
+use words::slices::fill;
 ghost use Prim.Native.Nat.{_≤_};
 ghost use lib.ListN.{length};
 
@@ -160,7 +161,7 @@ fn read_more(text: &[u8], list: List, into: &mut [u32]) -> List {
     if into.len() - count < times {
         return List::NONE;
     }
-    fill(&mut into[count..count + times], item.word);
+    fill(into, count, count + times, item.word);
     List {
         count: count + times,
         next: item.next,
@@ -198,20 +199,18 @@ pub struct Compared {
     pub next: usize,
 }
 
-// The words of the longest list that is compared: a table one record longer than the largest.
-pub const LIST_MOST: usize = 8200;
+// The words of a record of a table.
+pub const RECORD_WORDS: usize = 4;
 
-// A comparison with the list read into a lent part.
-fn compare_in(text: &[u8], at: usize, words: &[u32], tail: u32, expected: &mut [u32]) -> Compared {
-    let list = read_list(text, at, expected);
-    Compared {
-        equal: holds(words, expected, list.count, tail),
-        count: list.count,
-        next: list.next,
-    }
-}
+// The words of the longest list that is compared: a table one record longer than the largest.
+pub const LIST_MOST: usize = RECORD_WORDS * (Word::WORKSPACE_MOST + 2);
 
 pub fn compare(text: &[u8], at: usize, words: &[u32], tail: u32) -> Compared {
     let mut expected = [0u32; LIST_MOST];
-    compare_in(text, at, words, tail, &mut expected)
+    let list = read_list(text, at, &mut expected);
+    Compared {
+        equal: holds(words, &expected, list.count, tail),
+        count: list.count,
+        next: list.next,
+    }
 }

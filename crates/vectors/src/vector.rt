@@ -1,6 +1,4 @@
-// Vectors, one to a line. What a line means is said at the top of pair.rt (pair), stored.rt (load, write) and contraction.rt (step, term).
-use crate::contraction::step_holds;
-use crate::contraction::term_holds;
+// Vectors, one to a line. What a line means is said at the top of pair.rt (pair) and stored.rt (load, write).
 use crate::pair::pair_holds;
 use crate::stored::load_holds;
 use crate::stored::write_holds;
@@ -17,15 +15,6 @@ pub struct Tally {
     pub passed: usize,
 }
 
-// The vectors of the calls below a press.
-fn part_passes(line: &[u8]) -> bool {
-    let step = after(line, 0, b"step");
-    if step != NOWHERE {
-        return step_holds(line, step);
-    }
-    term_holds(line, after(line, 0, b"term"))
-}
-
 fn passes(line: &[u8]) -> bool {
     let pair = after(line, 0, b"pair");
     if pair != NOWHERE {
@@ -35,11 +24,7 @@ fn passes(line: &[u8]) -> bool {
     if load != NOWHERE {
         return load_holds(line, load);
     }
-    let write = after(line, 0, b"write");
-    if write != NOWHERE {
-        return write_holds(line, write);
-    }
-    part_passes(line)
+    write_holds(line, after(line, 0, b"write"))
 }
 
 // A vector that fails is printed.

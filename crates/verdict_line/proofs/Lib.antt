@@ -1,3 +1,4 @@
 pub mod RequestLaws
 pub mod LineLaws
 pub mod JudgeLaws
+pub mod Examples

@@ -15,7 +15,7 @@ use Rattle.calculus.specs.Words.{workspaceMost}
 use Rattle.calculus.specs.Refusal.{WrongWorkspace, number}
 use Rattle.tables.specs.Load.{refused, loadStored, load}
 use Rattle.verdict_line.specs.Request.{Request, request}
-use Rattle.text.specs.Put.{Put}
+use Rattle.words.specs.Placed.{Placed}
 use Rattle.text.proofs.DecimalLaws.{length-decimal}
 use Rattle.verdict_line.specs.Judge.{lentMost}
 
@@ -32,10 +32,10 @@ line-length (refuses n) = simp length-append (omega (arith, length-decimal n))
 line-length (shows v s l r) = simp length-append (omega (arith, length-name v, length-decimal s, length-decimal l, length-decimal r))
 
 -- What is printed fits where it is put.
-pub printed-fits : {before after : List ℕ} (bytes : List ℕ) {r : ℕ} → Put before 0 (printed bytes) after r → length before ≡ lineMost → r ≤ length after
+pub printed-fits : {before after : List ℕ} (bytes : List ℕ) {r : ℕ} → Placed before 0 (printed bytes) after r → length before ≡ lineMost → r ≤ length after
 unfolding printed
 printed-fits {before} bytes p size =
-    rw (p .stored, length-sets) (omega (arith, p .position, line-length (judged (request bytes))))
+    rw (p .slice, length-sets) (omega (arith, p .position, line-length (judged (request bytes))))
 
 -- The first of so many equal words.
 pub take-replicate : (a n m : ℕ) → n ≤ m → take n (replicate m a) ≡ replicate n a

@@ -4,3 +4,4 @@ pub mod Parse
 pub mod Line
 pub mod Types
 pub mod Judge
+pub mod Examples

@@ -5,7 +5,7 @@ use crate::request::TABLE_MOST;
 ghost use mathlib.Core.Path.{_≡_};
 ghost use Rattle.verdict_line.specs.Request.{tableLimit, inputMost};
 ghost use Rattle.verdict_line.specs.Line.{lineMost, printed};
-ghost use Rattle.text.specs.Put.{Put};
+ghost use Rattle.words.specs.Placed.{Placed};
 
 pub mod judge;
 pub mod print;
@@ -13,7 +13,7 @@ pub mod request;
 
 // Puts what is printed for the bytes at the start of `out`, and returns its length.
 pub fn line(bytes: &[u8], out: &mut [u8; LINE_MOST]) -> usize
-    ensures { λ r. ⌜ Put (now (out .entry)) 0 (printed (now (bytes .entry))) (now (out .exit)) r ⌝ }
+    ensures { λ r. ⌜ Placed (now (out .entry)) 0 (printed (now (bytes .entry))) (now (out .exit)) r ⌝ }
 {
     let line = judge::judge(bytes);
     print::put_line(line, out)

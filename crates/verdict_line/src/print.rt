@@ -9,7 +9,7 @@ ghost use lib.ListN.{length};
 ghost use Rattle.rounds.specs.Types.{verdictOf};
 ghost use Rattle.verdict_line.specs.Line.{nameOf, lineBytes, refuses, shows};
 ghost use Rattle.verdict_line.specs.Types.{printedLine};
-ghost use Rattle.text.specs.Put.{Put};
+ghost use Rattle.words.specs.Placed.{Placed};
 
 // The bytes of the longest verdict, `Different`.
 const VERDICT_MOST: usize = 9;
@@ -31,7 +31,7 @@ pub enum Line {
 // The name of a verdict.
 pub fn put_verdict(verdict: Verdict, out: &mut [u8], at: usize) -> usize
     requires { ⌜ at + length (nameOf (verdictOf verdict)) ≤ length (now out) ⌝ }
-    ensures { λ r. ⌜ Put (now (out .entry)) at (nameOf (verdictOf verdict)) (now (out .exit)) r ⌝ }
+    ensures { λ r. ⌜ Placed (now (out .entry)) at (nameOf (verdictOf verdict)) (now (out .exit)) r ⌝ }
 {
     match verdict {
         Verdict::Same => put_bytes(b"Same", out, at),
@@ -43,7 +43,7 @@ pub fn put_verdict(verdict: Verdict, out: &mut [u8], at: usize) -> usize
 
 fn put_refusal(number: u32, out: &mut [u8]) -> usize
     requires { ⌜ length (lineBytes (refuses number)) ≤ length (now out) ⌝ }
-    ensures { λ r. ⌜ Put (now (out .entry)) 0 (lineBytes (refuses number)) (now (out .exit)) r ⌝ }
+    ensures { λ r. ⌜ Placed (now (out .entry)) 0 (lineBytes (refuses number)) (now (out .exit)) r ⌝ }
 {
     let name = put_bytes(b"Refused", out, 0);
     let field = put_field(number as usize, out, name);
@@ -52,7 +52,7 @@ fn put_refusal(number: u32, out: &mut [u8]) -> usize
 
 fn put_answer(verdict: Verdict, spent: u32, left: usize, right: usize, out: &mut [u8]) -> usize
     requires { ⌜ length (lineBytes (shows (verdictOf verdict) spent left right)) ≤ length (now out) ⌝ }
-    ensures { λ r. ⌜ Put (now (out .entry)) 0 (lineBytes (shows (verdictOf verdict) spent left right)) (now (out .exit)) r ⌝ }
+    ensures { λ r. ⌜ Placed (now (out .entry)) 0 (lineBytes (shows (verdictOf verdict) spent left right)) (now (out .exit)) r ⌝ }
 {
     let name = put_verdict(verdict, out, 0);
     let first = put_field(spent as usize, out, name);
@@ -64,7 +64,7 @@ fn put_answer(verdict: Verdict, spent: u32, left: usize, right: usize, out: &mut
 // The bytes of a line at the start of `out`, and their number.
 pub fn put_line(line: Line, out: &mut [u8]) -> usize
     requires { ⌜ length (lineBytes (printedLine line)) ≤ length (now out) ⌝ }
-    ensures { λ r. ⌜ Put (now (out .entry)) 0 (lineBytes (printedLine line)) (now (out .exit)) r ⌝ }
+    ensures { λ r. ⌜ Placed (now (out .entry)) 0 (lineBytes (printedLine line)) (now (out .exit)) r ⌝ }
 {
     match line {
         Line::Input => put_bytes(b"Input\n", out, 0),

@@ -3,8 +3,8 @@ use borrow.Author.Needs.{needs}
 use Rattle.replay.proofs.calls.press_filled.Statement.{statement}
 use Rattle.replay.proofs.calls.press_filled.Tie as tie
 
-fill-requires : tie.Need-fill-requires
-fill-requires c κs = search needs
+fill-all-requires : tie.Need-fill-all-requires
+fill-all-requires c κs = search needs
 
 press-owned-requires : tie.Need-press-owned-requires
 press-owned-requires c κs = search needs
@@ -24,4 +24,4 @@ returns c = cc
 pub press-filled-spec : {M : Type 1} → statement M
 press-filled-spec =
     tie.close
-    (tie.spec fill-requires press-owned-requires same-length same-length-2 same-length-3 returns)
+    (tie.spec fill-all-requires press-owned-requires same-length same-length-2 same-length-3 returns)

@@ -6,7 +6,8 @@ use native.Mathlib.Omega.{arith}
 use lib.ListN.{length, drop, length-set}
 use lib.Seq.{sets, drop-length}
 use Rattle.text.specs.Decode.{wordsFrom}
-use Rattle.text.proofs.Storing.{store-next, sets-whole}
+use Rattle.words.proofs.PlacedLaws.{sets-whole}
+use Rattle.text.proofs.Storing.{store-next}
 use Rattle.text.proofs.DecodeLaws.{length-wordsFrom, getD-wordsFrom}
 use Rattle.text.proofs.bytes.words_from.Statement.{statement}
 use Rattle.text.proofs.bytes.words_from.Tie as tie

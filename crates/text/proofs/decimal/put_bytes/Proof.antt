@@ -52,7 +52,7 @@ returns : tie.Need-returns Inv-loop μ-loop
 returns c =
     let l = c .before in
     let e : l .loop .i ≡ length (l .before .args .bytes .now) = omega arith in
-    record { stored = rw (e, drop-length) at (l .loop .inv .2); position = rw e }
+    record { slice = rw (e, drop-length) at (l .loop .inv .2); position = rw e }
 
 pub put-bytes-spec : {M : Type 1} → statement M
 put-bytes-spec =

@@ -1,7 +1,7 @@
 -- `put_answer` meets its contract: five pieces one after the other.
 use native.Mathlib.Omega.{arith}
 use lib.ListN.{length-append}
-use Rattle.text.proofs.Storing.{put-append}
+use Rattle.words.proofs.PlacedLaws.{placed-append}
 use borrow.Author.Needs.{needs}
 use Rattle.verdict_line.proofs.print.put_answer.Statement.{statement}
 use Rattle.verdict_line.proofs.print.put_answer.Tie as tie
@@ -28,9 +28,9 @@ returns : tie.Need-returns
 returns c =
     let e = c .before .before in
     let f = e .before .before .before .before in
-    put-append (f .before .before .before .before .before .before .before .before .before .before .before .before .put-verdict .ensures)
-    (put-append (f .before .before .before .before .before .before .before .before .put-field .ensures)
-    (put-append (f .before .before .before .before .put-field2 .ensures) (put-append (f .put-field3 .ensures) (e .put-end .ensures))))
+    placed-append (f .before .before .before .before .before .before .before .before .before .before .before .before .put-verdict .ensures)
+    (placed-append (f .before .before .before .before .before .before .before .before .put-field .ensures)
+    (placed-append (f .before .before .before .before .put-field2 .ensures) (placed-append (f .put-field3 .ensures) (e .put-end .ensures))))
 
 pub put-answer-spec : {M : Type 1} → statement M
 put-answer-spec =

@@ -1,0 +1,17 @@
+-- `operand_at` meets its contract.
+use borrow.Author.Tests.{lt-ltb, le-ltb}
+use borrow.Author.Needs.{needs}
+use Rattle.replay.proofs.script.operand_at.Statement.{statement}
+use Rattle.replay.proofs.script.operand_at.Tie as tie
+
+nth-requires : tie.Need-nth-requires
+nth-requires c κs = search needs
+
+returns : tie.Need-returns
+returns c = rw (lt-ltb _ _ (c .before .if1 .taken)) (c .nth .ensures)
+
+returns-2 : tie.Need-returns-2
+returns-2 c = rw (le-ltb _ _ (c .if1 .left))
+
+pub operand-at-spec : {M : Type 1} → statement M
+operand-at-spec = tie.close (tie.spec nth-requires returns returns-2)

@@ -1,0 +1,31 @@
+-- `operands_at` meets its contract.
+use Rattle.replay.specs.Script.{operandsAt}
+use borrow.Author.Needs.{needs}
+use Rattle.replay.proofs.script.operands_at.Statement.{statement}
+use Rattle.replay.proofs.script.operands_at.Tie as tie
+
+operand-at-requires : tie.Need-operand-at-requires
+operand-at-requires c κs = search needs
+
+operand-at-requires-2 : tie.Need-operand-at-requires-2
+operand-at-requires-2 c κs = search needs
+
+operand-at-requires-3 : tie.Need-operand-at-requires-3
+operand-at-requires-3 c κs = search needs
+
+operand-at-requires-4 : tie.Need-operand-at-requires-4
+operand-at-requires-4 c κs = search needs
+
+returns : tie.Need-returns
+unfolding operandsAt
+returns c = rw (c .before .before .before .operand-at .ensures, c .before .before .operand-at2 .ensures, c .before .operand-at3 .ensures, c .operand-at4 .ensures)
+
+pub operands-at-spec : {M : Type 1} → statement M
+operands-at-spec =
+    tie.close
+    (tie.spec
+    operand-at-requires
+    operand-at-requires-2
+    operand-at-requires-3
+    operand-at-requires-4
+    returns)

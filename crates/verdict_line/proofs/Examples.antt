@@ -1,0 +1,42 @@
+-- What is printed for some bytes, by computation.
+use mathlib.Core.Path.{refl}
+use mathlib.Core.Logic.{Dec·and}
+use mathlib.Core.Option.{bind, orElse}
+use native.Mathlib.Decide.{ℕ-discrete, decLe, decLt}
+use Rattle.calculus.specs.Decide.{both₃, isTag?, startsAbove?, rising?, everywhere?, tagged?, accepted?}
+use Rattle.calculus.specs.Read.{takeTerm, takeTerms, takeBranches, readLam, readApp, readCon, readCase, readBranch, item, items, oneTerm, read}
+use Rattle.calculus.specs.Step.{firstStep}
+use Rattle.calculus.specs.Leftmost.{leftmost}
+use Rattle.calculus.specs.Equality.{tree, from-trees, equal?}
+use Rattle.calculus.specs.Workspace.{termAt}
+use Rattle.calculus.specs.Rounds.{same, roundsIn, roundsBy}
+use Rattle.rounds.specs.Press.{press}
+use Rattle.tables.specs.Header.{wrongLength, wrongHeader}
+use Rattle.tables.specs.Values.{valueFits, wrongValue}
+use Rattle.tables.specs.Links.{namings, wrongLink}
+use Rattle.tables.specs.Children.{childrenFit, wrongChildren}
+use Rattle.tables.specs.Meaning.{termOf, meantTerm, meantTerms, meantBranch, meantBranches, meant, meaning}
+use Rattle.tables.specs.Load.{loadStored}
+use Rattle.text.specs.Bytes.{wordsOf}
+use Rattle.text.specs.Decimal.{digits, decimal}
+use Rattle.verdict_line.specs.Request.{request}
+use Rattle.verdict_line.specs.Line.{printed}
+use Rattle.verdict_line.specs.Examples.{bytesOf, Printed-examples}
+
+pub printed-examples : Printed-examples
+unfolding printed request wordsOf bytesOf digits decimal loadStored wrongLength wrongHeader valueFits wrongValue namings wrongLink childrenFit wrongChildren termOf meantTerm meantTerms meantBranch meantBranches meant meaning press termAt read items item takeTerm takeTerms takeBranches readLam readApp readCon readCase readBranch oneTerm accepted? everywhere? tagged? both₃ isTag? startsAbove? rising? Dec·and decLe decLt bind orElse firstStep leftmost tree from-trees equal? ℕ-discrete same roundsIn roundsBy
+printed-examples =
+    record {
+      same = refl;
+      different = refl;
+      budget = refl;
+      full = refl;
+      refused-left = refl;
+      refused-workspace = refl;
+      refused-budget = refl;
+      no-bytes = refl;
+      byte-missing = refl;
+      byte-surplus = refl;
+      count-at-limit = refl;
+      count-above = refl;
+    }
