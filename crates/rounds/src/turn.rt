@@ -3,21 +3,14 @@ ghost use mathlib.Core.Path.{_≡_};
 ghost use mathlib.Core.Bool.{_||_};
 ghost use lib.Dec.{ltb};
 ghost use Prim.Native.Nat.{_-_};
-ghost use Rattle.rounds.specs.Turn.{contract, spend, turn, planned};
+ghost use Rattle.rounds.specs.Turn.{contract, spend, turn};
 ghost use Rattle.rounds.specs.Resume.{agreeBoth, agreeAfter, Agreeing};
 ghost use Rattle.rounds.specs.Types.{turnOf, planOf};
 ghost use Rattle.rounds.specs.Advance.{Advances, Advanced};
-ghost use Rattle.step.specs.Held.{held};
-ghost use Rattle.step.specs.Search.{Searched};
 use crate::Verdict;
 use crate::compare::least;
+use step::Plan;
 use words::extent;
-
-// What a side would do in a round: nothing where it is normal, or contract the redex at a position, to a term of `length` words.
-pub enum Plan {
-    Normal,
-    Contract { at: usize, length: usize },
-}
 
 // A side between two rounds: its term has `length` words, and no redex starts before `from`.
 pub struct Side {
@@ -64,29 +57,12 @@ pub fn judge(equal: bool, left: Plan, right: Plan, rest: u32, c: usize) -> Turn
     match left {
         Plan::Normal => match right {
             Plan::Normal => Turn::Ends(Verdict::Different),
-            Plan::Contract { at: _, length } => spend(rest, 1, c < length),
+            Plan::Contract(redex) => spend(rest, 1, c < redex.length),
         },
-        Plan::Contract { at: _, length } => match right {
-            Plan::Normal => spend(rest, 1, c < length),
-            Plan::Contract {
-                at: _,
-                length: other,
-            } => spend(rest, 2, either_long(c, length, other)),
+        Plan::Contract(redex) => match right {
+            Plan::Normal => spend(rest, 1, c < redex.length),
+            Plan::Contract(other) => spend(rest, 2, either_long(c, redex.length, other.length)),
         },
-    }
-}
-
-// What a side would do in a round.
-pub fn plan_for(ws: &[u32], side: Side) -> Plan
-    requires { ⌜ Searched (now ws) (side .length) (side .from) ⌝ }
-    ensures { λ r. ⌜ planOf r ≡ planned (held (now (ws .entry)) (side .length)) ⌝ }
-{
-    match step::find(ws, side.length, side.from) {
-        step::Found::At(at) => Plan::Contract {
-            at,
-            length: step::next_length(ws, side.length, at),
-        },
-        step::Found::Nothing => Plan::Normal,
     }
 }
 
@@ -100,19 +76,25 @@ fn before(at: usize) -> usize
     at - 1
 }
 
-// A side's part in a round that goes on, through the scratch.
-pub fn advance(ws: &mut [u32], side: Side, todo: Plan, scratch: &mut [u32]) -> Side
-    requires { ⌜ Advances (now ws) (side .length) (planOf todo) (now scratch) ⌝ }
-    ensures { λ r. ⌜ Advanced (now (ws .entry)) (side .length) (now (scratch .entry)) (r .length) (r .from) (now (ws .exit)) (now (scratch .exit)) ⌝ }
+// A side's part in a round that goes on, through the scratch; the room keeps the scopes of the walk.
+pub fn advance(
+    ws: &mut [u32],
+    side: Side,
+    todo: Plan,
+    scratch: &mut [u32],
+    room: &mut [u32],
+) -> Side
+    requires { ⌜ Advances (now ws) (side .length) todo (now scratch) (now room) ⌝ }
+    ensures { λ r. ⌜ Advanced (now (ws .entry)) (side .length) todo (now (scratch .entry)) (r .length) (r .from) (now (ws .exit)) (now (scratch .exit)) ⌝ }
 {
     match todo {
         Plan::Normal => Side {
             length: side.length,
             from: side.length,
         },
-        Plan::Contract { at, length: _ } => Side {
-            length: step::contract(ws, side.length, at, scratch),
-            from: before(at),
+        Plan::Contract(redex) => Side {
+            length: step::contract(ws, side.length, redex, scratch, room),
+            from: before(redex.at),
         },
     }
 }
@@ -125,14 +107,11 @@ pub fn agreed(ws: &[u32], n: usize, agree: usize, left: Plan, right: Plan) -> us
     match left {
         Plan::Normal => match right {
             Plan::Normal => agree,
-            Plan::Contract { at, length: _ } => least(agree, at),
+            Plan::Contract(redex) => least(agree, redex.at),
         },
-        Plan::Contract { at, length } => match right {
-            Plan::Normal => least(agree, at),
-            Plan::Contract {
-                at: other,
-                length: _,
-            } => agreed_both(ws, n, agree, at, length, other),
+        Plan::Contract(redex) => match right {
+            Plan::Normal => least(agree, redex.at),
+            Plan::Contract(other) => agreed_both(ws, n, agree, redex.at, redex.length, other.at),
         },
     }
 }

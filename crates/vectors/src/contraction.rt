@@ -5,7 +5,7 @@
 //     step C words normal        there is no redex
 //
 // The slice has C words, and so has the scratch: all junk after the given ones. After a contraction the slice has the next term's words over the old
-// ones, and the scratch has those from the redex on: every word is compared.
+// ones, and the scratch has those that were put together from the redex on: every word is compared.
 use crate::lent::front;
 use crate::lent::holds;
 use crate::pair::JUNK;
@@ -14,18 +14,18 @@ use crate::text::NOWHERE;
 use crate::text::after;
 use crate::text::read_list;
 use crate::text::read_number;
-use step::Found;
+use step::Plan;
 use step::contract;
 use step::find;
-use step::next_length;
 use words::Word;
 use words::is_term;
 
-// A contraction: where, the length that was foretold, and the one that was returned.
+// A contraction: where, the length that was foretold, the one that was returned, and how many words were put together in the scratch.
 struct Made {
     at: usize,
     foretold: usize,
     returned: usize,
+    put: usize,
 }
 
 impl Made {
@@ -34,6 +34,7 @@ impl Made {
         at: NOWHERE,
         foretold: 0,
         returned: 0,
+        put: 0,
     };
 }
 
@@ -52,14 +53,16 @@ fn contract_leftmost(ws: &mut [u32], n: usize, scratch: &mut [u32]) -> Made {
     if !is_term(ws, n) {
         return Made::NOWHERE;
     }
-    let Found::At(at) = find(ws, n, 0) else {
+    let mut room = [JUNK; ROOM];
+    let Plan::Contract(redex) = find(ws, n, 0, &mut room) else {
         return Made {
             at: n,
             foretold: n,
             returned: n,
+            put: 0,
         };
     };
-    let foretold = next_length(ws, n, at);
+    let foretold = redex.length;
     if ws.len() < foretold {
         return Made::NOWHERE;
     }
@@ -67,21 +70,19 @@ fn contract_leftmost(ws: &mut [u32], n: usize, scratch: &mut [u32]) -> Made {
         return Made::NOWHERE;
     }
     Made {
-        at,
+        at: redex.at,
         foretold,
-        returned: contract(ws, n, at, scratch),
+        returned: contract(ws, n, redex, scratch, &mut room),
+        put: foretold - redex.at - (n - redex.end),
     }
 }
 
-// Whether a scratch has the words of the next term from the redex on, and then junk.
-fn put_back(scratch: &[u32], next: &[u32], count: usize, at: usize) -> bool {
-    if count < at {
-        return false;
-    }
+// Whether a scratch has so many words of the next term from the redex on, and then junk.
+fn put_together(scratch: &[u32], next: &[u32], count: usize, at: usize) -> bool {
     if next.len() < at {
         return false;
     }
-    holds(scratch, &next[at..], count - at, JUNK)
+    holds(scratch, &next[at..], count, JUNK)
 }
 
 // Where the contraction of a term of `length` words should be, with the next term's words put over the old ones: at its end where it is normal.
@@ -118,7 +119,7 @@ fn check_step(
         & (made.foretold == next.count)
         & (made.returned == next.count)
         & holds(ws, expected, expected.len(), JUNK)
-        & put_back(scratch, expected, next.count, next.place)
+        & put_together(scratch, expected, made.put, next.place)
         & (next.end == line.len())
 }
 

@@ -7,21 +7,19 @@ use native.Mathlib.Omega.{arith}
 use lib.ListN.{length}
 use borrow.Author.Needs.{needs}
 use borrow.Author.Tests.{not-false}
-use Rattle.calculus.specs.Words.{size, workspaceMost}
+use Rattle.calculus.specs.Words.{workspaceMost}
 use Rattle.words.specs.IsTerm.{isTerm}
 use Rattle.words.proofs.IsTerm.{isTerm-some}
 use Rattle.step.specs.Held.{Holds}
-use Rattle.step.specs.Next.{next, HoldsRedex, HasRoom}
-use Rattle.step.proofs.HeldLaws.{holds-term}
-use Rattle.rounds.proofs.RunCode.{searched, plan-redex}
+use Rattle.step.specs.Plan.{HasRoom}
+use Rattle.step.proofs.HeldLaws.{held-term, holds-term, termAt-start}
+use Rattle.step.proofs.ContractLaws.{lengths}
+use Rattle.rounds.proofs.RunCode.{searched}
 use Rattle.vectors.proofs.contraction.contract_leftmost.Statement.{statement}
 use Rattle.vectors.proofs.contraction.contract_leftmost.Tie as tie
 
 holding : (ws : List ℕ) (n : ℕ) → isTerm ws n ≡ true → length ws ≤ workspaceMost → Holds ws n
 holding ws n q l = let t = isTerm-some ws n q in holds-term ws n (t .0) (t .1) l
-
-room : (ws : List ℕ) (n at r : ℕ) (scratch : List ℕ) → HoldsRedex ws n at → r ≡ size (next ws n at) → r ≤ length ws → r ≤ length scratch → HasRoom ws n at scratch
-room ws n at r scratch h e f g = record { redex = h; fits = omega (arith, e, f); scratch-fits = omega (arith, e, g) }
 
 returns : tie.Need-returns
 returns c = search needs
@@ -35,11 +33,16 @@ same-length c = search needs
 returns-2 : tie.Need-returns-2
 returns-2 c = search needs
 
-find-requires : tie.Need-find-requires
-find-requires c κs = searched (holding _ _ (sym (c .before .before .is-term .ensures) ∙ not-false _ (c .before .if2 .left)) (c .before .before .before .before .if1 .left))
+slice-aggregate-find : tie.Need-slice-aggregate-find
+slice-aggregate-find c = search needs
 
-enum-known-at : tie.Need-enum-known-at
-enum-known-at c = search needs
+find-requires : tie.Need-find-requires
+find-requires c κs =
+    let h = holding (c .before .before .before .before .before .before .before .before .args .ws .now) (c .before .before .before .before .before .before .before .before .args .n) (sym (c .before .before .before .is-term .ensures) ∙ not-false _ (c .before .before .if2 .left)) (c .before .before .before .before .before .if1 .left) in
+    (searched h, omega (arith, termAt-start _ _ _ (h .term) .within, h .limit))
+
+enum-known-redex : tie.Need-enum-known-redex
+enum-known-redex c = search needs
 
 enum-told : tie.Need-enum-told
 enum-told c = search needs
@@ -49,11 +52,6 @@ same-length-2 c = search needs
 
 returns-3 : tie.Need-returns-3
 returns-3 c = search needs
-
-next-length-requires : tie.Need-next-length-requires
-next-length-requires c κs =
-    let holds = holding _ _ (sym (c .before .before .before .before .before .before .before .is-term .ensures) ∙ not-false _ (c .before .before .before .before .before .before .if2 .left)) (c .before .before .before .before .before .before .before .before .before .if1 .left) in
-    plan-redex _ _ holds (sym (c .before .before .before .before .find .ensures) ∙ c .before .before .at .given .1)
 
 same-length-3 : tie.Need-same-length-3
 same-length-3 c = search needs
@@ -67,11 +65,31 @@ same-length-4 c = search needs
 returns-5 : tie.Need-returns-5
 returns-5 c = search needs
 
+slice-aggregate-contract : tie.Need-slice-aggregate-contract
+slice-aggregate-contract c = search needs
+
+has-room : (c : tie.After-room3)
+    → HasRoom (c .before .before .before .before .before .before .before .before .before .before .before .before .before .before .before .before .before .before .args .ws .now) (c .before .before .before .before .before .before .before .before .before .before .before .before .before .before .before .before .before .before .args .n) (c .before .before .before .before .before .before .redex .given .0 .0) (c .before .before .before .before .before .before .before .before .before .before .before .before .before .before .before .before .before .before .args .scratch .now) (c .before .before .before .before .before .before .before .before .before .find .last .1 .1 .1 .0)
+has-room c =
+    let found = rw (c .before .before .before .before .before .before .redex .given .1) at (c .before .before .before .before .before .before .before .before .before .find .ensures) in
+    record {
+      plan = found .1;
+      fits = c .before .before .before .before .if3 .left;
+      scratch-fits = c .before .before .before .if4 .left;
+      room-fits = omega (arith, c .before .before .before .before .before .before .before .before .before .find .kept .1 .1 .1 .0);
+    }
+
 contract-requires : tie.Need-contract-requires
-contract-requires c κs =
-    let holds = holding _ _ (sym (c .before .before .before .before .before .before .before .before .before .before .before .before .is-term .ensures) ∙ not-false _ (c .before .before .before .before .before .before .before .before .before .before .before .if2 .left)) (c .before .before .before .before .before .before .before .before .before .before .before .before .before .before .if1 .left) in
-    let redex = plan-redex _ _ holds (sym (c .before .before .before .before .before .before .before .before .before .find .ensures) ∙ c .before .before .before .before .before .before .before .at .given .1) in
-    room _ _ _ _ _ redex (c .before .before .before .before .next-length .ensures) (c .before .before .before .if3 .left) (c .before .before .if4 .left)
+contract-requires c κs = has-room c
+
+sub-t23 : tie.Need-sub-t23
+sub-t23 c = omega (arith, lengths (has-room (c .before .before .before .before .before .before .before)), has-room (c .before .before .before .before .before .before .before) .plan .length-is)
+
+sub-t24 : tie.Need-sub-t24
+sub-t24 c = has-room (c .before .before .before .before .before .before .before .before) .plan .ends
+
+sub-t25 : tie.Need-sub-t25
+sub-t25 c = omega (arith, lengths (has-room (c .before .before .before .before .before .before .before .before)), has-room (c .before .before .before .before .before .before .before .before) .plan .length-is)
 
 same-length-5 : tie.Need-same-length-5
 same-length-5 c = search needs
@@ -90,17 +108,21 @@ contract-leftmost-spec =
     is-term-requires
     same-length
     returns-2
+    slice-aggregate-find
     find-requires
-    enum-known-at
+    enum-known-redex
     enum-told
     same-length-2
     returns-3
-    next-length-requires
     same-length-3
     returns-4
     same-length-4
     returns-5
+    slice-aggregate-contract
     contract-requires
+    sub-t23
+    sub-t24
+    sub-t25
     same-length-5
     same-length-6
     returns-6)

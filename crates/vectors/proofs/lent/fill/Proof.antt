@@ -1,12 +1,18 @@
 -- `fill` meets its contract: the words before the loop's position are filled.
-use Prim.Native.Nat.{_≤_, _-_}
-use mathlib.Core.Path.{_≡_, refl, sym, _∙_}
+use Prim.Native.Nat.{ℕ, _+_, _-_, _≤_, _<_}
+use mathlib.Core.Path.{_≡_, refl, sym, _∙_, ap}
+use mathlib.Core.List.{List, [], _∷_, _++_}
+use native.Mathlib.Numerals.{add-one}
 use native.Mathlib.Omega.{arith}
-use lib.ListN.{length, take, replicate, length-set}
-use lib.Seq.{take-all}
-use Rattle.substitution.proofs.FillLaws.{filled-more}
+use lib.ListN.{length, take, set, replicate, length-set, replicate-append-replicate}
+use lib.Seq.{take-all, take-suc-set}
 use Rattle.vectors.proofs.lent.fill.Statement.{statement}
 use Rattle.vectors.proofs.lent.fill.Tie as tie
+
+filled-more : (places : List ℕ) (i number : ℕ) → i < length places → take i places ≡ replicate i number
+    → take (i + 1) (set places i number) ≡ replicate (i + 1) number
+filled-more places i number h q =
+    rw (add-one i) (take-suc-set places i number h) ∙ ap (λ us. us ++ number ∷ []) q ∙ replicate-append-replicate i 1 number
 
 abbrev Inv-loop : tie.InvT-loop
 Inv-loop words₀ word i₀ words i = (length words ≡ length words₀) × (i ≤ length words) × (take i words ≡ replicate i word)
