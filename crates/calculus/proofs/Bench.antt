@@ -8,12 +8,12 @@ use Rattle.calculus.specs.Read.{takeTerm, takeTerms, takeBranches, readL
 use Rattle.calculus.specs.Step.{firstStep}
 use Rattle.calculus.specs.Leftmost.{leftmost}
 use Rattle.calculus.specs.Equality.{tree, from-trees, equal?}
-use Rattle.calculus.specs.Rounds.{round, rounds}
+use Rattle.calculus.specs.Rounds.{same, roundsIn, roundsBy}
 use Rattle.calculus.specs.Bench.{Starred, contracted, judged}
 use Rattle.calculus.specs.Boundaries.{Boundaries}
 
 pub starred : Starred
-unfolding contracted judged read items item takeTerm takeTerms takeBranches readLam readApp readCon readCase readBranch oneTerm accepted? everywhere? tagged? both₃ isTag? startsAbove? rising? Dec·and decLe decLt bind orElse firstStep leftmost tree from-trees equal? ℕ-discrete round rounds
+unfolding contracted judged read items item takeTerm takeTerms takeBranches readLam readApp readCon readCase readBranch oneTerm accepted? everywhere? tagged? both₃ isTag? startsAbove? rising? Dec·and decLe decLt bind orElse firstStep leftmost tree from-trees equal? ℕ-discrete same roundsIn roundsBy
 starred =
     record {
       one-contraction = refl;
@@ -33,7 +33,7 @@ starred =
     }
 
 pub boundaries : Boundaries
-unfolding contracted judged read items item takeTerm takeTerms takeBranches readLam readApp readCon readCase readBranch oneTerm accepted? everywhere? tagged? both₃ isTag? startsAbove? rising? Dec·and decLe decLt bind orElse firstStep leftmost tree from-trees equal? ℕ-discrete round rounds
+unfolding contracted judged read items item takeTerm takeTerms takeBranches readLam readApp readCon readCase readBranch oneTerm accepted? everywhere? tagged? both₃ isTag? startsAbove? rising? Dec·and decLe decLt bind orElse firstStep leftmost tree from-trees equal? ℕ-discrete same roundsIn roundsBy
 boundaries =
     record {
       both-move-within-budget = refl;

@@ -25,6 +25,8 @@ pub mod Parallel
 pub mod ChurchRosser
 pub mod Instances
 pub mod ResumeLaws
+pub mod RoundsLaws
+pub mod UnlimitedLaws
 pub mod Focus
 pub mod SizeLaws
 pub mod WorkspaceLaws

@@ -20,6 +20,7 @@ pub mod Leftmost
 pub mod Position
 pub mod Equality
 pub mod Rounds
+pub mod Unlimited
 pub mod Bench
 pub mod Boundaries
 pub mod Theorems

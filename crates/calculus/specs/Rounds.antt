@@ -1,10 +1,12 @@
 -- The rounds of a press ("A press"), on terms, a workspace length C and a budget that may be any natural number. A press is a bounded run; a
--- round makes one leftmost contraction on each side that is not normal.
-use Prim.Native.Nat.{ℕ, zero, suc, _+_}
-use mathlib.Core.Bool.{Bool, cond, _||_}
-use mathlib.Core.Logic.{ite}
-use mathlib.Core.Option.{Option, some, none}
-use lib.Dec.{ltb}
+-- round makes one leftmost contraction on each side that is not normal. The five points of a round stand once, in `round`: over what each side
+-- would do, so that the code's round is held to the same definition.
+use Prim.Native.Nat.{ℕ, zero, suc, _+_, _-_, max}
+use mathlib.Core.Path.{_≡_}
+use mathlib.Core.Bool.{cond}
+use mathlib.Core.Logic.{_⊎_, ite}
+use mathlib.Core.Option.{Option, some, none, Option·map, Option·getD}
+use lib.Dec.{ltb, eqb}
 use Rattle.calculus.specs.Term.{Term}
 use Rattle.calculus.specs.Words.{size}
 use Rattle.calculus.specs.Leftmost.{leftmost}
@@ -12,6 +14,10 @@ use Rattle.calculus.specs.Equality.{equal?}
 
 pub data Verdict : Type 0 where
   Same Different Budget Full : Verdict
+
+-- A verdict that stays.
+abbrev pub Decided : Verdict → Type 0
+Decided v = (v ≡ Same) ⊎ (v ≡ Different)
 
 -- What the rounds end in: the verdict, the contractions made, and the two current terms.
 pub record Outcome : Type 0 where
@@ -34,26 +40,48 @@ shows o = record { verdict = o .verdict; spent = o .spent; left = size (o .left)
 abbrev pub withSpent : ℕ → Shown → Shown
 withSpent n a = record { verdict = a .verdict; spent = n; left = a .left; right = a .right }
 
--- A round ends in a verdict, or one or two contractions give the next two terms.
+-- What a side would do in a round is told by the length of its next term, none where it is normal: how many contractions it makes, and the length
+-- of the longest next term.
+abbrev pub contractions : Option ℕ → ℕ
+contractions none = 0
+contractions (some n) = 1
+
+abbrev pub longest : Option ℕ → Option ℕ → ℕ
+longest l r = max (Option·getD l 0) (Option·getD r 0)
+
+-- A round ends in a verdict, or makes so many contractions.
 pub data Round : Type 0 where
   ends : Verdict → Round
-  one two : Term → Term → Round
+  goes : ℕ → Round
 
--- Points 3 to 5 for p sides that are not normal: Budget where p is above what is left of the budget, Full where a next term is too long, or the
--- round that makes the contractions.
-abbrev pub contract : (rest p : ℕ) → (long : Bool) → Round → Round
-contract rest p long next = cond (ltb rest p) (ends Budget) (cond long (ends Full) next)
+-- One round in workspaces of C words with `rest` left of the budget: points 1 to 5 in this order. `atOnce` is the verdict that the two terms give
+-- before either is contracted: Same where they are equal (point 1).
+abbrev pub round : (atOnce : Option Verdict) (C rest : ℕ) (left right : Option ℕ) → Round
+round (some v) C rest l r = ends v
+round none C rest l r =
+    cond (eqb (contractions l + contractions r) 0) (ends Different)
+    (cond (ltb rest (contractions l + contractions r)) (ends Budget)
+    (cond (ltb C (longest l r)) (ends Full)
+    (goes (contractions l + contractions r))))
 
--- Points 2 to 5, by the next term of each side, none where the side is normal.
-abbrev pub unequal : (C rest : ℕ) → Term → Term → Option Term → Option Term → Round
-unequal C rest t u none none = ends Different
-unequal C rest t u (some t′) none = contract rest 1 (ltb C (size t′)) (one t′ u)
-unequal C rest t u none (some u′) = contract rest 1 (ltb C (size u′)) (one t u′)
-unequal C rest t u (some t′) (some u′) = contract rest 2 (ltb C (size t′) || ltb C (size u′)) (two t′ u′)
+-- A side's next term, its leftmost contractum, or the term itself where it is normal; and its length, none where it is normal.
+abbrev pub next : Term → Term
+next t = Option·getD (leftmost t) t
 
--- One round with `rest` left of the budget: points 1 to 5 in this order.
-unfoldable pub round : (C rest : ℕ) → Term → Term → Round
-round C rest t u = ite (equal? t u) (ends Same) (unequal C rest t u (leftmost t) (leftmost u))
+abbrev pub nextLength : Term → Option ℕ
+nextLength t = Option·map size (leftmost t)
+
+-- What two terms are asked before either is contracted.
+abbrev pub Question : Type 0
+Question = Term → Term → Option Verdict
+
+-- Point 1: equal terms, Same.
+unfoldable pub same : Question
+same t u = ite (equal? t u) (some Same) none
+
+-- A round on two terms, by what is asked first.
+abbrev pub roundBy : Question → (C rest : ℕ) → Term → Term → Round
+roundBy early C rest t u = round (early t u) C rest (nextLength t) (nextLength u)
 
 -- No contraction was made.
 abbrev pub ended : Verdict → Term → Term → Outcome
@@ -63,12 +91,16 @@ ended v t u = record { verdict = v; spent = 0; left = t; right = u }
 abbrev pub after : ℕ → Outcome → Outcome
 after p o = record { verdict = o .verdict; spent = p + o .spent; left = o .left; right = o .right }
 
--- The rounds, by recursion on what is left of the budget. A round makes no more contractions than are left, so of the three cases for 0, and of
--- those for 1, the ones that say Budget here never arise.
-unfoldable pub rounds : (C budget : ℕ) → Term → Term → Outcome
-rounds C zero t u = elim (round C zero t u) [ ends v ↦ ended v t u | one t′ u′ ↦ ended Budget t u | two t′ u′ ↦ ended Budget t u ]
-rounds C (suc zero) t u =
-    elim (round C (suc zero) t u) [ ends v ↦ ended v t u | one t′ u′ ↦ after 1 (rounds C zero t′ u′) | two t′ u′ ↦ ended Budget t u ]
-rounds C (suc (suc b)) t u =
-    elim (round C (suc (suc b)) t u)
-    [ ends v ↦ ended v t u | one t′ u′ ↦ after 1 (rounds C (suc b) t′ u′) | two t′ u′ ↦ after 2 (rounds C b t′ u′) ]
+-- The rounds with `rest` left of the budget, at most n that go on. Each makes a contraction at least, so that with n for the whole budget the case
+-- that says Budget here never arises.
+unfoldable pub roundsIn : Question → (n C rest : ℕ) → Term → Term → Outcome
+roundsIn early zero C rest t u = elim (roundBy early C rest t u) [ ends v ↦ ended v t u | goes p ↦ ended Budget t u ]
+roundsIn early (suc n) C rest t u =
+    elim (roundBy early C rest t u) [ ends v ↦ ended v t u | goes p ↦ after p (roundsIn early n C (rest - p) (next t) (next u)) ]
+
+unfoldable pub roundsBy : Question → (C budget : ℕ) → Term → Term → Outcome
+roundsBy early C budget t u = roundsIn early budget C budget t u
+
+-- The rounds of a press.
+abbrev pub rounds : (C budget : ℕ) → Term → Term → Outcome
+rounds = roundsBy same

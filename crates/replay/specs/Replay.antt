@@ -72,7 +72,7 @@ storeName = 115 ∷ 116 ∷ 111 ∷ 114 ∷ 101 ∷ []
 
 -- What loading or writing returned, or the refusal's number; then words.
 abbrev pub tableLine : (name : List ℕ) → tables.Answer → (words : List ℕ) → List ℕ
-tableLine name (tables.refused n) ws = line refusedName (n ∷ ws)
+tableLine name (tables.refused why) ws = line refusedName (number why ∷ ws)
 tableLine name (tables.returned n) ws = line name (n ∷ ws)
 
 abbrev pub writtenLine : written.Written → List ℕ

@@ -162,7 +162,12 @@ fn put_table_line(name: &[u8], answer: tables::Answer, words: &[u32], out: &mut 
     ensures { λ r. ⌜ Printed (now (out .entry)) (tableLine (now (name .entry)) (Types·answerOf answer) (now (words .entry))) (now (out .exit)) r ⌝ }
 {
     match answer {
-        tables::Answer::Refused(number) => put_numbered(b"refused", number as usize, words, out),
+        tables::Answer::Refused(refusal) => put_numbered(
+            b"refused",
+            refusal.number() as usize,
+            words,
+            out,
+        ),
         tables::Answer::Returned(number) => put_numbered(name, number, words, out),
     }
 }

@@ -1,13 +1,13 @@
 -- How many first words of both sides agree after a round. A contraction keeps the words before its position; and two terms that contract at the
 -- same position, within the words that agree, have the same redex there and so the same contractum.
 use Prim.Native.Nat.{ℕ, _+_, _-_, _≤_, _<_, min}
-use mathlib.Core.Path.{_≡_, refl, sym, _∙_, ap, subst}
+use mathlib.Core.Path.{_≡_, refl, sym, _∙_, ap}
 use mathlib.Core.Bool.{Bool, true, false, cond, _&&_}
-use mathlib.Core.List.{List, [], _∷_, _++_, append-assoc, append-nil}
+use mathlib.Core.List.{List, _++_, append-assoc}
 use mathlib.Core.Option.{some, Option·some-injective}
 use native.Mathlib.Omega.{arith}
 use lib.Dec.{eqb, leb}
-use lib.ListN.{length, take, drop, length-append, length-take, length-drop, take-append-drop}
+use lib.ListN.{length, take, drop, length-append, take-append-drop}
 use lib.Seq.{take-take, take-at, drop-at, take-append-le, length-take-le}
 use borrow.Author.Tests.{eqb-true, leb-true}
 use Rattle.calculus.specs.Term.{Term}
@@ -24,7 +24,8 @@ use Rattle.calculus.proofs.Focus.{Focus, focus}
 use Rattle.step.specs.Held.{held}
 use Rattle.step.proofs.HeldLaws.{Start, termAt-start}
 use Rattle.rounds.specs.Compare.{Agrees}
-use Rattle.rounds.specs.Turn.{next, Plan, normal, contract}
+use Rattle.calculus.specs.Rounds.{next}
+use Rattle.rounds.specs.Turn.{Plan, contract}
 use Rattle.rounds.specs.Resume.{agreeBoth, agreeAfter, Agreeing}
 use Rattle.rounds.proofs.TurnLaws.{Planned, is-normal, contracts, planned-tells, next-is, next-normal}
 

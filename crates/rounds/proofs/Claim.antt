@@ -1,8 +1,8 @@
 -- Demand 3: the claim about every list of presses.
-use Rattle.rounds.specs.Runs.{history}
+use Rattle.rounds.specs.Presses.{history}
 use Rattle.rounds.specs.Claim.{Every-list-of-presses}
 use Rattle.rounds.proofs.PressLaws.{stands-first}
-use Rattle.rounds.proofs.RunLaws.{reached-by, replies-answered, each-leaves, all-refused, in-one-go}
+use Rattle.rounds.proofs.PressesLaws.{reached-by, replies-answered, each-leaves, all-refused, in-one-go}
 use Rattle.rounds.proofs.Settled.{stopped-by, settled-stays, settled-on-first-terms, settled-agree, settled-same, settled-different}
 
 pub every-list-of-presses : Every-list-of-presses

@@ -1,5 +1,4 @@
 pub mod CompareLaws
-pub mod Walk
 pub mod Verdicts
 pub mod Workspaces
 pub mod PressLaws
@@ -8,7 +7,7 @@ pub mod AgreeLaws
 pub mod RunCode
 pub mod RunLoop
 pub mod PressCode
-pub mod RunLaws
+pub mod PressesLaws
 pub mod Settled
 pub mod Claim
 pub mod TwoPresses

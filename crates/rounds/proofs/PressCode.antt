@@ -6,10 +6,10 @@ use mathlib.Core.List.{List, [], _∷_, _++_}
 use mathlib.Core.Option.{Option, some, none, Option·getD, Option·elim, Option·none-ne-some}
 use native.Mathlib.Nat.{le-trans}
 use native.Mathlib.Omega.{arith}
-use lib.Dec.{leb, eqb}
+use lib.Dec.{leb}
 use lib.ListN.{length, take, replicate, length-append}
 use lib.Seq.{take-append-seam}
-use borrow.Author.Tests.{le-leb, leb-true, eqb-true}
+use borrow.Author.Tests.{le-leb, leb-true}
 use Rattle.calculus.specs.Term.{Term, var}
 use Rattle.calculus.specs.Words.{words, size, workspaceMost}
 use Rattle.calculus.specs.Read.{read}
@@ -18,7 +18,7 @@ use Rattle.calculus.specs.Refusal.{WrongWorkspace, OverBudget, NoTerm}
 use Rattle.calculus.specs.Rounds.{Outcome, Shown, rounds}
 use Rattle.calculus.proofs.WorkspaceLaws.{sized-most, sized-equal, first-equal, others-equal}
 use Rattle.step.specs.Held.{held, Holds}
-use Rattle.rounds.specs.Run.{Runs, Ran}
+use Rattle.rounds.specs.Run.{Ready, Ran}
 use Rattle.words.specs.IsTerm.{isTerm}
 use Rattle.rounds.specs.Session.{Session}
 use Rattle.rounds.specs.Press.{shown, Memory, Call, Pressed, budgetLimit, totalLimit, affordable, refuse, conclude, pressTerms, press}
@@ -121,7 +121,7 @@ affords-total budget total e =
 
 -- What the press on two terms asks, from the four tests.
 pub runs : (left right scratch : List ℕ) (l r : ℕ) → sized (length left ∷ length right ∷ length scratch ∷ []) ≡ true → isTerm left l ≡ true
-    → isTerm right r ≡ true → Runs left right scratch l r
+    → isTerm right r ≡ true → Ready left right scratch l r
 runs left right scratch l r fits is-left is-right =
     let limit = sized-most (length left) (length right ∷ length scratch ∷ []) fits in
     let right-limit : length right ≤ workspaceMost = rw (sized-right (length left) (length right) (length scratch) fits) limit in

@@ -13,22 +13,22 @@ use Rattle.calculus.specs.Term.{Term}
 use Rattle.calculus.specs.Words.{words, size}
 use Rattle.calculus.specs.Workspace.{sized, padded}
 use Rattle.calculus.specs.Refusal.{Refusal, WrongWorkspace, OverBudget, NoTerm}
-use Rattle.calculus.specs.Rounds.{Outcome, Shown, rounds}
+use Rattle.calculus.specs.Rounds.{Outcome, Shown, same, rounds}
 use Rattle.rounds.specs.Press.{refused, shown, Memory, Call, Pressed, budgetLimit, totalLimit, affordable, refuse, conclude, pressTerms, press}
-use Rattle.rounds.specs.Claim.{Holds, Reply, refuses, spends, replyOf, Standing, replyTo, advance, LeavesBy}
-use Rattle.rounds.proofs.Walk.{Walk, walked, walk-fits}
+use Rattle.rounds.specs.Claim.{Contains, Reply, refuses, spends, replyOf, Progress, replyTo, advance, LeavesBy}
+use Rattle.calculus.proofs.RoundsLaws.{Walk, walked, walk-fits}
 use Rattle.rounds.proofs.Verdicts.{walk-accepted}
 use Rattle.rounds.proofs.PressCode.{sized-scratch}
 use Rattle.rounds.proofs.Workspaces.{termAt-holds, holds-padded, holds-fits}
 
 -- The memory is where the list of calls stands.
-pub record Stands (C : ℕ) (s : Standing) (m : Memory) : Type 0 where
+pub record Stands (C : ℕ) (s : Progress) (m : Memory) : Type 0 where
   pub total-is : m .session .total ≡ s .total
-  pub left-holds : Holds C (s .left) (m .left)
-  pub right-holds : Holds C (s .right) (m .right)
+  pub left-holds : Contains C (s .left) (m .left)
+  pub right-holds : Contains C (s .right) (m .right)
 
 -- A press refused as the reply says, or made with the rounds that spend what the reply says.
-pub data Answered (C : ℕ) (s : Standing) (m : Memory) (c : Call) : Reply → Pressed → Type 0 where
+pub data Answered (C : ℕ) (s : Progress) (m : Memory) (c : Call) : Reply → Pressed → Type 0 where
   turned-down : (why : Refusal) → Answered C s m c (refuses why) (refuse m c why)
   made : length (c .scratch) ≡ C
       → Answered C s m c (spends (rounds C (c .budget) (s .left) (s .right) .spent)) (conclude C (m .session) (rounds C (c .budget) (s .left) (s .right)))
@@ -52,7 +52,7 @@ affordable-not : (budget total : ℕ) → affordable budget total ≡ not (overs
 affordable-not budget total =
     rw (leb-not-ltb budget budgetLimit, leb-not-ltb (total + budget) totalLimit) (none-of-two (ltb budgetLimit budget) (ltb totalLimit (total + budget)))
 
-answered-tests : (s : Standing) (m : Memory) (c : Call) (fits over l r : Bool) → (fits ≡ true → length (c .scratch) ≡ length (m .left))
+answered-tests : (s : Progress) (m : Memory) (c : Call) (fits over l r : Bool) → (fits ≡ true → length (c .scratch) ≡ length (m .left))
     → Answered (length (m .left)) s m c
     (cond (not fits) (refuses WrongWorkspace) (cond over (refuses OverBudget) (cond (not l || not r) (refuses NoTerm) (spends (rounds (length (m .left)) (c .budget) (s .left) (s .right) .spent)))))
     (cond fits (cond (not over) (pressTerms m c (cond l (some (s .left)) none) (cond r (some (s .right)) none)) (refuse m c OverBudget)) (refuse m c WrongWorkspace))
@@ -62,7 +62,7 @@ answered-tests s m c true false false r h = turned-down NoTerm
 answered-tests s m c true false true false h = turned-down NoTerm
 answered-tests s m c true false true true h = made (h refl)
 
-answered-here : (s : Standing) (m : Memory) (c : Call) → Stands (length (m .left)) s m
+answered-here : (s : Progress) (m : Memory) (c : Call) → Stands (length (m .left)) s m
     → Answered (length (m .left)) s m c (replyTo (length (m .left)) s c) (press m c)
 unfolding press
 answered-here s m c h =
@@ -73,7 +73,7 @@ answered-here s m c h =
     (answered-tests s m c (sized (C ∷ C ∷ length (c .scratch) ∷ [])) (overspent (c .budget) (s .total))
     (eqb (c .leftLength) (size (s .left))) (eqb (c .rightLength) (size (s .right))) (sized-scratch C C (length (c .scratch))))
 
-pub answered : {C : ℕ} {s : Standing} {m : Memory} → Stands C s m → (c : Call) → Answered C s m c (replyTo C s c) (press m c)
+pub answered : {C : ℕ} {s : Progress} {m : Memory} → Stands C s m → (c : Call) → Answered C s m c (replyTo C s c) (press m c)
 answered {C} {s} {m} h c =
     subst (λ k. Stands k s m → Answered k s m c (replyTo k s c) (press m c)) (h .left-holds .length-is) (answered-here s m c) h
 
@@ -87,30 +87,30 @@ concluded C total o =
     }
 
 -- Workspaces that hold two terms hold, with zeros after them, those that a walk leads to.
-pub holds-walk : {C s : ℕ} {t u t′ u′ : Term} {ws vs : List ℕ} → Holds C t ws → Holds C u vs → Walk C s t u t′ u′
-    → Holds C t′ (padded C (words t′)) × Holds C u′ (padded C (words u′))
+pub holds-walk : {C s : ℕ} {t u t′ u′ : Term} {ws vs : List ℕ} → Contains C t ws → Contains C u vs → Walk same C s t u t′ u′
+    → Contains C t′ (padded C (words t′)) × Contains C u′ (padded C (words u′))
 holds-walk h k w =
-    let (f, g) = walk-fits w in
+    let (f, g) = walk-fits same w in
     let (a, b) = walk-accepted w in
     (holds-padded (a (h .accepted)) (f (holds-fits h)), holds-padded (b (k .accepted)) (g (holds-fits k)))
 
-pub stands-first : {C : ℕ} {t u : Term} (m : Memory) → Holds C t (m .left) → Holds C u (m .right)
+pub stands-first : {C : ℕ} {t u : Term} (m : Memory) → Contains C t (m .left) → Contains C u (m .right)
     → Stands C (record { total = m .session .total; left = t; right = u }) m
 stands-first m h k = record { total-is = refl; left-holds = h; right-holds = k }
 
-pub stands-concluded : {C : ℕ} {t u : Term} {ws vs : List ℕ} → Holds C t ws → Holds C u vs → (B total : ℕ)
+pub stands-concluded : {C : ℕ} {t u : Term} {ws vs : List ℕ} → Contains C t ws → Contains C u vs → (B total : ℕ)
     → (let o = rounds C B t u in Stands C (record { total = total; left = o .left; right = o .right }) (concluded C total o))
 stands-concluded {C} {t} {u} h k B total =
-    let (l, r) = holds-walk h k (walked C B t u .walk) in
+    let (l, r) = holds-walk h k (walked same C B t u) in
     record { total-is = refl; left-holds = l; right-holds = r }
 
 -- After the press the memory is where `advance` says.
-pub stands-next : {C : ℕ} {s : Standing} {m : Memory} {c : Call} {r : Reply} {p : Pressed} → Stands C s m → Answered C s m c r p
+pub stands-next : {C : ℕ} {s : Progress} {m : Memory} {c : Call} {r : Reply} {p : Pressed} → Stands C s m → Answered C s m c r p
     → Stands C (advance C s c r) (p .memory)
 stands-next h (turned-down why) = h
 stands-next {C} {s} {c = c} h (made e) =
     let o = rounds C (c .budget) (s .left) (s .right) in
-    let (l, r) = holds-walk (h .left-holds) (h .right-holds) (walked C (c .budget) (s .left) (s .right) .walk) in
+    let (l, r) = holds-walk (h .left-holds) (h .right-holds) (walked same C (c .budget) (s .left) (s .right)) in
     record { total-is = ap (λ n. n + o .spent) (h .total-is); left-holds = l; right-holds = r }
 
 pub refused≢shown : {why : Refusal} {a : Shown} → refused why ≡ shown a → ⊥
@@ -120,10 +120,10 @@ pub shown-injective : {a b : Shown} → shown a ≡ shown b → a ≡ b
 shown-injective e = cc
 
 -- The answer is the reply.
-pub reply-answered : {C : ℕ} {s : Standing} {m : Memory} {c : Call} {r : Reply} {p : Pressed} → Answered C s m c r p → replyOf (p .answer) ≡ r
+pub reply-answered : {C : ℕ} {s : Progress} {m : Memory} {c : Call} {r : Reply} {p : Pressed} → Answered C s m c r p → replyOf (p .answer) ≡ r
 reply-answered (turned-down why) = refl
 reply-answered (made e) = refl
 
-pub leaves-answered : {C : ℕ} {s : Standing} {m : Memory} {c : Call} {r : Reply} {p : Pressed} → Answered C s m c r p → LeavesBy m c p (p .answer)
+pub leaves-answered : {C : ℕ} {s : Progress} {m : Memory} {c : Call} {r : Reply} {p : Pressed} → Answered C s m c r p → LeavesBy m c p (p .answer)
 leaves-answered (turned-down why) = (refl, refl, refl, refl)
 leaves-answered (made e) = ap (λ n. replicate n 0) (sym e)

@@ -7,6 +7,7 @@ use native.Mathlib.Nat.{not-suc-le-zero}
 use lib.ListN.{drop}
 use Rattle.calculus.specs.Words.{words, size}
 use Rattle.calculus.specs.Position.{redexAt}
+use Rattle.calculus.specs.Rounds.{next}
 use Rattle.step.specs.declared.Redex.{Redex}
 use Rattle.step.specs.declared.Plan as code
 use Rattle.step.specs.declared.Plan.the-variants as plan
@@ -14,7 +15,7 @@ use Rattle.step.specs.Held.{held, Holds}
 use Rattle.step.specs.Search.{Searched}
 use Rattle.step.specs.Plan as step
 use Rattle.step.specs.Next as stepNext
-use Rattle.rounds.specs.Turn.{next, Plan, normal, contract, planAt, planned}
+use Rattle.rounds.specs.Turn.{Plan, normal, contract, planAt, planned}
 use Rattle.rounds.specs.Types.{planOf}
 use Rattle.rounds.specs.Resume.{resumeAt}
 use Rattle.rounds.specs.Advance.{Advances, scratchAfter, Advanced}

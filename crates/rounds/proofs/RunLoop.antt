@@ -2,7 +2,7 @@
 -- end in what all the rounds end in.
 use Prim.Native.Nat.{ℕ, _+_, _-_, _*_, _≤_, _<_}
 use mathlib.Core.Path.{_≡_, refl, sym, _∙_, ap, subst, subst⁻¹}
-use mathlib.Core.Bool.{true, false}
+use mathlib.Core.Bool.{true, false, cond}
 use mathlib.Core.List.{List, _++_}
 use mathlib.Core.Option.{some, none}
 use native.Mathlib.Omega.{arith}
@@ -15,7 +15,7 @@ use Rattle.calculus.specs.Words.{workspaceMost, words, size}
 use Rattle.calculus.specs.Accepted.{Accepted}
 use Rattle.calculus.specs.Workspace.{termAt}
 use Rattle.calculus.specs.Position.{contractAt}
-use Rattle.calculus.specs.Rounds.{Verdict, shows, ended, after, rounds}
+use Rattle.calculus.specs.Rounds.{Verdict, Same, shows, Round, ends, goes, round, next, nextLength, same, roundBy, ended, after, rounds}
 use Rattle.calculus.proofs.WordLaws.{accepted-packable}
 use Rattle.calculus.proofs.PositionLaws.{redex-first}
 use Rattle.calculus.proofs.ResumeLaws.{none-before, none-anywhere}
@@ -25,18 +25,17 @@ use Rattle.step.specs.declared.Plan as code
 use Rattle.step.specs.Plan as step
 use Rattle.step.specs.Search.{Searched}
 use Rattle.rounds.specs.Compare.{common, Agrees, Compares}
-use Rattle.rounds.specs.Turn.{next, Plan, planned, Turn, ends, goes, turn}
+use Rattle.rounds.specs.Turn.{Plan, lengthIn, planned}
 use Rattle.rounds.specs.Resume.{resumeAt, agreeAfter, Agreeing}
 use Rattle.rounds.specs.Advance.{Advances, Advanced}
-use Rattle.rounds.specs.Run.{Runs, Ran}
-use Rattle.rounds.specs.Claim as claim
+use Rattle.rounds.specs.Run.{Ready, Ran}
 use Rattle.rounds.proofs.CompareLaws.{agrees-none, common-agrees, common-whole, common-equal}
 use Rattle.step.proofs.HeldLaws.{held-term, holds-term, Start, termAt-start}
 use Rattle.rounds.proofs.Workspaces.{termAt-size}
 use Rattle.rounds.proofs.AgreeLaws.{agree-after}
 use Rattle.rounds.proofs.RunCode.{searched}
-use Rattle.rounds.proofs.Walk.{here, further, walk-fits, after-zero, after-after}
-use Rattle.rounds.proofs.TurnLaws.{Planned, is-normal, contracts, planned-tells, next-is, next-normal, Turned, going, turned, rounds-stopped, rounds-going}
+use Rattle.calculus.proofs.RoundsLaws.{Goes, goes-on, goes-wider, Moves, here, further, rounds-end, rounds-go, walk-fits, after-zero, after-after}
+use Rattle.rounds.proofs.TurnLaws.{Planned, is-normal, contracts, planned-tells, next-is, next-normal, planned-length, asked}
 
 begins : {ws : List ℕ} {n : ℕ} → Holds ws n → Start ws n (held ws n)
 begins {ws} {n} h = termAt-start ws n (held ws n) (h .term)
@@ -92,7 +91,7 @@ module _ {ws ws′ scratch scratch′ : List ℕ} {n r from : ℕ} {todo : code.
 
 -- What holds before each turn: both terms, where the search on each side goes on, and the words that agree.
 pub record Going (left₀ right₀ scratch₀ : List ℕ) (l r budget : ℕ) (left right scratch room : List ℕ) (m i n j agree spent : ℕ) : Type 0 where
-  pub runs : Runs left right scratch m n
+  pub ready : Ready left right scratch m n
   pub left-searched : Searched left m i
   pub right-searched : Searched right n j
   pub agrees : Agrees agree (take m left) (take n right)
@@ -104,12 +103,12 @@ pub record Going (left₀ right₀ scratch₀ : List ℕ) (l r budget : ℕ) (le
   pub rest :
       after spent (rounds (length left₀) (budget - spent) (held left m) (held right n)) ≡ rounds (length left₀) budget (held left₀ l) (held right₀ r)
 
-pub going-first : {left right scratch room : List ℕ} {l r : ℕ} (budget : ℕ) → Runs left right scratch l r → 2 * length room ≡ workspaceMost
+pub going-first : {left right scratch room : List ℕ} {l r : ℕ} (budget : ℕ) → Ready left right scratch l r → 2 * length room ≡ workspaceMost
     → Going left right scratch l r budget left right scratch room l 0 r 0 0 0
 going-first {left} {right} {scratch} {l = l} {r} budget h room-length =
     let all : budget - 0 ≡ budget = omega arith in
     record {
-      runs = h;
+      ready = h;
       left-searched = searched (h .left-holds);
       right-searched = searched (h .right-holds);
       agrees = agrees-none (take l left) (take r right);
@@ -124,53 +123,52 @@ going-first {left} {right} {scratch} {l = l} {r} budget h room-length =
 module _ {left₀ right₀ scratch₀ : List ℕ} {l r budget : ℕ} {left right scratch room : List ℕ} {m i n j agree spent : ℕ}
     (g : Going left₀ right₀ scratch₀ l r budget left right scratch room m i n j agree spent) where
   left-fits : m ≤ length left
-  left-fits = begins (g .runs .left-holds) .within
+  left-fits = begins (g .ready .left-holds) .within
 
   right-fits : n ≤ length right
-  right-fits = begins (g .runs .right-holds) .within
+  right-fits = begins (g .ready .right-holds) .within
 
   -- The scratch serves the searches.
   pub left-room : m ≤ length scratch
-  left-room = omega (arith, left-fits, g .runs .scratch-length)
+  left-room = omega (arith, left-fits, g .ready .scratch-length)
 
   pub right-room : (scratch′ : List ℕ) → length scratch′ ≡ length scratch → n ≤ length scratch′
-  right-room scratch′ kept = omega (arith, right-fits, g .runs .scratch-length, g .runs .right-length)
+  right-room scratch′ kept = omega (arith, right-fits, g .ready .scratch-length, g .ready .right-length)
 
   pub compares : Compares left m right n agree
   compares = record { left-fits = left-fits; right-fits = right-fits; agrees = g .agrees }
 
   -- What the calls before the judgement tell: the words that both sides share, and both plans.
   module _ {shared : ℕ} {a b : Plan} (s : shared ≡ common (take m left) (take n right)) (p : a ≡ planned (held left m)) (q : b ≡ planned (held right n)) where
-    pub judged : {t : Turn} → t ≡ turn (eqb shared m) a b (budget - spent) (length left)
-        → Turned (length left₀) (budget - spent) (held left m) (held right n) t
+    pub judged : {x : Round} → x ≡ round (cond (eqb shared m) (some Same) none) (length left) (budget - spent) (lengthIn a) (lengthIn b)
+        → roundBy same (length left₀) (budget - spent) (held left m) (held right n) ≡ x
     judged e =
-        let lh = g .runs .left-holds in
-        let rh = g .runs .right-holds in
-        rw (e, p, q, g .left-kept, s) (turned (eqb (common (take m left) (take n right)) m) (same-terms lh rh) (other-terms lh rh))
+        let first = asked (eqb (common (take m left) (take n right)) m) (same-terms (g .ready .left-holds) (g .ready .right-holds)) (other-terms (g .ready .left-holds) (g .ready .right-holds)) in
+        sym (rw (e, p, q, g .left-kept, s, first, planned-length (held left m), planned-length (held right n)))
 
     shared-agrees : Agrees shared (take m left) (take n right)
     shared-agrees = rw s (common-agrees (take m left) (take n right))
 
     pub agreeing : Agreeing left m shared a
     agreeing =
-        record { holds = g .runs .left-holds; within = omega (arith, shared-agrees .left-has, length-take-le m left left-fits); plan-is = p }
+        record { holds = g .ready .left-holds; within = omega (arith, shared-agrees .left-has, length-take-le m left left-fits); plan-is = p }
 
     -- The words that agree after both sides' parts.
     agrees-next : Agrees (agreeAfter left m shared a b) (words (next (held left m))) (words (next (held right n)))
     agrees-next =
-        let ls = begins (g .runs .left-holds) in
-        let rs = begins (g .runs .right-holds) in
+        let ls = begins (g .ready .left-holds) in
+        let rs = begins (g .ready .right-holds) in
         rw (p, q)
-        (agree-after ls rs (omega (arith, left-fits, g .runs .left-holds .limit)) (omega (arith, right-fits, g .runs .right-holds .limit))
+        (agree-after ls rs (omega (arith, left-fits, g .ready .left-holds .limit)) (omega (arith, right-fits, g .ready .right-holds .limit))
         (rw (ls .taken, rs .taken) shared-agrees) (planned-tells (held left m)) (planned-tells (held right n)))
 
-  pub ran : {v : Verdict} {scratch₁ : List ℕ} → length scratch₁ ≡ length scratch → Turned (length left₀) (budget - spent) (held left m) (held right n) (ends v)
+  pub ran : {v : Verdict} {scratch₁ : List ℕ} → length scratch₁ ≡ length scratch → roundBy same (length left₀) (budget - spent) (held left m) (held right n) ≡ ends v
       → Ran budget (rounds (length left₀) budget (held left₀ l) (held right₀ r)) (record { verdict = v; spent = spent; left = m; right = n }) left right scratch₁
   ran {v} kept t =
       let o : after spent (ended v (held left m) (held right n)) ≡ rounds (length left₀) budget (held left₀ l) (held right₀ r)
-      = sym (ap (after spent) (rounds-stopped t)) ∙ g .rest in
-      let ls = begins (g .runs .left-holds) in
-      let rs = begins (g .runs .right-holds) in
+      = sym (ap (after spent) (rounds-end same (length left₀) (budget - spent) (held left m) (held right n) t)) ∙ g .rest in
+      let ls = begins (g .ready .left-holds) in
+      let rs = begins (g .ready .right-holds) in
       let all : spent ≡ spent + 0 = omega arith in
       let here-shown : record { verdict = v; spent = spent; left = m; right = n } ≡ shows (after spent (ended v (held left m) (held right n)))
       = λ i. record { verdict = v; spent = all i; left = sym (ls .long) i; right = sym (rs .long) i } in
@@ -181,34 +179,33 @@ module _ {left₀ right₀ scratch₀ : List ℕ} {l r budget : ℕ} {left right
         left-words = sym (ls .start) ∙ ap (λ k. words (k .left) ++ drop m left) o;
         right-others = drop n right;
         right-words = sym (rs .start) ∙ ap (λ k. words (k .right) ++ drop n right) o;
-        scratch-length = kept ∙ g .runs .scratch-length;
+        scratch-length = kept ∙ g .ready .scratch-length;
       }
 
-  module _ {p : ℕ} (t : Turned (length left₀) (budget - spent) (held left m) (held right n) (goes p)) where
+  module _ {p : ℕ} (t : roundBy same (length left₀) (budget - spent) (held left m) (held right n) ≡ goes p) where
+    goes-here : Goes (same (held left m) (held right n)) (length left₀) (budget - spent) (nextLength (held left m)) (nextLength (held right n)) p
+    goes-here = goes-on (same (held left m) (held right n)) (length left₀) (budget - spent) (nextLength (held left m)) (nextLength (held right n)) t
+
+    moves : Moves same (length left₀) p (held left m) (held right n)
+    moves = goes-wider {C′ = length left₀} {rest′ = p} (omega arith) (omega arith) goes-here
+
     pub spends : (1 ≤ p) × (p ≤ budget - spent)
-    spends = by t
-      where
-        by : Turned (length left₀) (budget - spent) (held left m) (held right n) (goes p) → (1 ≤ p) × (p ≤ budget - spent)
-        by (going q pos h mv) = (pos, h)
+    spends = (goes-here .moves, goes-here .covered)
 
     both-fit : (size (next (held left m)) ≤ length left) × (size (next (held right n)) ≤ length left)
-    both-fit = by t
-      where
-        by : Turned (length left₀) (budget - spent) (held left m) (held right n) (goes p)
-            → (size (next (held left m)) ≤ length left) × (size (next (held right n)) ≤ length left)
-        by (going q pos h mv) =
-            let f = walk-fits (further mv here) in
-            let lm : size (held left m) ≤ length left₀ = omega (arith, begins (g .runs .left-holds) .long, left-fits, g .left-kept) in
-            let rn : size (held right n) ≤ length left₀ = omega (arith, begins (g .runs .right-holds) .long, right-fits, g .left-kept, g .runs .right-length) in
-            (omega (arith, f .0 lm, g .left-kept), omega (arith, f .1 rn, g .left-kept))
+    both-fit =
+        let f = walk-fits same (further moves here) in
+        let lm : size (held left m) ≤ length left₀ = omega (arith, begins (g .ready .left-holds) .long, left-fits, g .left-kept) in
+        let rn : size (held right n) ≤ length left₀ = omega (arith, begins (g .ready .right-holds) .long, right-fits, g .left-kept, g .ready .right-length) in
+        (omega (arith, f .0 lm, g .left-kept), omega (arith, f .1 rn, g .left-kept))
 
     pub left-advances : {a : code.Plan} {scratch₁ : List ℕ} → length scratch₁ ≡ length scratch → step.Planned left m a → Advances left m a scratch₁ room
     left-advances kept e =
         record {
-          holds = g .runs .left-holds;
+          holds = g .ready .left-holds;
           plan = e;
           fits = both-fit .0;
-          scratch-fits = omega (arith, both-fit .0, kept, g .runs .scratch-length);
+          scratch-fits = omega (arith, both-fit .0, kept, g .ready .scratch-length);
           room-fits = omega (arith, g .room-length);
         }
 
@@ -217,10 +214,10 @@ module _ {left₀ right₀ scratch₀ : List ℕ} {l r budget : ℕ} {left right
       pub right-advances : {b : code.Plan} {room′ : List ℕ} → 2 * length room′ ≡ workspaceMost → step.Planned right n b → Advances right n b scratch′ room′
       right-advances room-length e =
           record {
-            holds = g .runs .right-holds;
+            holds = g .ready .right-holds;
             plan = e;
-            fits = omega (arith, both-fit .1, g .runs .right-length);
-            scratch-fits = omega (arith, both-fit .1, sk, g .runs .scratch-length);
+            fits = omega (arith, both-fit .1, g .ready .right-length);
+            scratch-fits = omega (arith, both-fit .1, sk, g .ready .scratch-length);
             room-fits = omega arith;
           }
 
@@ -232,18 +229,19 @@ module _ {left₀ right₀ scratch₀ : List ℕ} {l r budget : ℕ} {left right
         going-on room-length s x y k =
             let (pos, h) = spends in
             let less : budget - (spent + p) ≡ budget - spent - p = omega arith in
+            let whole : p + (budget - spent - p) ≡ budget - spent = omega arith in
             record {
-              runs =
+              ready =
                   record {
-                    left-holds = advanced-holds (g .runs .left-holds) lk la;
-                    right-holds = advanced-holds (g .runs .right-holds) rk ra;
-                    right-length = rk ∙ g .runs .right-length ∙ sym lk;
-                    scratch-length = sk′ ∙ sk ∙ g .runs .scratch-length ∙ sym lk;
+                    left-holds = advanced-holds (g .ready .left-holds) lk la;
+                    right-holds = advanced-holds (g .ready .right-holds) rk ra;
+                    right-length = rk ∙ g .ready .right-length ∙ sym lk;
+                    scratch-length = sk′ ∙ sk ∙ g .ready .scratch-length ∙ sym lk;
                   };
-              left-searched = advanced-searched (g .runs .left-holds) lk la;
-              right-searched = advanced-searched (g .runs .right-holds) rk ra;
+              left-searched = advanced-searched (g .ready .left-holds) lk la;
+              right-searched = advanced-searched (g .ready .right-holds) rk ra;
               agrees =
-                  rw (k, advanced-words (g .runs .left-holds) lk la, advanced-words (g .runs .right-holds) rk ra)
+                  rw (k, advanced-words (g .ready .left-holds) lk la, advanced-words (g .ready .right-holds) rk ra)
                   (agrees-next s x y);
               left-kept = lk ∙ g .left-kept;
               right-kept = rk ∙ g .right-kept;
@@ -251,8 +249,9 @@ module _ {left₀ right₀ scratch₀ : List ℕ} {l r budget : ℕ} {left right
               room-length = room-length;
               within = omega (arith, g .within);
               rest =
-                  rw (advanced-held (g .runs .left-holds) lk la, advanced-held (g .runs .right-holds) rk ra, less)
+                  rw (advanced-held (g .ready .left-holds) lk la, advanced-held (g .ready .right-holds) rk ra, less)
                   (sym (after-after spent p (rounds (length left₀) (budget - spent - p) (next (held left m)) (next (held right n))))
-                  ∙ ap (after spent) (sym (rounds-going t))
+                  ∙ ap (after spent) (sym (rounds-go same moves (budget - spent - p)))
+                  ∙ ap (λ b. after spent (rounds (length left₀) b (held left m) (held right n))) whole
                   ∙ g .rest);
             }

@@ -10,16 +10,18 @@ use lib.Seq.{take-append-seam}
 use Rattle.calculus.specs.Term.{Term}
 use Rattle.calculus.specs.Words.{words, size}
 use Rattle.calculus.specs.Workspace.{padded}
-use Rattle.calculus.specs.Rounds.{Verdict, Same, Different, Shown, shows, withSpent, ended, rounds}
+use Rattle.calculus.specs.Rounds.{Verdict, Same, Different, Decided, Shown, shows, withSpent, same, ended, rounds}
 use Rattle.calculus.specs.Refusal.{Refusal}
 use Rattle.calculus.specs.Conversion.{Reaches, Joined}
+use Rattle.calculus.specs.Unlimited.{Exact}
 use Rattle.rounds.specs.Press.{refused, shown, Memory, Call, Pressed, press}
-use Rattle.rounds.specs.Runs.{final, history, spentIn}
-use Rattle.rounds.specs.Claim.{Holds, Decided, Reply, Standing, Again, Ended, SameTerms}
-use Rattle.rounds.proofs.Walk.{Tells, walked, rounds-at-once, rounds-stable, rounds-agree}
-use Rattle.rounds.proofs.Verdicts.{reached, different-not-joined}
+use Rattle.rounds.specs.Presses.{final, history, spentIn}
+use Rattle.rounds.specs.Claim.{Contains, Reply, Progress, Again, Ended, SameTerms}
+use Rattle.calculus.proofs.RoundsLaws.{walked}
+use Rattle.calculus.proofs.UnlimitedLaws.{rounds-stable, rounds-agree, rounds-again, rounds-same, verdicts-exact, same-sound}
+use Rattle.rounds.proofs.Verdicts.{reached}
 use Rattle.rounds.proofs.PressLaws.{Answered, turned-down, made, answered, concluded, stands-first, stands-concluded, refused≢shown, shown-injective}
-use Rattle.rounds.proofs.RunLaws.{Reached, untouched, ran, reached-by}
+use Rattle.rounds.proofs.PressesLaws.{Reached, untouched, ran, reached-by}
 
 -- What the last unrefused press showed, with what the list spent: rounds in one go, with some budget, show this and leave this memory.
 pub record Stopped (C : ℕ) (t u : Term) (start : Memory) (spent : ℕ) (m : Memory) (a : Shown) : Type 0 where
@@ -44,7 +46,7 @@ stopped {C} {t} {u} {spent = spent} {a = a} (ran B s e f p q) h =
     let shown-last : a ≡ withSpent s (shows (rounds C B t u)) = cc in
     record { budget = B; shown-is = ap₂ withSpent e shown-last; memory-is = q }
 
-pub stopped-by : {C : ℕ} {t u : Term} {start : Memory} → Holds C t (start .left) → Holds C u (start .right) → (calls : List Call) {a : Shown}
+pub stopped-by : {C : ℕ} {t u : Term} {start : Memory} → Contains C t (start .left) → Contains C u (start .right) → (calls : List Call) {a : Shown}
     → Ended start calls a → Stopped C t u start (spentIn (history start calls)) (final start calls) a
 stopped-by left-holds right-holds calls e = stopped (reached-by left-holds right-holds calls) e
 
@@ -62,15 +64,16 @@ idle-always {a} {m} h (c ∷ cs) =
     ((i .answer-is, subst (λ k. Again a (history k cs)) (sym (i .memory-is)) again), ap (λ k. final k cs) (i .memory-is) ∙ e)
 
 -- After Same or Different every press is idle.
-idle-settled : {C : ℕ} {s : Standing} {m : Memory} {v : Verdict} {c : Call} {r : Reply} {p : Pressed} → Decided v → Tells v (s .left) (s .right)
+idle-settled : {C : ℕ} {s : Progress} {m : Memory} {v : Verdict} {c : Call} {r : Reply} {p : Pressed}
+    → ((B : ℕ) → rounds C B (s .left) (s .right) ≡ ended v (s .left) (s .right))
     → m ≡ concluded C (s .total) (ended v (s .left) (s .right)) → Answered C s m c r p → Idle (shows (ended v (s .left) (s .right))) m p
-idle-settled d h e (turned-down why) = record { answer-is = inl (why, refl); memory-is = refl }
-idle-settled {C} {s} {m} {v} {c} d h e (made q) =
+idle-settled h e (turned-down why) = record { answer-is = inl (why, refl); memory-is = refl }
+idle-settled {C} {s} {m} {v} {c} h e (made q) =
     let o = ended v (s .left) (s .right) in
-    rw (rounds-at-once C (c .budget) d h)
+    rw (h (c .budget))
     (record { answer-is = inr refl; memory-is = ap (λ n. concluded C n o) (add-zero _ ∙ ap (λ k. k .session .total) e) ∙ sym e })
 
-module _ {C : ℕ} {t u : Term} {start : Memory} (left-holds : Holds C t (start .left)) (right-holds : Holds C u (start .right)) where
+module _ {C : ℕ} {t u : Term} {start : Memory} (left-holds : Contains C t (start .left)) (right-holds : Contains C u (start .right)) where
   pub settled-stays : {spent : ℕ} {m : Memory} {a : Shown} → Stopped C t u start spent m a → Decided (a .verdict) → (later : List Call)
       → Again (withSpent 0 a) (history m later) × (final m later ≡ m)
   settled-stays h d later =
@@ -79,7 +82,7 @@ module _ {C : ℕ} {t u : Term} {start : Memory} (left-holds : Holds C t (start 
       let settled : Decided (o .verdict) = subst Decided (verdict-is h) d in
       let stands = stands-concluded left-holds right-holds (h .budget) total in
       rw (h .memory-is, ap (withSpent 0) (h .shown-is))
-      (idle-always (λ c. idle-settled settled (walked C (h .budget) t u .tells) refl (answered stands c)) later)
+      (idle-always (λ c. idle-settled (rounds-again same C (h .budget) t u settled C) refl (answered stands c)) later)
 
 -- The same words stand at the start of workspaces of any two lengths.
 same-words : (C C′ : ℕ) (ws : List ℕ) → take (length ws) (padded C ws) ≡ take (length ws) (padded C′ ws)
@@ -87,7 +90,7 @@ same-words C C′ ws = take-append-seam ws _ ∙ sym (take-append-seam ws _)
 
 module _ {C : ℕ} {t u : Term} {start : Memory} {spent : ℕ} {m : Memory} {a : Shown} (h : Stopped C t u start spent m a) where
   -- A press on the first terms in workspaces at least as long, with what was spent for a budget or more, gives the same.
-  pub settled-on-first-terms : Decided (a .verdict) → (C′ : ℕ) (m′ : Memory) (c : Call) → C ≤ C′ → Holds C′ t (m′ .left) → Holds C′ u (m′ .right)
+  pub settled-on-first-terms : Decided (a .verdict) → (C′ : ℕ) (m′ : Memory) (c : Call) → C ≤ C′ → Contains C′ t (m′ .left) → Contains C′ u (m′ .right)
       → spent ≤ c .budget → (a′ : Shown) → press m′ c .answer ≡ shown a′ → (a′ ≡ withSpent spent a) × SameTerms a (press m′ c .memory) m
   settled-on-first-terms d C′ m′ c wide lh rh enough a′ = by (answered (stands-first m′ lh rh) c)
     where
@@ -97,7 +100,7 @@ module _ {C : ℕ} {t u : Term} {start : Memory} {spent : ℕ} {m : Memory} {a :
       by (made fits) e =
           let o = rounds C (h .budget) t u in
           let enough′ : o .spent ≤ c .budget = subst (λ n. n ≤ c .budget) (ap (λ a. a .spent) (h .shown-is)) enough in
-          let same : rounds C′ (c .budget) t u ≡ o = rounds-stable C (h .budget) t u (subst Decided (verdict-is h) d) C′ (c .budget) wide enough′ in (
+          let same : rounds C′ (c .budget) t u ≡ o = rounds-stable same C (h .budget) t u (subst Decided (verdict-is h) d) C′ (c .budget) wide enough′ in (
             sym (shown-injective e) ∙ ap shows same ∙ sym (h .shown-is),
             rw (same, h .memory-is, left-is h, right-is h) (same-words C′ C (words (o .left)), same-words C′ C (words (o .right))),
           )
@@ -108,7 +111,7 @@ module _ {C : ℕ} {t u : Term} {start : Memory} {spent : ℕ} {m : Memory} {a :
   settled-agree {C′} {start′} h′ d d′ =
       let o = rounds C (h .budget) t u in
       let o′ = rounds C′ (h′ .budget) t u in
-      let e : o ≡ o′ = rounds-agree C (h .budget) C′ (h′ .budget) t u (subst Decided (verdict-is h) d) (subst Decided (verdict-is h′) d′) in (
+      let e : o ≡ o′ = rounds-agree same C (h .budget) C′ (h′ .budget) t u (subst Decided (verdict-is h) d) (subst Decided (verdict-is h′) d′) in (
         h .shown-is ∙ ap shows e ∙ sym (h′ .shown-is),
         rw (left-is h, right-is h, h .memory-is, h′ .memory-is, ← e) (same-words C C′ (words (o .left)), same-words C C′ (words (o .right))),
       )
@@ -117,9 +120,8 @@ module _ {C : ℕ} {t u : Term} {start : Memory} {spent : ℕ} {m : Memory} {a :
       × (m .right ≡ words w ++ replicate (C - size w) 0) × (a .left ≡ size w) × (a .right ≡ size w)
   settled-same e =
       let o = rounds C (h .budget) t u in
-      let w = walked C (h .budget) t u in
-      let equal : o .left ≡ o .right = subst (λ k. Tells k (o .left) (o .right)) (sym (verdict-is h) ∙ e) (w .tells) in
-      let (f, g) = reached (w .walk) in (
+      let equal : o .left ≡ o .right = rounds-same C (h .budget) t u (sym (verdict-is h) ∙ e) in
+      let (f, g) = reached (walked same C (h .budget) t u) in (
         o .left,
         f,
         subst (Reaches u) (sym equal) g,
@@ -131,6 +133,5 @@ module _ {C : ℕ} {t u : Term} {start : Memory} {spent : ℕ} {m : Memory} {a :
 
   pub settled-different : a .verdict ≡ Different → Joined t u → ⊥
   settled-different e =
-      let o = rounds C (h .budget) t u in
-      let w = walked C (h .budget) t u in
-      different-not-joined (w .walk) (subst (λ k. Tells k (o .left) (o .right)) (sym (verdict-is h) ∙ e) (w .tells))
+      let v : rounds C (h .budget) t u .verdict ≡ Different = sym (verdict-is h) ∙ e in
+      subst (λ k. Exact k t u) v (verdicts-exact same same-sound C (h .budget) t u (inr v))

@@ -13,10 +13,10 @@ use Rattle.calculus.specs.Term.{Term}
 use Rattle.calculus.specs.Words.{size}
 use Rattle.calculus.specs.Workspace.{sized, termAt}
 use Rattle.calculus.specs.Refusal.{WrongWorkspace, OverBudget}
-use Rattle.calculus.specs.Rounds.{Outcome, Shown, shows, withSpent, after, rounds}
+use Rattle.calculus.specs.Rounds.{Outcome, Shown, shows, withSpent, same, after, rounds}
 use Rattle.rounds.specs.Press.{shown, Memory, Call, budgetLimit, totalLimit, affordable, refuse, conclude, pressTerms, press}
-use Rattle.rounds.specs.Claim.{Holds, together, Two-presses}
-use Rattle.rounds.proofs.Walk.{walked, rounds-add}
+use Rattle.rounds.specs.Claim.{Contains, together, Two-presses}
+use Rattle.calculus.proofs.RoundsLaws.{walked, rounds-add}
 use Rattle.rounds.proofs.Workspaces.{termAt-size, holds-termAt}
 use Rattle.rounds.proofs.PressLaws.{refused≢shown, shown-injective, concluded, holds-walk}
 use Rattle.rounds.proofs.PressCode.{sized-right}
@@ -68,11 +68,11 @@ module _ {m : Memory} {c : Call} {t u : Term} (h : Passed m c t u) (d : Call) wh
   abbrev next : Memory
   next = conclude C (m .session) o .memory
 
-  holds-next : Holds C (o .left) (next .left) × Holds C (o .right) (next .right)
+  holds-next : Contains C (o .left) (next .left) × Contains C (o .right) (next .right)
   holds-next =
       holds-walk (holds-termAt (m .left) (c .leftLength) (h .left-term))
-      (subst (λ n. Holds n u (m .right)) (sized-right _ _ _ (h .size-passes)) (holds-termAt (m .right) (c .rightLength) (h .right-term)))
-      (walked C (c .budget) t u .walk)
+      (subst (λ n. Contains n u (m .right)) (sized-right _ _ _ (h .size-passes)) (holds-termAt (m .right) (c .rightLength) (h .right-term)))
+      (walked same C (c .budget) t u)
 
   module _ {a′ : Shown} (left-is : d .leftLength ≡ size (o .left)) (right-is : d .rightLength ≡ size (o .right))
       (second : press next d .answer ≡ shown a′) (fits : o .spent + d .budget ≤ budgetLimit)
@@ -105,7 +105,7 @@ module _ {m : Memory} {c : Call} {t u : Term} (h : Passed m c t u) (d : Call) wh
           }
 
       press-together : press m (together c scratch (o .spent) (d .budget)) ≡ conclude C (m .session) (after (o .spent) o′)
-      press-together = press-passed passed-together ∙ ap (conclude C (m .session)) (rounds-add C (c .budget) (d .budget) t u)
+      press-together = press-passed passed-together ∙ ap (conclude C (m .session)) (rounds-add same C (c .budget) (d .budget) t u)
 
       both-presses : (press m (together c scratch (o .spent) (d .budget)) .answer ≡ shown (withSpent (o .spent + a′ .spent) a′))
           × (press m (together c scratch (o .spent) (d .budget)) .memory ≡ press next d .memory)

@@ -18,17 +18,17 @@ use Rattle.calculus.proofs.WordLaws.{accepted-packable}
 use Rattle.calculus.proofs.ReadLaws.{read-sound, read-accepted}
 use Rattle.calculus.proofs.PrefixFree.{words-prefix-free}
 use Rattle.calculus.proofs.WorkspaceLaws.{termAt-words, length-padded}
-use Rattle.rounds.specs.Claim.{Holds}
+use Rattle.rounds.specs.Claim.{Contains}
 
-pub holds-padded : {C : ℕ} {t : Term} → Accepted 0 t → size t ≤ C → Holds C t (padded C (words t))
+pub holds-padded : {C : ℕ} {t : Term} → Accepted 0 t → size t ≤ C → Contains C t (padded C (words t))
 holds-padded {C} {t} a h =
     record { accepted = a; others = replicate (C - size t) 0; contents = refl; length-is = length-padded C (words t) h }
 
-pub holds-fits : {C : ℕ} {t : Term} {ws : List ℕ} → Holds C t ws → size t ≤ C
+pub holds-fits : {C : ℕ} {t : Term} {ws : List ℕ} → Contains C t ws → size t ≤ C
 holds-fits {t = t} h = omega (arith, length-append (words t) (h .others), ap length (h .contents), h .length-is)
 
 -- Of a workspace that holds a term, only as many words as the term has are a whole term: its words are never the start of another's.
-whole-term : {C : ℕ} {t u : Term} {ws : List ℕ} → Holds C t ws → (n : ℕ) → n ≤ length ws → read (take n ws) ≡ some u → n ≡ size t
+whole-term : {C : ℕ} {t u : Term} {ws : List ℕ} → Contains C t ws → (n : ℕ) → n ≤ length ws → read (take n ws) ≡ some u → n ≡ size t
 whole-term {t = t} {u = u} {ws = ws} h n k e =
     let w = read-sound (take n ws) e in
     let a = read-accepted (take n ws) e in
@@ -36,10 +36,10 @@ whole-term {t = t} {u = u} {ws = ws} h n k e =
     (sym (h .contents) ∙ sym (take-append-drop n ws) ∙ ap (λ l. l ++ drop n ws) (sym w)) in
     sym (length-take-le n ws k) ∙ ap length (sym w) ∙ ap size (sym q)
 
-pub termAt-size : {C : ℕ} {t : Term} {ws : List ℕ} → Holds C t ws → termAt ws (size t) ≡ some t
+pub termAt-size : {C : ℕ} {t : Term} {ws : List ℕ} → Contains C t ws → termAt ws (size t) ≡ some t
 termAt-size {t = t} h = rw (h .contents) (termAt-words t (h .others) (h .accepted))
 
-termAt-other : {C : ℕ} {t : Term} {ws : List ℕ} → Holds C t ws → (n : ℕ) → (n ≡ size t → ⊥) → termAt ws n ≡ none
+termAt-other : {C : ℕ} {t : Term} {ws : List ℕ} → Contains C t ws → (n : ℕ) → (n ≡ size t → ⊥) → termAt ws n ≡ none
 unfolding termAt
 termAt-other {t = t} {ws = ws} h n other = by (leb n (length ws)) (read (take n ws)) refl refl
   where
@@ -48,7 +48,7 @@ termAt-other {t = t} {ws = ws} h n other = by (leb n (length ws)) (read (take n 
     by true (some u) e q = absurd (other (whole-term h n (leb-true n (length ws) e) q))
     by false o e q = refl
 
-pub termAt-holds : {C : ℕ} {t : Term} {ws : List ℕ} → Holds C t ws → (n : ℕ) → termAt ws n ≡ cond (eqb n (size t)) (some t) none
+pub termAt-holds : {C : ℕ} {t : Term} {ws : List ℕ} → Contains C t ws → (n : ℕ) → termAt ws n ≡ cond (eqb n (size t)) (some t) none
 termAt-holds {t = t} {ws = ws} h n = by (eqb n (size t)) refl
   where
     by : (b : Bool) → eqb n (size t) ≡ b → termAt ws n ≡ cond b (some t) none
@@ -56,11 +56,11 @@ termAt-holds {t = t} {ws = ws} h n = by (eqb n (size t)) refl
     by false e = termAt-other h n (eqb-false n (size t) e)
 
 -- A workspace holds the term that its first words are.
-pub holds-termAt : {t : Term} (ws : List ℕ) (n : ℕ) → termAt ws n ≡ some t → Holds (length ws) t ws
+pub holds-termAt : {t : Term} (ws : List ℕ) (n : ℕ) → termAt ws n ≡ some t → Contains (length ws) t ws
 unfolding termAt
 holds-termAt {t} ws n = by (leb n (length ws))
   where
-    by : (b : Bool) → cond b (read (take n ws)) none ≡ some t → Holds (length ws) t ws
+    by : (b : Bool) → cond b (read (take n ws)) none ≡ some t → Contains (length ws) t ws
     by true e =
         record {
           accepted = read-accepted (take n ws) e;

@@ -5,11 +5,12 @@ use mathlib.Core.List.{List, _++_}
 use lib.ListN.{length, drop}
 use lib.Seq.{sets}
 use Rattle.calculus.specs.Words.{workspaceMost, words, size}
+use Rattle.calculus.specs.Rounds.{next}
 use Rattle.step.specs.declared.Plan.{Plan}
 use Rattle.step.specs.declared.Plan.the-variants.{Normal, Contract}
 use Rattle.step.specs.Held.{held, Holds}
 use Rattle.step.specs.Plan.{Planned, contractum}
-use Rattle.rounds.specs.Turn.{next, planned}
+use Rattle.rounds.specs.Turn.{planned}
 use Rattle.rounds.specs.Resume.{resumeAt}
 
 -- The workspace holds a term, the plan is the one for it, the next term fits the workspace and the scratch, and a walk the room.

@@ -15,20 +15,16 @@ use Rattle.calculus.specs.Workspace.{sized}
 use Rattle.calculus.specs.Accepted.{Accepted}
 use Rattle.calculus.specs.Refusal.{Refusal, WrongWorkspace, OverBudget, NoTerm}
 use Rattle.calculus.specs.Conversion.{Reaches, Joined}
-use Rattle.calculus.specs.Rounds.{Verdict, Same, Different, Outcome, Shown, shows, withSpent, rounds}
+use Rattle.calculus.specs.Rounds.{Same, Different, Decided, Outcome, Shown, shows, withSpent, rounds}
 use Rattle.rounds.specs.Press.{Answer, refused, shown, Memory, Call, Pressed, budgetLimit, totalLimit, press}
-use Rattle.rounds.specs.Runs.{final, history, spentIn, budgetInOneGo, lastShown}
+use Rattle.rounds.specs.Presses.{final, history, spentIn, budgetInOneGo, lastShown}
 
 -- A workspace of C words holds an accepted term of at most C words; the words after it are any.
-pub record Holds (C : ℕ) (t : Term) (ws : List ℕ) : Type 0 where
+pub record Contains (C : ℕ) (t : Term) (ws : List ℕ) : Type 0 where
   pub accepted : Accepted 0 t
   pub others : List ℕ
   pub contents : ws ≡ words t ++ others
   pub length-is : length ws ≡ C
-
--- A verdict that stays.
-abbrev pub Decided : Verdict → Type 0
-Decided v = (v ≡ Same) ⊎ (v ≡ Different)
 
 -- What is said of a press from the calls alone: why it is refused, or what it spends.
 pub data Reply : Type 0 where
@@ -40,14 +36,14 @@ replyOf (refused why) = refuses why
 replyOf (shown a) = spends (a .spent)
 
 -- Where a list of calls stands: the session's total and the two current terms, whose lengths are those last returned.
-pub record Standing : Type 0 where
+pub record Progress : Type 0 where
   pub total : ℕ
   pub left : Term
   pub right : Term
 
 -- For workspaces of C words: refusals 7 and 9 by the table, 10 for lengths other than those last returned (until then those of the first terms);
 -- otherwise what the rounds spend.
-abbrev pub replyTo : (C : ℕ) → Standing → Call → Reply
+abbrev pub replyTo : (C : ℕ) → Progress → Call → Reply
 replyTo C s c =
     cond (not (sized (C ∷ C ∷ length (c .scratch) ∷ []))) (refuses WrongWorkspace)
     (cond (ltb budgetLimit (c .budget) || ltb totalLimit (s .total + c .budget)) (refuses OverBudget)
@@ -55,7 +51,7 @@ replyTo C s c =
     (spends (rounds C (c .budget) (s .left) (s .right) .spent))))
 
 -- Where the list stands after a call with this reply, and the replies to a whole list.
-abbrev pub advance : (C : ℕ) → Standing → Call → Reply → Standing
+abbrev pub advance : (C : ℕ) → Progress → Call → Reply → Progress
 advance C s c (refuses why) = s
 advance C s c (spends p) =
     record {
@@ -64,7 +60,7 @@ advance C s c (spends p) =
       right = rounds C (c .budget) (s .left) (s .right) .right;
     }
 
-abbrev pub repliesTo : (C : ℕ) → Standing → List Call → List Reply
+abbrev pub repliesTo : (C : ℕ) → Progress → List Call → List Reply
 repliesTo C s [] = []
 repliesTo C s (c ∷ cs) = replyTo C s c ∷ repliesTo C (advance C s c (replyTo C s c)) cs
 
@@ -124,11 +120,11 @@ pub record Claim (C : ℕ) (t u : Term) (start : Memory) (calls : List Call) : T
   -- An unrefused press on the first terms, with any session, at least that spent as budget and workspaces of at least C words, gives that
   -- verdict, that spent and the same terms.
   pub on-first-terms : (a : Shown) → Ended start calls a → Decided (a .verdict)
-      → (C′ : ℕ) (m : Memory) (c : Call) → C ≤ C′ → Holds C′ t (m .left) → Holds C′ u (m .right) → spentIn (history start calls) ≤ c .budget
+      → (C′ : ℕ) (m : Memory) (c : Call) → C ≤ C′ → Contains C′ t (m .left) → Contains C′ u (m .right) → spentIn (history start calls) ≤ c .budget
       → (a′ : Shown) → press m c .answer ≡ shown a′ → (a′ ≡ inAll start calls a) × SameTerms a (press m c .memory) (final start calls)
   -- Two lists from the same first terms, whatever their budgets and their C, that each give Same or Different agree in verdict, spent and terms.
   pub agree : (a : Shown) → Ended start calls a → Decided (a .verdict)
-      → (C′ : ℕ) (start′ : Memory) (calls′ : List Call) → Holds C′ t (start′ .left) → Holds C′ u (start′ .right)
+      → (C′ : ℕ) (start′ : Memory) (calls′ : List Call) → Contains C′ t (start′ .left) → Contains C′ u (start′ .right)
       → (a′ : Shown) → Ended start′ calls′ a′ → Decided (a′ .verdict)
       → (inAll start calls a ≡ inAll start′ calls′ a′) × SameTerms a (final start calls) (final start′ calls′)
   -- Same: one term stands on both sides that contractions reach from each first term.
@@ -141,7 +137,7 @@ pub record Claim (C : ℕ) (t u : Term) (start : Memory) (calls : List Call) : T
 -- Demand 3: over every length C, first terms, workspaces that hold them, session and list of calls.
 abbrev pub Every-list-of-presses : Type 0
 Every-list-of-presses =
-    (C : ℕ) (t u : Term) (start : Memory) → Holds C t (start .left) → Holds C u (start .right) → (calls : List Call) → Claim C t u start calls
+    (C : ℕ) (t u : Term) (start : Memory) → Contains C t (start .left) → Contains C u (start .right) → (calls : List Call) → Claim C t u start calls
 
 -- Two presses, neither refused, the second on what the first left and with the lengths it returned, end in the terms, verdict and session of one
 -- press whose budget is the first's spent plus the second's budget, if that is at most 1,000,000. Its scratch may be any of that length.

@@ -7,6 +7,7 @@ pub mod Advance
 pub mod Run
 pub mod Press
 pub mod Show
+pub mod Limits
 pub mod Types
-pub mod Runs
+pub mod Presses
 pub mod Claim

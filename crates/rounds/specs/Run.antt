@@ -8,7 +8,7 @@ use Rattle.calculus.specs.Rounds.{Outcome, Shown, shows}
 use Rattle.step.specs.Held.{Holds}
 
 -- Both workspaces hold terms, and the three lengths are equal.
-pub record Runs (left right scratch : List ℕ) (l r : ℕ) : Type 0 where
+pub record Ready (left right scratch : List ℕ) (l r : ℕ) : Type 0 where
   pub left-holds : Holds left l
   pub right-holds : Holds right r
   pub right-length : length right ≡ length left

@@ -1,7 +1,7 @@
 -- What the code's types stand for: the verdict's and the answer's enum case by case, and the session.
 use Prim.Native.Nat.{ℕ}
 use mathlib.Core.List.{List}
-use Rattle.calculus.specs.Rounds.{Verdict, Same, Different, Budget, Full, Shown}
+use Rattle.calculus.specs.Rounds.{Verdict, Same, Different, Budget, Full, Shown, Round, ends, goes}
 use Rattle.words.specs.declared.refusal.Refusal as codeRefusal
 use Rattle.words.specs.Types.{refusalOf}
 use Rattle.rounds.specs.declared.Verdict as code
@@ -13,9 +13,9 @@ use Rattle.rounds.specs.declared.Session as codeSession
 use Rattle.rounds.specs.declared.Pressed as codePressed
 use Rattle.step.specs.declared.Plan as codePlan
 use Rattle.step.specs.declared.Plan.the-variants as plan
-use Rattle.rounds.specs.declared.turn.Turn as codeTurn
-use Rattle.rounds.specs.declared.turn.Turn.the-variants as turn
-use Rattle.rounds.specs.Turn.{Plan, normal, contract, Turn, ends, goes}
+use Rattle.rounds.specs.declared.turn.Round as codeRound
+use Rattle.rounds.specs.declared.turn.Round.the-variants as round
+use Rattle.rounds.specs.Turn.{Plan, normal, contract}
 use Rattle.rounds.specs.Session.{Session}
 use Rattle.rounds.specs.Press.{Answer, refused, shown, Memory, Call, Pressed}
 
@@ -55,6 +55,6 @@ abbrev pub planOf : codePlan.Plan → Plan
 planOf plan.Normal = normal
 planOf (plan.Contract r) = contract (r .at) (r .length)
 
-abbrev pub turnOf : codeTurn.Turn → Turn
-turnOf (turn.Ends v) = ends (verdictOf v)
-turnOf (turn.Goes p) = goes p
+abbrev pub roundOf : codeRound.Round → Round
+roundOf (round.Ends v) = ends (verdictOf v)
+roundOf (round.Goes p) = goes p

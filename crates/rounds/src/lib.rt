@@ -7,7 +7,7 @@ ghost use Rattle.rounds.specs.Press.{affordable, press, conclude, totalL
 ghost use Rattle.rounds.specs.Session.{fresh};
 ghost use Rattle.rounds.specs.Show.{show, partOf};
 ghost use Rattle.rounds.specs.Types.{sessionOf, memoryOf, callOf, pressedOf, refusedWith};
-ghost use Rattle.rounds.specs.Run.{Runs};
+ghost use Rattle.rounds.specs.Run.{Ready};
 ghost use Rattle.step.specs.Held.{held};
 use crate::run::run;
 use words::clear;
@@ -106,7 +106,7 @@ fn press_terms(
     budget: u32,
     session: Session,
 ) -> Pressed
-    requires { ⌜ Runs (now left) (now right) (now scratch) l r ⌝ }
+    requires { ⌜ Ready (now left) (now right) (now scratch) l r ⌝ }
     requires { ⌜ session .total + budget ≤ totalLimit ⌝ }
     ensures { λ p. ⌜ pressedOf p (now (left .exit)) (now (right .exit)) (now (scratch .exit)) ≡ conclude (length (now (left .entry))) (sessionOf session) (rounds (length (now (left .entry))) budget (held (now (left .entry)) l) (held (now (right .entry)) r)) ⌝ }
 {

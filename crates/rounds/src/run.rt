@@ -1,13 +1,13 @@
 // The rounds of a press.
 ghost use lib.ListN.{length};
 ghost use Rattle.calculus.specs.Rounds.{rounds};
-ghost use Rattle.rounds.specs.Run.{Runs, Ran};
+ghost use Rattle.rounds.specs.Run.{Ready, Ran};
 ghost use Rattle.rounds.specs.Types.{shownOf};
 ghost use Rattle.step.specs.Held.{held};
 use crate::Shown;
 use crate::compare::agreeing;
+use crate::turn::Round;
 use crate::turn::Side;
-use crate::turn::Turn;
 use crate::turn::advance;
 use crate::turn::agreed;
 use crate::turn::judge;
@@ -26,7 +26,7 @@ pub fn run(
     r: usize,
     budget: u32,
 ) -> Shown
-    requires { ⌜ Runs (now left) (now right) (now scratch) l r ⌝ }
+    requires { ⌜ Ready (now left) (now right) (now scratch) l r ⌝ }
     ensures { λ o. ⌜ Ran budget (rounds (length (now (left .entry))) budget (held (now (left .entry)) l) (held (now (right .entry)) r)) (shownOf o) (now (left .exit)) (now (right .exit)) (now (scratch .exit)) ⌝ }
 {
     let mut a = Side { length: l, from: 0 };
@@ -40,7 +40,7 @@ pub fn run(
         let q = find(right, b.length, b.from, scratch);
         // No term's words are the start of another's, so a term whose words are all shared is the other one.
         match judge(shared == a.length, p, q, budget - spent, left.len()) {
-            Turn::Ends(verdict) => {
+            Round::Ends(verdict) => {
                 return Shown {
                     verdict,
                     spent,
@@ -48,7 +48,7 @@ pub fn run(
                     right: b.length,
                 };
             }
-            Turn::Goes(count) => {
+            Round::Goes(count) => {
                 agree = agreed(left, a.length, shared, p, q);
                 a = advance(left, a, p, scratch, &mut room);
                 b = advance(right, b, q, scratch, &mut room);

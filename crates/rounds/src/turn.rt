@@ -1,11 +1,12 @@
 // One round: what each side would do, what the round comes to, and a side's part in it.
 ghost use mathlib.Core.Path.{_≡_};
-ghost use mathlib.Core.Bool.{_||_};
-ghost use lib.Dec.{ltb};
-ghost use Prim.Native.Nat.{_-_};
-ghost use Rattle.rounds.specs.Turn.{contract, spend, turn};
+ghost use mathlib.Core.Bool.{cond};
+ghost use mathlib.Core.Option.{some, none, Option·getD};
+ghost use Prim.Native.Nat.{_-_, max};
+ghost use Rattle.calculus.specs.Rounds.{Same, contractions, round};
+ghost use Rattle.rounds.specs.Turn.{contract, lengthIn};
 ghost use Rattle.rounds.specs.Resume.{agreeBoth, agreeAfter, Agreeing};
-ghost use Rattle.rounds.specs.Types.{turnOf, planOf};
+ghost use Rattle.rounds.specs.Types.{roundOf, planOf};
 ghost use Rattle.rounds.specs.Advance.{Advances, Advanced};
 use crate::Verdict;
 use crate::compare::least;
@@ -19,51 +20,58 @@ pub struct Side {
 }
 
 // What a round comes to: it ends in a verdict, or makes so many contractions.
-pub enum Turn {
+pub enum Round {
     Ends(Verdict),
     Goes(u32),
 }
 
-// Points 3 to 5 of a round for `count` sides that are not normal, of which one has a next term that is too `long`, or none has.
-fn spend(rest: u32, count: u32, long: bool) -> Turn
-    ensures { λ r. ⌜ turnOf r ≡ spend rest count long ⌝ }
+// How many contractions a side makes in a round.
+fn contractions(plan: Plan) -> u32
+    ensures { λ r. ⌜ r ≡ contractions (lengthIn (planOf plan)) ⌝ }
 {
-    if rest < count {
-        return Turn::Ends(Verdict::Budget);
+    match plan {
+        Plan::Normal => 0,
+        Plan::Contract(_) => 1,
     }
-    if long {
-        return Turn::Ends(Verdict::Full);
-    }
-    Turn::Goes(count)
 }
 
-// Whether one of two terms is longer than a workspace of c words.
-fn either_long(c: usize, n: usize, m: usize) -> bool
-    ensures { λ r. ⌜ r ≡ (ltb c n || ltb c m) ⌝ }
+// The length of the next term, 0 where there is none.
+fn next_length(plan: Plan) -> usize
+    ensures { λ r. ⌜ r ≡ Option·getD (lengthIn (planOf plan)) 0 ⌝ }
 {
-    if c < n {
-        return true;
+    match plan {
+        Plan::Normal => 0,
+        Plan::Contract(redex) => redex.length,
     }
-    c < m
 }
 
-// One round, points 1 to 5, with `rest` left of the budget and workspaces of c words.
-pub fn judge(equal: bool, left: Plan, right: Plan, rest: u32, c: usize) -> Turn
-    ensures { λ r. ⌜ turnOf r ≡ turn equal (planOf left) (planOf right) rest c ⌝ }
+fn longer(n: usize, m: usize) -> usize
+    ensures { λ r. ⌜ r ≡ max n m ⌝ }
+{
+    if n < m {
+        return m;
+    }
+    n
+}
+
+// One round, points 1 to 5 in this order, with `rest` left of the budget and workspaces of c words.
+pub fn judge(equal: bool, left: Plan, right: Plan, rest: u32, c: usize) -> Round
+    ensures { λ r. ⌜ roundOf r ≡ round (cond equal (some Same) none) c rest (lengthIn (planOf left)) (lengthIn (planOf right)) ⌝ }
 {
     if equal {
-        return Turn::Ends(Verdict::Same);
+        return Round::Ends(Verdict::Same);
     }
-    match left {
-        Plan::Normal => match right {
-            Plan::Normal => Turn::Ends(Verdict::Different),
-            Plan::Contract(redex) => spend(rest, 1, c < redex.length),
-        },
-        Plan::Contract(redex) => match right {
-            Plan::Normal => spend(rest, 1, c < redex.length),
-            Plan::Contract(other) => spend(rest, 2, either_long(c, redex.length, other.length)),
-        },
+    let count = contractions(left) + contractions(right);
+    if count == 0 {
+        return Round::Ends(Verdict::Different);
     }
+    if rest < count {
+        return Round::Ends(Verdict::Budget);
+    }
+    if c < longer(next_length(left), next_length(right)) {
+        return Round::Ends(Verdict::Full);
+    }
+    Round::Goes(count)
 }
 
 // The position before another one, but 0 for 0.

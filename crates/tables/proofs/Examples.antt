@@ -10,12 +10,16 @@ use native.Mathlib.Decide.{decLe, decLt}
 use native.Mathlib.Omega.{arith}
 use Rattle.calculus.specs.Decide.{both₃, isTag?, startsAbove?, rising?, everywhere?, tagged?, accepted?}
 use Rattle.calculus.specs.Read.{takeTerm, takeTerms, takeBranches, readLam, readApp, readCon, readCase, readBranch, item, items, oneTerm, read}
+use Rattle.calculus.specs.Refusal.{number}
 use Rattle.calculus.specs.Workspace.{termAt}
-use Rattle.tables.specs.Meaning.{termOf, meantTerm, meantTerms, meantBranch, meantBranches, meant, meaning}
-use Rattle.tables.specs.Refusals.{wrongLength, wrongHeader, valueFits, wrongValue, namings, wrongLink, childrenFit, wrongChildren}
-use Rattle.tables.specs.Load.{refused, returned, Loaded, loadStored, load}
-use Rattle.tables.specs.PrefixOrder.{InPrefixOrder, nothing, chained}
 use Rattle.tables.specs.Records.{view, inForm1}
+use Rattle.tables.specs.Meaning.{termOf, meantTerm, meantTerms, meantBranch, meantBranches, meant, meaning}
+use Rattle.tables.specs.Header.{wrongLength, wrongHeader}
+use Rattle.tables.specs.Values.{valueFits, wrongValue}
+use Rattle.tables.specs.Links.{namings, wrongLink}
+use Rattle.tables.specs.Children.{childrenFit, wrongChildren}
+use Rattle.tables.specs.Load.{Answer, refused, returned, Loaded, loadStored, load}
+use Rattle.tables.specs.PrefixOrder.{InPrefixOrder, nothing, chained}
 use Rattle.tables.specs.Write.{write}
 use Rattle.tables.proofs.Written.PrefixStanding.{fills-first, record-fills}
 
@@ -27,7 +31,7 @@ abbrev table : List Four → List ℕ
 table [] = []
 table (r ∷ rs) = r .0 ∷ r .1 ∷ r .2 ∷ r .3 ∷ table rs
 
--- A workspace of 16 words, each 9; loading into it; a term of these words loaded into it; a refusal.
+-- A workspace of 16 words, each 9; loading into it; a term of these words loaded into it.
 abbrev fresh : List ℕ
 fresh = replicate 16 9
 
@@ -37,8 +41,16 @@ loading rs = load (table rs) fresh
 abbrev holding : (len zeros : ℕ) → List ℕ → Loaded
 holding len zeros ws = record { answer = returned len; workspace = ws ++ replicate zeros 0 }
 
-abbrev refusing : ℕ → Loaded
-refusing k = record { answer = refused k; workspace = fresh }
+-- A refusal by its number, which leaves what was lent as it was.
+abbrev Refuses : ℕ → (answer : Answer) (before after : List ℕ) → Type 0
+Refuses k (refused why) before after = (number why ≡ k) × (after ≡ before)
+Refuses k (returned l) before after = ⊥
+
+abbrev Refusing : ℕ → (table workspace : List ℕ) → Type 0
+Refusing k ws workspace = Refuses k (load ws workspace .answer) workspace (load ws workspace .workspace)
+
+abbrev Unwritten : ℕ → (workspace : List ℕ) (len : ℕ) (table : List ℕ) → Type 0
+Unwritten k workspace len ws = Refuses k (write workspace len ws .answer) ws (write workspace len ws .table)
 
 abbrev identity : List Four
 identity = (1, 2, 1, 0) ∷ (1, 0, 2, 0) ∷ (0, 0, 0, 0) ∷ []
@@ -70,35 +82,45 @@ record Tried : Type 0 where
   case-loads : loading inspecting ≡ holding 7 9 (20 ∷ 139 ∷ 40 ∷ 133 ∷ 0 ∷ 269 ∷ 0 ∷ [])
   case-written : write (20 ∷ 139 ∷ 40 ∷ 133 ∷ 0 ∷ 269 ∷ 0 ∷ replicate 9 9) 7 (replicate 32 9)
       ≡ record { answer = returned 7; table = table inspecting }
-  workspace-of-15 : load (table identity) (replicate 15 9) ≡ record { answer = refused 7; workspace = replicate 15 9 }
-  a-word-too-many : load (table identity ++ (0 ∷ [])) fresh ≡ refusing 1
-  no-header : load (1 ∷ 0 ∷ 1 ∷ []) fresh ≡ refusing 1
-  no-record : loading ((1, 0, 0, 0) ∷ []) ≡ refusing 1
-  form-2 : loading ((2, 1, 1, 0) ∷ (0, 0, 0, 0) ∷ []) ≡ refusing 2
-  last-header-word : loading ((1, 1, 1, 1) ∷ (0, 0, 0, 0) ∷ []) ≡ refusing 2
-  root-outside : loading ((1, 1, 2, 0) ∷ (0, 0, 0, 0) ∷ []) ≡ refusing 2
-  longer-than-workspace : load (1 ∷ 17 ∷ 1 ∷ 0 ∷ replicate 68 0) fresh ≡ refusing 8
-  kind-6 : loading ((1, 1, 1, 0) ∷ (6, 0, 0, 0) ∷ []) ≡ refusing 3
-  index-too-large : loading ((1, 1, 1, 0) ∷ (0, 32768, 0, 0) ∷ []) ≡ refusing 3
-  tag-0 : loading ((1, 1, 1, 0) ∷ (3, 0, 0, 0) ∷ []) ≡ refusing 3
+  workspace-of-15 : Refusing 7 (table identity) (replicate 15 9)
+  a-word-too-many : Refusing 1 (table identity ++ (0 ∷ [])) fresh
+  no-header : Refusing 1 (1 ∷ 0 ∷ 1 ∷ []) fresh
+  no-record : Refusing 1 (table ((1, 0, 0, 0) ∷ [])) fresh
+  form-2 : Refusing 2 (table ((2, 1, 1, 0) ∷ (0, 0, 0, 0) ∷ [])) fresh
+  last-header-word : Refusing 2 (table ((1, 1, 1, 1) ∷ (0, 0, 0, 0) ∷ [])) fresh
+  root-outside : Refusing 2 (table ((1, 1, 2, 0) ∷ (0, 0, 0, 0) ∷ [])) fresh
+  longer-than-workspace : Refusing 8 (1 ∷ 17 ∷ 1 ∷ 0 ∷ replicate 68 0) fresh
+  kind-6 : Refusing 3 (table ((1, 1, 1, 0) ∷ (6, 0, 0, 0) ∷ [])) fresh
+  index-too-large : Refusing 3 (table ((1, 1, 1, 0) ∷ (0, 32768, 0, 0) ∷ [])) fresh
+  tag-0 : Refusing 3 (table ((1, 1, 1, 0) ∷ (3, 0, 0, 0) ∷ [])) fresh
   tag-255 : loading ((1, 1, 1, 0) ∷ (3, 255, 0, 0) ∷ []) ≡ holding 1 15 (32643 ∷ [])
-  tag-256 : loading ((1, 1, 1, 0) ∷ (3, 256, 0, 0) ∷ []) ≡ refusing 3
-  abstraction-with-value : loading ((1, 2, 1, 0) ∷ (1, 1, 2, 0) ∷ (0, 0, 0, 0) ∷ []) ≡ refusing 3
-  link-to-itself : loading ((1, 1, 1, 0) ∷ (1, 0, 1, 0) ∷ []) ≡ refusing 4
-  link-outside : loading ((1, 2, 1, 0) ∷ (1, 0, 3, 0) ∷ (0, 0, 0, 0) ∷ []) ≡ refusing 4
-  named-by-none : loading ((1, 2, 1, 0) ∷ (0, 0, 0, 0) ∷ (0, 0, 0, 0) ∷ []) ≡ refusing 4
-  named-twice : loading ((1, 3, 1, 0) ∷ (2, 0, 2, 0) ∷ (1, 0, 3, 3) ∷ (0, 0, 0, 0) ∷ []) ≡ refusing 4
-  variable-with-a-child : loading ((1, 2, 1, 0) ∷ (0, 0, 2, 0) ∷ (0, 0, 0, 0) ∷ []) ≡ refusing 5
-  root-with-a-next : loading ((1, 2, 1, 0) ∷ (0, 0, 0, 2) ∷ (0, 0, 0, 0) ∷ []) ≡ refusing 5
-  root-a-branch : loading ((1, 2, 1, 0) ∷ (5, 16, 2, 0) ∷ (0, 0, 0, 0) ∷ []) ≡ refusing 5
-  equal-tags : loading
-      ((1, 6, 1, 0) ∷ (4, 0, 2, 0) ∷ (0, 0, 0, 3) ∷ (5, 16, 4, 5) ∷ (0, 0, 0, 0) ∷ (5, 16, 6, 0) ∷ (0, 0, 0, 0) ∷ [])
-      ≡ refusing 5
+  tag-256 : Refusing 3 (table ((1, 1, 1, 0) ∷ (3, 256, 0, 0) ∷ [])) fresh
+  abstraction-with-value : Refusing 3 (table ((1, 2, 1, 0) ∷ (1, 1, 2, 0) ∷ (0, 0, 0, 0) ∷ [])) fresh
+  link-to-itself : Refusing 4 (table ((1, 1, 1, 0) ∷ (1, 0, 1, 0) ∷ [])) fresh
+  link-outside : Refusing 4 (table ((1, 2, 1, 0) ∷ (1, 0, 3, 0) ∷ (0, 0, 0, 0) ∷ [])) fresh
+  named-by-none : Refusing 4 (table ((1, 2, 1, 0) ∷ (0, 0, 0, 0) ∷ (0, 0, 0, 0) ∷ [])) fresh
+  named-twice : Refusing 4 (table ((1, 3, 1, 0) ∷ (2, 0, 2, 0) ∷ (1, 0, 3, 3) ∷ (0, 0, 0, 0) ∷ [])) fresh
+  variable-with-a-child : Refusing 5 (table ((1, 2, 1, 0) ∷ (0, 0, 2, 0) ∷ (0, 0, 0, 0) ∷ [])) fresh
+  root-with-a-next : Refusing 5 (table ((1, 2, 1, 0) ∷ (0, 0, 0, 2) ∷ (0, 0, 0, 0) ∷ [])) fresh
+  root-a-branch : Refusing 5 (table ((1, 2, 1, 0) ∷ (5, 16, 2, 0) ∷ (0, 0, 0, 0) ∷ [])) fresh
+  equal-tags : Refusing 5
+      (table ((1, 6, 1, 0) ∷ (4, 0, 2, 0) ∷ (0, 0, 0, 3) ∷ (5, 16, 4, 5) ∷ (0, 0, 0, 0) ∷ (5, 16, 6, 0) ∷ (0, 0, 0, 0) ∷ []))
+      fresh
   free-number-255 : loading ((1, 2, 1, 0) ∷ (1, 0, 2, 0) ∷ (0, 256, 0, 0) ∷ []) ≡ holding 2 14 (1 ∷ 2048 ∷ [])
-  free-number-256 : loading ((1, 2, 1, 0) ∷ (1, 0, 2, 0) ∷ (0, 257, 0, 0) ∷ []) ≡ refusing 6
-  write-workspace-of-15 : write (replicate 15 0) 1 (replicate 8 9) ≡ record { answer = refused 7; table = replicate 8 9 }
-  write-no-term : write (1 ∷ 0 ∷ replicate 14 0) 1 (replicate 8 9) ≡ record { answer = refused 10; table = replicate 8 9 }
-  write-table-too-long : write (1 ∷ 0 ∷ replicate 14 0) 2 (replicate 16 9) ≡ record { answer = refused 1; table = replicate 16 9 }
+  free-number-256 : Refusing 6 (table ((1, 2, 1, 0) ∷ (1, 0, 2, 0) ∷ (0, 257, 0, 0) ∷ [])) fresh
+  -- Tables that meet two refusals, neighbours in the order of the checks: the earlier one is answered.
+  workspace-before-length : Refusing 7 (1 ∷ 0 ∷ 1 ∷ []) (replicate 15 9)
+  length-before-header : Refusing 1 (table ((2, 1, 1, 0) ∷ [])) fresh
+  header-before-too-long : Refusing 2 (2 ∷ 17 ∷ 1 ∷ 0 ∷ replicate 68 0) fresh
+  too-long-before-values : Refusing 8 (1 ∷ 17 ∷ 1 ∷ 0 ∷ 6 ∷ replicate 67 0) fresh
+  values-before-links : Refusing 3 (table ((1, 1, 1, 0) ∷ (6, 0, 1, 0) ∷ [])) fresh
+  links-before-children : Refusing 4 (table ((1, 2, 1, 0) ∷ (0, 0, 2, 5) ∷ (0, 0, 0, 0) ∷ [])) fresh
+  children-before-free-numbers : Refusing 5 (table ((1, 2, 1, 0) ∷ (0, 256, 0, 2) ∷ (0, 0, 0, 0) ∷ [])) fresh
+  write-workspace-of-15 : Unwritten 7 (replicate 15 0) 1 (replicate 8 9)
+  write-no-term : Unwritten 10 (1 ∷ 0 ∷ replicate 14 0) 1 (replicate 8 9)
+  write-table-too-long : Unwritten 1 (1 ∷ 0 ∷ replicate 14 0) 2 (replicate 16 9)
+  write-workspace-before-term : Unwritten 7 (replicate 15 1) 1 (replicate 8 9)
+  write-term-before-length : Unwritten 10 (1 ∷ 0 ∷ replicate 14 0) 1 (replicate 7 9)
   in-order : InPrefixOrder (view (inForm1 (table identity)))
 
 tried : Tried
@@ -111,33 +133,42 @@ tried =
       other-order-written-anew = refl;
       case-loads = refl;
       case-written = refl;
-      workspace-of-15 = refl;
-      a-word-too-many = refl;
-      no-header = refl;
-      no-record = refl;
-      form-2 = refl;
-      last-header-word = refl;
-      root-outside = refl;
-      longer-than-workspace = refl;
-      kind-6 = refl;
-      index-too-large = refl;
-      tag-0 = refl;
+      workspace-of-15 = (refl, refl);
+      a-word-too-many = (refl, refl);
+      no-header = (refl, refl);
+      no-record = (refl, refl);
+      form-2 = (refl, refl);
+      last-header-word = (refl, refl);
+      root-outside = (refl, refl);
+      longer-than-workspace = (refl, refl);
+      kind-6 = (refl, refl);
+      index-too-large = (refl, refl);
+      tag-0 = (refl, refl);
       tag-255 = refl;
-      tag-256 = refl;
-      abstraction-with-value = refl;
-      link-to-itself = refl;
-      link-outside = refl;
-      named-by-none = refl;
-      named-twice = refl;
-      variable-with-a-child = refl;
-      root-with-a-next = refl;
-      root-a-branch = refl;
-      equal-tags = refl;
+      tag-256 = (refl, refl);
+      abstraction-with-value = (refl, refl);
+      link-to-itself = (refl, refl);
+      link-outside = (refl, refl);
+      named-by-none = (refl, refl);
+      named-twice = (refl, refl);
+      variable-with-a-child = (refl, refl);
+      root-with-a-next = (refl, refl);
+      root-a-branch = (refl, refl);
+      equal-tags = (refl, refl);
       free-number-255 = refl;
-      free-number-256 = refl;
-      write-workspace-of-15 = refl;
-      write-no-term = refl;
-      write-table-too-long = refl;
+      free-number-256 = (refl, refl);
+      workspace-before-length = (refl, refl);
+      length-before-header = (refl, refl);
+      header-before-too-long = (refl, refl);
+      too-long-before-values = (refl, refl);
+      values-before-links = (refl, refl);
+      links-before-children = (refl, refl);
+      children-before-free-numbers = (refl, refl);
+      write-workspace-of-15 = (refl, refl);
+      write-no-term = (refl, refl);
+      write-table-too-long = (refl, refl);
+      write-workspace-before-term = (refl, refl);
+      write-term-before-length = (refl, refl);
       in-order = chained (chained nothing nothing) nothing;
     }
 

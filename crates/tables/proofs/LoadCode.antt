@@ -9,12 +9,13 @@ use lib.ListN.{length, take, drop, replicate}
 use lib.Seq.{sets-eq, take-append-seam}
 use borrow.Author.Tests.{ltb-false}
 use Rattle.calculus.specs.Words.{words, size}
+use Rattle.calculus.specs.Refusal.{Refusal}
 use Rattle.calculus.specs.Workspace.{padded}
 use Rattle.tables.specs.Records.{Stored, view}
+use Rattle.tables.specs.Reading.{termWords, Readable}
 use Rattle.tables.specs.Load.{returned, Loaded, checks, firstMet, loadStored}
 use Rattle.tables.specs.Theorems.{Meant, NoneMet}
 use Rattle.words.specs.Placed.{Placed}
-use Rattle.tables.specs.Reading.{termWords, Readable}
 use Rattle.tables.proofs.Refusal.LinkRules.{linked}
 use Rattle.tables.proofs.Refusal.Fits.{valued}
 use Rattle.tables.proofs.LoadLaws.{Passes, passes, unmet-means, load-returned}
@@ -22,7 +23,7 @@ use Rattle.tables.proofs.Refusal.RecordLaws.{rooted}
 use Rattle.tables.proofs.Meaning.ReadingMeaning.{means-spelled}
 use Rattle.words.proofs.PlacedLaws.{placed-length}
 
-none-first : (cs : List (ℕ × Bool)) → firstMet cs ≡ none → NoneMet cs
+none-first : (cs : List (Refusal × Bool)) → firstMet cs ≡ none → NoneMet cs
 none-first [] h = tt
 none-first (c ∷ cs) h = go (c .1) refl h (λ k. none-first cs k)
   where

@@ -7,13 +7,19 @@ use mathlib.Core.Logic.{_⊎_, inl, inr}
 use mathlib.Core.Option.{some, none}
 use native.Mathlib.Omega.{arith}
 use lib.ListN.{length, replicate}
+use borrow.Author.Needs.{needs}
 use borrow.Author.Tests.{not-false}
 use Rattle.calculus.specs.Term.{term, Term}
 use Rattle.calculus.specs.Words.{words, size}
+use Rattle.calculus.specs.Refusal.{Refusal}
 use Rattle.calculus.specs.Workspace.{padded}
-use Rattle.tables.specs.Records.{Stored, view}
-use Rattle.tables.specs.Meaning.{Means, isRecord}
-use Rattle.tables.specs.Refusals.{wrongWorkspace, wrongLength, wrongHeader, tooLong, wrongValue, wrongLink, wrongChildren, wrongFree}
+use Rattle.tables.specs.Records.{Stored, view, isRecord}
+use Rattle.tables.specs.Meaning.{Means}
+use Rattle.tables.specs.Header.{wrongWorkspace, wrongLength, wrongHeader, tooLong}
+use Rattle.tables.specs.Values.{wrongValue}
+use Rattle.tables.specs.Links.{wrongLink}
+use Rattle.tables.specs.Children.{wrongChildren}
+use Rattle.tables.specs.FreeNumbers.{wrongFree}
 use Rattle.tables.specs.Load.{refused, returned, checks, firstMet, refuseLoad, place, loadUnless, loadStored}
 use Rattle.tables.specs.Theorems.{Sound, Meant, FirstMet, NoneMet, LoadsExactly, Loading-exact}
 use Rattle.tables.proofs.Refusal.RecordLaws.{sized}
@@ -21,20 +27,20 @@ use Rattle.tables.proofs.Meaning.MeaningLaws.{meaning-complete}
 use Rattle.tables.proofs.Meaning.SoundMeans.{sound-means}
 
 -- A list of refusals has one that is met first, or none is met.
-settled : (cs : List (ℕ × Bool)) → ((k : ℕ) × FirstMet k cs) ⊎ NoneMet cs
+settled : (cs : List (Refusal × Bool)) → ((k : Refusal) × FirstMet k cs) ⊎ NoneMet cs
 settled [] = inr tt
 settled (c ∷ cs) = go (c .1) refl (settled cs)
   where
-    go : (b : Bool) → c .1 ≡ b → ((k : ℕ) × FirstMet k cs) ⊎ NoneMet cs → ((k : ℕ) × FirstMet k (c ∷ cs)) ⊎ NoneMet (c ∷ cs)
+    go : (b : Bool) → c .1 ≡ b → ((k : Refusal) × FirstMet k cs) ⊎ NoneMet cs → ((k : Refusal) × FirstMet k (c ∷ cs)) ⊎ NoneMet (c ∷ cs)
     go true e s = inl (c .0, inl (e, refl))
     go false e (inl s) = inl (s .0, inr (e, s .1))
     go false e (inr s) = inr (e, s)
 
-first-met : (k : ℕ) (cs : List (ℕ × Bool)) → FirstMet k cs → firstMet cs ≡ some k
+first-met : (k : Refusal) (cs : List (Refusal × Bool)) → FirstMet k cs → firstMet cs ≡ some k
 first-met k (c ∷ cs) (inl h) = rw (h .0) (ap some (h .1))
 first-met k (c ∷ cs) (inr h) = rw (h .0) (first-met k cs (h .1))
 
-none-met : (cs : List (ℕ × Bool)) → NoneMet cs → firstMet cs ≡ none
+none-met : (cs : List (Refusal × Bool)) → NoneMet cs → firstMet cs ≡ none
 none-met [] h = refl
 none-met (c ∷ cs) h = rw (h .0) (none-met cs (h .1))
 
@@ -51,32 +57,19 @@ pub record Passes (S : Stored) (C : ℕ) : Type 0 where
 
 pub passes : (S : Stored) (C : ℕ) → NoneMet (checks S C) → Passes S C
 passes S C h =
-    let records = h .1 .1 .1 .1 in
     record {
-      workspace-fits = h .0;
-      length-fits = h .1 .0;
-      header-fits = h .1 .1 .0;
-      short-enough = h .1 .1 .1 .0;
-      values-fit = records .0;
-      links-fit = records .1 .0;
-      children-fit = records .1 .1 .0;
-      free-numbers-fit = records .1 .1 .1 .0;
+      workspace-fits = search needs;
+      length-fits = search needs;
+      header-fits = search needs;
+      short-enough = search needs;
+      values-fit = search needs;
+      links-fit = search needs;
+      children-fit = search needs;
+      free-numbers-fit = search needs;
     }
 
 pub passes-unmet : (S : Stored) (C : ℕ) → Passes S C → NoneMet (checks S C)
-passes-unmet S C p = (
-  p .workspace-fits,
-  (
-    p .length-fits,
-    (
-      p .header-fits,
-      (
-        p .short-enough,
-        (p .values-fit, (p .links-fit, (p .children-fit, (p .free-numbers-fit, tt)))),
-      ),
-    ),
-  ),
-)
+passes-unmet S C p = search needs
 
 -- What refusals 1 and 2 leave.
 pub table-length : (S : Stored) → wrongLength S ≡ false → length (S .words) ≡ S .form .recordWords * (view S .n + 1)
@@ -104,7 +97,7 @@ never : _≡_ {A = ℕ} 0 1 → ⊥
 never e = omega arith
 
 module _ (S : Stored) (workspace : List ℕ) where
-  pub load-refused : (k : ℕ) → FirstMet k (checks S (length workspace)) → loadStored S workspace ≡ refuseLoad workspace k
+  pub load-refused : (k : Refusal) → FirstMet k (checks S (length workspace)) → loadStored S workspace ≡ refuseLoad workspace k
   unfolding loadStored
   load-refused k h = ap (λ o. loadUnless o S workspace) (first-met k (checks S (length workspace)) h)
 
@@ -115,7 +108,7 @@ module _ (S : Stored) (workspace : List ℕ) where
       ap (λ o. loadUnless o S workspace) (none-met (checks S (length workspace)) h)
       ∙ ap (place workspace) (meaning-complete (view S) t (passes S (length workspace) h .links-fit) m)
 
-  exact-refused : (k : ℕ) → FirstMet k (checks S (length workspace)) → LoadsExactly S workspace
+  exact-refused : (k : Refusal) → FirstMet k (checks S (length workspace)) → LoadsExactly S workspace
   exact-refused k met =
       let first = first-met k (checks S (length workspace)) met in
       let answered : loadStored S workspace .answer ≡ refused k = ap (λ r. r .answer) (load-refused k met) in

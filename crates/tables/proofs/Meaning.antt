@@ -3,9 +3,9 @@ pub mod MeaningLaws
 pub mod Extent
 pub mod ChainMeaning
 pub mod Exists
+pub mod Held
 pub mod Accepts
 pub mod SoundMeans
 pub mod Hanging
 pub mod ReadingLaws
-pub mod Turns
 pub mod ReadingMeaning

@@ -1,37 +1,33 @@
 -- Loading what was written gives the term again, and writing what was loaded gives the table again exactly when its records are in prefix order.
 use Prim.Native.Nat.{ℕ, suc, _+_, _*_, _≤_}
 use mathlib.Core.Path.{_≡_, refl, sym, ap, subst, _∙_}
-use mathlib.Core.Bool.{false, and-eq-true-iff}
+use mathlib.Core.Bool.{and-eq-true-iff}
 use mathlib.Core.List.{List, _∷_}
 use native.Mathlib.Omega.{arith}
-use lib.Dec.{ltb, eqb}
+use lib.Dec.{eqb}
 use lib.ListN.{length, getD}
 use borrow.Author.Tests.{ltb-false, eqb-true}
 use Rattle.calculus.specs.Term.{term, Term}
-use Rattle.calculus.specs.Words.{size, workspaceLeast, workspaceMost}
+use Rattle.calculus.specs.Words.{size, workspaceMost}
 use Rattle.tables.specs.Records.{form1, recordAt, inForm1, view}
 use Rattle.tables.specs.Meaning.{Means}
-use Rattle.tables.specs.Refusals.{wrongWorkspace}
 use Rattle.tables.specs.Load.{load}
 use Rattle.tables.specs.Write.{entry, records, tableOf}
 use Rattle.tables.specs.Theorems.{Load-after-write, Write-after-load}
 use Rattle.tables.specs.PrefixOrder.{InPrefixOrder}
-use Rattle.tables.proofs.Refusal.Tests.{both-false}
 use Rattle.tables.proofs.Refusal.Fits.{valued, fitted}
 use Rattle.tables.proofs.Written.Standing.{records-length}
 use Rattle.tables.proofs.Written.TableWords.{entry-path, stand-words}
 use Rattle.tables.proofs.Written.PrefixStanding.{root-stands}
 use Rattle.tables.proofs.LoadLaws.{Passes, passes, passes-unmet, table-length, header-words, load-returned, loading-exact}
+use Rattle.tables.proofs.Written.WriteCode.{workspace-short}
 use Rattle.tables.proofs.Written.WriteLaws.{write-returned, write-filled}
 use Rattle.tables.proofs.Written.WrittenTable.{written-in-order, written-means, written-passes}
-
-workspace-most : (C : ℕ) → wrongWorkspace C ≡ false → C ≤ workspaceMost
-workspace-most C h = ltb-false workspaceMost C (both-false (ltb C workspaceLeast) (ltb workspaceMost C) h .1)
 
 pub load-after-write : Load-after-write
 load-after-write t rest table target a h e h′ u =
     let written = write-returned t rest table a h e in
-    let most : size t ≤ workspaceMost = omega (arith, workspace-most (length target) h′) in
+    let most : size t ≤ workspaceMost = omega (arith, workspace-short (length target) h′) in
     let unmet = passes-unmet (inForm1 (tableOf t)) (length target) (written-passes t a most (length target) h′ u) in
     let loaded = load-returned (inForm1 (tableOf t)) target unmet t (written-means t a most) in
     rw written (refl, ap (λ r. r .answer) loaded, ap (λ r. r .workspace) loaded)

@@ -2,10 +2,12 @@
 pub mod Records
 pub mod Types
 pub mod Meaning
-pub mod Refusals
+pub mod Header
+pub mod Values
 pub mod Links
-pub mod Chains
+pub mod Children
 pub mod Reading
+pub mod FreeNumbers
 pub mod Load
 pub mod Write
 pub mod Writing

@@ -7,15 +7,18 @@ use lib.ListN.{length}
 use Rattle.calculus.specs.Term.{Term}
 use Rattle.calculus.specs.Words.{words, size}
 use Rattle.calculus.specs.Workspace.{padded}
-use Rattle.calculus.specs.Refusal.{wrongLengthNumber, wrongHeaderNumber, wrongValueNumber, wrongLinkNumber, wrongChildrenNumber}
-use Rattle.calculus.specs.Refusal.{wrongFreeNumber, wrongWorkspaceNumber, tooLongNumber}
-use Rattle.tables.specs.Records.{Stored, view, inForm1}
+use Rattle.calculus.specs.Refusal.{Refusal, WrongLength, WrongHeader, WrongValue, WrongLink, WrongChildren, WrongFree, WrongWorkspace, TooLong}
+use Rattle.tables.specs.Records.{Table, Stored, view, inForm1}
 use Rattle.tables.specs.Meaning.{meaning}
-use Rattle.tables.specs.Refusals.{wrongWorkspace, wrongLength, wrongHeader, tooLong, wrongValue, wrongLink, wrongChildren, wrongFree}
+use Rattle.tables.specs.Header.{wrongWorkspace, wrongLength, wrongHeader, tooLong}
+use Rattle.tables.specs.Values.{wrongValue}
+use Rattle.tables.specs.Links.{wrongLink}
+use Rattle.tables.specs.Children.{wrongChildren}
+use Rattle.tables.specs.FreeNumbers.{wrongFree}
 
--- The answer of loading and of writing: the number of the refusal, or what is returned, the length of the term or the number of records.
+-- The answer of loading and of writing: a refusal, or what is returned, the length of the term or the number of records.
 pub data Answer : Type 0 where
-  refused : ℕ → Answer
+  refused : Refusal → Answer
   returned : ℕ → Answer
 
 -- Everything at exit.
@@ -24,35 +27,39 @@ pub record Loaded : Type 0 where
   pub workspace : List ℕ
 
 -- The refusals in the order in which loading checks them, 7, 1, 2, 8, 3, 4, 5, 6, each with whether it is met, by the table and the length C of
--- the workspace.
-abbrev pub checks : Stored → (C : ℕ) → List (ℕ × Bool)
-checks S C =
-    (wrongWorkspaceNumber, wrongWorkspace C)
-    ∷ (wrongLengthNumber, wrongLength S)
-    ∷ (wrongHeaderNumber, wrongHeader S)
-    ∷ (tooLongNumber, tooLong (view S) C)
-    ∷ (wrongValueNumber, wrongValue (view S))
-    ∷ (wrongLinkNumber, wrongLink (view S))
-    ∷ (wrongChildrenNumber, wrongChildren (view S))
-    ∷ (wrongFreeNumber, wrongFree (view S))
+-- the workspace. The last four are about the records.
+abbrev pub recordChecks : Table → List (Refusal × Bool)
+recordChecks T =
+    (WrongValue, wrongValue T)
+    ∷ (WrongLink, wrongLink T)
+    ∷ (WrongChildren, wrongChildren T)
+    ∷ (WrongFree, wrongFree T)
     ∷ []
 
-abbrev pub firstMet : List (ℕ × Bool) → Option ℕ
+abbrev pub checks : Stored → (C : ℕ) → List (Refusal × Bool)
+checks S C =
+    (WrongWorkspace, wrongWorkspace C)
+    ∷ (WrongLength, wrongLength S)
+    ∷ (WrongHeader, wrongHeader S)
+    ∷ (TooLong, tooLong (view S) C)
+    ∷ recordChecks (view S)
+
+abbrev pub firstMet : List (Refusal × Bool) → Option Refusal
 firstMet [] = none
 firstMet (c ∷ cs) = cond (c .1) (some (c .0)) (firstMet cs)
 
 -- A refusal changes nothing.
-abbrev pub refuseLoad : (workspace : List ℕ) → ℕ → Loaded
-refuseLoad workspace k = record { answer = refused k; workspace = workspace }
+abbrev pub refuseLoad : (workspace : List ℕ) → Refusal → Loaded
+refuseLoad workspace why = record { answer = refused why; workspace = workspace }
 
 -- The words of the term that the table means, and zeros after them. A table that meets no refusal means a term, so the first clause, which
 -- answers as for wrong children, never arises (`Sound-means`).
 abbrev pub place : (workspace : List ℕ) → Option Term → Loaded
-place workspace none = refuseLoad workspace wrongChildrenNumber
+place workspace none = refuseLoad workspace WrongChildren
 place workspace (some t) = record { answer = returned (size t); workspace = padded (length workspace) (words t) }
 
-abbrev pub loadUnless : Option ℕ → Stored → (workspace : List ℕ) → Loaded
-loadUnless (some k) S workspace = refuseLoad workspace k
+abbrev pub loadUnless : Option Refusal → Stored → (workspace : List ℕ) → Loaded
+loadUnless (some why) S workspace = refuseLoad workspace why
 loadUnless none S workspace = place workspace (meaning (view S))
 
 unfoldable pub loadStored : Stored → (workspace : List ℕ) → Loaded

@@ -5,12 +5,12 @@
 -- The relation is the definition of what a table means. `meaning` is how loading computes it; `Meaning-sound` and `Meaning-complete` state that
 -- it follows the relation.
 use Prim.Native.Nat.{ℕ, zero, suc, _*_}
-use mathlib.Core.Bool.{Bool, true, false, cond, _&&_}
+use mathlib.Core.Bool.{true, false, cond, _&&_}
 use mathlib.Core.Option.{Option, some, none, Option·map, bind}
-use lib.Dec.{leb, eqb}
+use lib.Dec.{eqb}
 use Rattle.calculus.specs.Term.{Sort, term, terms, branches, Exp, var, lam, app, con, case, nil, cons, end, branch, Term, Terms, Branches}
 use Rattle.calculus.specs.Words.{variableKind, abstractionKind, applicationKind, constructorKind, caseKind, branchKind, tagOf, countOf}
-use Rattle.tables.specs.Records.{Table, OfKind}
+use Rattle.tables.specs.Records.{Table, OfKind, isRecord}
 
 pub data Means (T : Table) : (s : Sort) → ℕ → Exp s → Type 0 where
   variable : {i : ℕ} → OfKind T variableKind i → Means T terms (T .at i .first) nil → Means T term i (var (T .at i .value))
@@ -50,9 +50,6 @@ termOf k v xs =
     (cond (eqb k applicationKind) (applicationOf xs)
     (cond (eqb k constructorKind) (some (con v xs))
     none)))
-
-abbrev pub isRecord : Table → ℕ → Bool
-isRecord T i = leb 1 i && leb i (T .n)
 
 -- What index i means, where `rec` tells what the indices that record i links to mean.
 abbrev pub Reading : Type 0

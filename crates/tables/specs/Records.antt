@@ -7,7 +7,7 @@ use mathlib.Core.Bool.{Bool, true, _&&_}
 use mathlib.Core.List.{List, [], _∷_}
 use mathlib.Core.Option.{Option, none}
 use native.Mathlib.Omega.{arith}
-use lib.Dec.{eqb}
+use lib.Dec.{leb, eqb}
 use lib.ListN.{length, getD}
 
 pub record Record : Type 0 where
@@ -26,6 +26,10 @@ pub record Table : Type 0 where
 -- Record i is one of the table's and has this kind.
 abbrev pub OfKind : Table → (kind i : ℕ) → Type 0
 OfKind T kind i = (1 ≤ i) × (i ≤ T .n) × (T .at i .kind ≡ kind)
+
+-- Whether an index is one of a record.
+abbrev pub isRecord : Table → ℕ → Bool
+isRecord T i = leb 1 i && leb i (T .n)
 
 -- Whether a test holds of every index from 1 to n, and the sum of a function over these indices.
 abbrev pub everyOf : ℕ → (ℕ → Bool) → Bool

@@ -9,9 +9,14 @@ use lib.ListN.{length, replicate}
 use Rattle.calculus.specs.Term.{Sort, term, Exp, Term}
 use Rattle.calculus.specs.Words.{words, size}
 use Rattle.calculus.specs.Accepted.{Accepted}
-use Rattle.tables.specs.Records.{Table, form1, Stored, view, inForm1}
-use Rattle.tables.specs.Meaning.{Means, isRecord, meaning}
-use Rattle.tables.specs.Refusals.{wrongWorkspace, wrongValue, wrongLink, wrongChildren, wrongFree}
+use Rattle.calculus.specs.Refusal.{Refusal}
+use Rattle.tables.specs.Records.{Table, form1, Stored, view, inForm1, isRecord}
+use Rattle.tables.specs.Meaning.{Means, meaning}
+use Rattle.tables.specs.Header.{wrongWorkspace}
+use Rattle.tables.specs.Values.{wrongValue}
+use Rattle.tables.specs.Links.{wrongLink}
+use Rattle.tables.specs.Children.{wrongChildren}
+use Rattle.tables.specs.FreeNumbers.{wrongFree}
 use Rattle.tables.specs.Load.{refused, returned, checks, loadStored, load}
 use Rattle.tables.specs.PrefixOrder.{InPrefixOrder}
 use Rattle.tables.specs.Write.{write}
@@ -45,20 +50,20 @@ Meaning-sound = (T : Table) (t : Term) → meaning T ≡ some t → Means T term
 abbrev pub Meaning-complete : Type 0
 Meaning-complete = (T : Table) (t : Term) → wrongLink T ≡ false → Means T term (T .root) t → meaning T ≡ some t
 
--- Number k is met, and none before it is.
-abbrev pub FirstMet : ℕ → List (ℕ × Bool) → Type 0
-FirstMet k [] = ⊥
-FirstMet k (c ∷ cs) = ((c .1 ≡ true) × (c .0 ≡ k)) ⊎ ((c .1 ≡ false) × FirstMet k cs)
+-- This refusal is met, and none before it is.
+abbrev pub FirstMet : Refusal → List (Refusal × Bool) → Type 0
+FirstMet why [] = ⊥
+FirstMet why (c ∷ cs) = ((c .1 ≡ true) × (c .0 ≡ why)) ⊎ ((c .1 ≡ false) × FirstMet why cs)
 
-abbrev pub NoneMet : List (ℕ × Bool) → Type 0
+abbrev pub NoneMet : List (Refusal × Bool) → Type 0
 NoneMet [] = Unit {0}
 NoneMet (c ∷ cs) = (c .1 ≡ false) × NoneMet cs
 
 -- Loading refuses exactly what it must, and a refusal changes nothing; otherwise the workspace holds the term that the table means, with zeros
 -- after it, and its length is returned. This holds in every form.
 pub record LoadsExactly (S : Stored) (workspace : List ℕ) : Type 0 where
-  pub refuses : (k : ℕ) → (loadStored S workspace .answer ≡ refused k) ↔ FirstMet k (checks S (length workspace))
-  pub unchanged : (k : ℕ) → loadStored S workspace .answer ≡ refused k → loadStored S workspace .workspace ≡ workspace
+  pub refuses : (why : Refusal) → (loadStored S workspace .answer ≡ refused why) ↔ FirstMet why (checks S (length workspace))
+  pub unchanged : (why : Refusal) → loadStored S workspace .answer ≡ refused why → loadStored S workspace .workspace ≡ workspace
   pub returns : (l : ℕ) → (loadStored S workspace .answer ≡ returned l) ↔ (NoneMet (checks S (length workspace)) × (view S .n ≡ l))
   pub holds : (l : ℕ) → loadStored S workspace .answer ≡ returned l
       → (t : Term) × Means (view S) term (view S .root) t × Accepted 0 t × (size t ≡ l)

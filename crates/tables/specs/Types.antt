@@ -2,6 +2,8 @@
 use Prim.Native.Nat.{ℕ}
 use mathlib.Core.List.{List}
 use mathlib.Core.Option.{Option, some, none}
+use Rattle.calculus.specs.Refusal.{Refusal}
+use Rattle.words.specs.Types.{refusalOf}
 use Rattle.tables.specs.declared.records.Form as codeForm
 use Rattle.tables.specs.declared.records.Form.the-variants as form
 use Rattle.tables.specs.declared.records.Declared as codeDeclared
@@ -32,14 +34,14 @@ declaredOf (declared.Children m) = some m
 abbrev pub recordOf : codeRecord.Record → Record
 recordOf r = record { kind = r .kind; value = r .value; first = r .first; next = r .next }
 
--- The number of the refusal that is met first, if one is met.
-abbrev pub metOf : codeCheck.Check → Option ℕ
-metOf (check.Met k) = some k
+-- The refusal that is met first, if one is met.
+abbrev pub metOf : codeCheck.Check → Option Refusal
+metOf (check.Met why) = some (refusalOf why)
 metOf check.Passed = none
 
--- A refusal's number, or the length of the term or the number of records.
+-- A refusal, or the length of the term or the number of records.
 abbrev pub answerOf : codeAnswer.Answer → Answer
-answerOf (answer.Refused k) = refused k
+answerOf (answer.Refused why) = refused (refusalOf why)
 answerOf (answer.Returned l) = returned l
 
 -- Everything at exit of loading: its result and the lent workspace.

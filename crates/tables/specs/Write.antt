@@ -9,9 +9,9 @@ use lib.ListN.{length}
 use Rattle.calculus.specs.Term.{Sort, Exp, var, lam, app, con, case, nil, cons, end, branch, Term, count}
 use Rattle.calculus.specs.Words.{variableKind, abstractionKind, applicationKind, constructorKind, caseKind, branchKind, pack, size}
 use Rattle.calculus.specs.Workspace.{termAt}
-use Rattle.calculus.specs.Refusal.{wrongLengthNumber, wrongWorkspaceNumber, noTermNumber}
+use Rattle.calculus.specs.Refusal.{Refusal, WrongLength, WrongWorkspace, NoTerm}
 use Rattle.tables.specs.Records.{Record, form1, recordsWords}
-use Rattle.tables.specs.Refusals.{wrongWorkspace}
+use Rattle.tables.specs.Header.{wrongWorkspace}
 use Rattle.tables.specs.Load.{Answer, refused, returned}
 
 abbrev pub entry : (kind value first next : ℕ) → Record
@@ -48,15 +48,15 @@ pub record Written : Type 0 where
   pub table : List ℕ
 
 -- A refusal changes nothing.
-abbrev pub refuseWrite : (table : List ℕ) → ℕ → Written
-refuseWrite table k = record { answer = refused k; table = table }
+abbrev pub refuseWrite : (table : List ℕ) → Refusal → Written
+refuseWrite table why = record { answer = refused why; table = table }
 
 -- Refusal 10 where the workspace holds no term of that length, then refusal 1 where the lent table has another length than the written one.
 abbrev pub writeTerm : (len : ℕ) (table : List ℕ) → Option Term → Written
-writeTerm len table none = refuseWrite table noTermNumber
+writeTerm len table none = refuseWrite table NoTerm
 writeTerm len table (some t) =
-    cond (eqb (length table) (form1 .recordWords * (len + 1))) (record { answer = returned len; table = tableOf t }) (refuseWrite table wrongLengthNumber)
+    cond (eqb (length table) (form1 .recordWords * (len + 1))) (record { answer = returned len; table = tableOf t }) (refuseWrite table WrongLength)
 
 unfoldable pub write : (workspace : List ℕ) (len : ℕ) (table : List ℕ) → Written
 write workspace len table =
-    cond (wrongWorkspace (length workspace)) (refuseWrite table wrongWorkspaceNumber) (writeTerm len table (termAt workspace len))
+    cond (wrongWorkspace (length workspace)) (refuseWrite table WrongWorkspace) (writeTerm len table (termAt workspace len))

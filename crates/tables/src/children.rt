@@ -9,8 +9,7 @@ ghost use mathlib.Core.Path.{_≡_};
 ghost use Prim.Native.Nat.{_≤_};
 ghost use lib.ListN.{length};
 ghost use Rattle.tables.specs.Types.{declaredOf, stored, viewed};
-ghost use Rattle.tables.specs.Refusals.{allTerms, startsAbove, caseFits, agrees, recordFits, wrongChildren};
-ghost use Rattle.tables.specs.Chains.{chainFrom, branchesRise, numberFits, Walkable};
+ghost use Rattle.tables.specs.Children.{allTerms, startsAbove, caseFits, agrees, recordFits, wrongChildren, chainFrom, branchesRise, numberFits, Walkable};
 
 // How many records a chain has.
 pub fn chain_length(table: &[u32], form: Form, link: usize) -> usize

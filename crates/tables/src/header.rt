@@ -3,19 +3,17 @@ use crate::records::Form;
 use crate::records::count;
 use crate::records::root;
 use words::Word;
+use words::workspace::sized;
 ghost use mathlib.Core.Path.{_≡_};
 ghost use mathlib.Core.Bool.{false};
 ghost use Rattle.tables.specs.Types.{stored};
-ghost use Rattle.tables.specs.Refusals.{wrongWorkspace, wrongLength, wrongHeader};
+ghost use Rattle.tables.specs.Header.{wrongWorkspace, wrongLength, wrongHeader};
 
 // Whether a workspace of so many words is refused.
 pub fn wrong_workspace(length: usize) -> bool
     ensures { λ r. ⌜ r ≡ wrongWorkspace length ⌝ }
 {
-    if length < Word::WORKSPACE_LEAST {
-        return true;
-    }
-    Word::WORKSPACE_MOST < length
+    !sized(length, length, length)
 }
 
 pub fn wrong_length(table: &[u32], form: Form) -> bool

@@ -25,19 +25,21 @@ use words::is_term;
 use words::refusal::Refusal;
 use writing::put_records;
 ghost use mathlib.Core.Path.{_≡_};
-ghost use Rattle.tables.specs.Load.{checks, firstMet, load};
+ghost use mathlib.Core.Bool.{false};
+ghost use Rattle.tables.specs.Header.{wrongLength, wrongHeader};
+ghost use Rattle.tables.specs.Load.{recordChecks, checks, firstMet, load};
 ghost use Rattle.tables.specs.Write.{write};
-ghost use Rattle.tables.specs.Types.{stored, metOf, loadedOf, writtenOf};
+ghost use Rattle.tables.specs.Types.{stored, viewed, metOf, loadedOf, writtenOf};
 
-// What loading and writing answer: the number of the refusal, or the length of the term or the number of records.
+// What loading and writing answer: a refusal, or the length of the term or the number of records.
 pub enum Answer {
-    Refused(u32),
+    Refused(Refusal),
     Returned(usize),
 }
 
-// What the checks of a table come to: the number of the refusal that is met first, or that none is met.
+// What the checks of a table come to: the refusal that is met first, or that none is met.
 enum Check {
-    Met(u32),
+    Met(Refusal),
     Passed,
 }
 
@@ -45,28 +47,36 @@ fn first_met(table: &[u32], form: Form, room: usize) -> Check
     ensures { λ r. ⌜ metOf r ≡ firstMet (checks (stored form (now (table .entry))) room) ⌝ }
 {
     if wrong_workspace(room) {
-        return Check::Met(Refusal::WORKSPACE);
+        return Check::Met(Refusal::WrongWorkspace);
     }
     if wrong_length(table, form) {
-        return Check::Met(Refusal::LENGTH);
+        return Check::Met(Refusal::WrongLength);
     }
     if wrong_header(table, form) {
-        return Check::Met(Refusal::HEADER);
+        return Check::Met(Refusal::WrongHeader);
     }
     if room < count(table) {
-        return Check::Met(Refusal::LONG);
+        return Check::Met(Refusal::TooLong);
     }
+    record_met(table, form)
+}
+
+// The same of the refusals that are about the records.
+fn record_met(table: &[u32], form: Form) -> Check
+    requires { ⌜ (wrongLength (stored form (now table)) ≡ false) × (wrongHeader (stored form (now table)) ≡ false) ⌝ }
+    ensures { λ r. ⌜ metOf r ≡ firstMet (recordChecks (viewed form (now (table .entry)))) ⌝ }
+{
     if wrong_values(table, form) {
-        return Check::Met(Refusal::VALUE);
+        return Check::Met(Refusal::WrongValue);
     }
     if wrong_links(table, form) {
-        return Check::Met(Refusal::LINK);
+        return Check::Met(Refusal::WrongLink);
     }
     if wrong_children(table, form) {
-        return Check::Met(Refusal::CHILDREN);
+        return Check::Met(Refusal::WrongChildren);
     }
     if wrong_free(table, form) {
-        return Check::Met(Refusal::FREE);
+        return Check::Met(Refusal::WrongFree);
     }
     Check::Passed
 }
@@ -77,7 +87,7 @@ pub fn load(table: &[u32], workspace: &mut [u32]) -> Answer
 {
     let form = Form::One;
     match first_met(table, form, workspace.len()) {
-        Check::Met(number) => Answer::Refused(number),
+        Check::Met(refusal) => Answer::Refused(refusal),
         Check::Passed => {
             let end = read_term(table, form, root(table), workspace, 0);
             clear(workspace, end);
@@ -92,13 +102,13 @@ pub fn write(workspace: &[u32], length: usize, table: &mut [u32]) -> Answer
     ensures { λ r. ⌜ writtenOf r (now (table .exit)) ≡ write (now (workspace .entry)) length (now (table .entry)) ⌝ }
 {
     if wrong_workspace(workspace.len()) {
-        return Answer::Refused(Refusal::WORKSPACE);
+        return Answer::Refused(Refusal::WrongWorkspace);
     }
     if !is_term(workspace, length) {
-        return Answer::Refused(Refusal::TERM);
+        return Answer::Refused(Refusal::NoTerm);
     }
     if table.len() != Record::WORDS * (length + 1) {
-        return Answer::Refused(Refusal::LENGTH);
+        return Answer::Refused(Refusal::WrongLength);
     }
     let header = Record {
         kind: Record::FORM,

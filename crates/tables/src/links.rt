@@ -9,9 +9,9 @@ ghost use mathlib.Core.Bool.{true, false};
 ghost use Prim.Native.Nat.{ℕ, _≤_};
 ghost use lib.ListN.{getD};
 ghost use Rattle.tables.specs.Records.{Inside};
+ghost use Rattle.tables.specs.Header.{wrongLength, wrongHeader};
+ghost use Rattle.tables.specs.Links.{linkFits, namings, wrongLink, linksFit, allLinksFit, namedOnce};
 ghost use Rattle.tables.specs.Types.{stored, viewed};
-ghost use Rattle.tables.specs.Refusals.{wrongLength, wrongHeader, linkFits, namings, wrongLink};
-ghost use Rattle.tables.specs.Links.{linksFit, allLinksFit, namedOnce};
 
 // Whether a link of record i is 0 or names a later record of n.
 fn link_fits(n: usize, i: usize, link: usize) -> bool

@@ -7,10 +7,9 @@ ghost use lib.ListN.{length};
 ghost use lib.Seq.{sets};
 ghost use Rattle.calculus.specs.Words.{word, tagOf};
 ghost use Rattle.calculus.specs.Accepted.{indexLimit};
-ghost use Rattle.words.specs.Bound.{binding};
 ghost use Rattle.tables.specs.Records.{headerCount, headerRoot, recordAt, declaredAt, Inside, form1, inForm1, recordsWords};
-ghost use Rattle.tables.specs.Types.{formOf, stored, declaredOf, recordOf};
 ghost use Rattle.tables.specs.Reading.{payload, Wordable};
+ghost use Rattle.tables.specs.Types.{formOf, stored, declaredOf, recordOf};
 ghost use Rattle.tables.specs.Writing.{Puttable};
 
 pub enum Form {
@@ -129,18 +128,6 @@ impl Record {
         ensures { λ r. ⌜ r ≡ tagOf (self .value) ⌝ }
     {
         self.value / Word::COUNT_BASE
-    }
-
-    // How many binders a record puts around its children.
-    pub fn binders(self) -> u32
-        ensures { λ r. ⌜ r ≡ binding (self .kind) (self .value) ⌝ }
-    {
-        let kind = self.kind;
-        match kind {
-            Word::ABSTRACTION => 1,
-            Word::BRANCH => self.value % Word::COUNT_BASE,
-            _ => 0,
-        }
     }
 }
 

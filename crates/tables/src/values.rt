@@ -6,9 +6,11 @@ use words::Word;
 ghost use mathlib.Core.Path.{_≡_};
 ghost use mathlib.Core.Bool.{false, _&&_};
 ghost use lib.Dec.{leb};
-ghost use Rattle.calculus.specs.Words.{branchKind};
+ghost use Rattle.calculus.specs.Words.{branchKind, tagOf, countOf};
+ghost use Rattle.calculus.specs.Accepted.{argumentLimit};
 ghost use Rattle.tables.specs.Types.{stored, viewed};
-ghost use Rattle.tables.specs.Refusals.{wrongLength, isTag, valueFits, wrongValue};
+ghost use Rattle.tables.specs.Header.{wrongLength};
+ghost use Rattle.tables.specs.Values.{isTag, valueFits, wrongValue};
 
 fn is_tag(tag: u32) -> bool
     ensures { λ r. ⌜ r ≡ isTag tag ⌝ }
@@ -19,7 +21,17 @@ fn is_tag(tag: u32) -> bool
     tag <= Word::TAG_MOST
 }
 
-// Whether a record may have this kind and this value. Every bound count that a branch's value holds is in range.
+// Whether a branch may have this value: a tag and a bound count.
+fn is_tagged(value: u32) -> bool
+    ensures { λ r. ⌜ r ≡ (isTag (tagOf value) && leb (countOf value) argumentLimit) ⌝ }
+{
+    if !is_tag(value / Word::COUNT_BASE) {
+        return false;
+    }
+    value % Word::COUNT_BASE <= Word::ARGUMENTS_MOST
+}
+
+// Whether a record may have this kind and this value.
 fn value_fits(kind: u32, value: u32) -> bool
     ensures { λ r. ⌜ r ≡ (leb kind branchKind && valueFits kind value) ⌝ }
 {
@@ -29,7 +41,7 @@ fn value_fits(kind: u32, value: u32) -> bool
     match kind {
         Word::VARIABLE => value <= Record::INDEX_MOST,
         Word::CONSTRUCTOR => is_tag(value),
-        Word::BRANCH => is_tag(value / Word::COUNT_BASE),
+        Word::BRANCH => is_tagged(value),
         _ => value == 0,
     }
 }

@@ -40,11 +40,11 @@ fn returns_count(answer: Answer, count: usize) -> bool
 
 // Whether the answer is the refusal that the line names last.
 fn refuses(line: &[u8], at: usize, answer: Answer) -> bool {
-    let Answer::Refused(n) = answer else {
+    let Answer::Refused(refusal) = answer else {
         return false;
     };
     let number = read_number(line, at);
-    (n == number.value) & (number.next == line.len())
+    (refusal.number() == number.value) & (number.next == line.len())
 }
 
 // A word of the chain's table. The header differs from an abstraction over the next record in the second word alone.

@@ -11,6 +11,9 @@ use Rattle.rounds.specs.declared.Session.{Session}
 use Rattle.rounds.specs.Session.{fresh}
 use Rattle.rounds.specs.Press.{press}
 use Rattle.rounds.specs.Types.{answerOf, sessionOf, memoryOf, callOf, pressedOf}
+use Rattle.calculus.specs.Refusal.{number}
+use Rattle.words.specs.declared.refusal.Refusal.{Refusal}
+use Rattle.words.specs.Types.{refusalOf}
 use Rattle.tables.specs.declared.Answer.{Answer}
 use Rattle.tables.specs.declared.Answer.the-variants as answer
 use Rattle.tables.specs.Load.{load}
@@ -48,7 +51,7 @@ module _ (n : ℕ) (h : n ≤ lentMost) where
     loads table ws e q = ap (λ x. loadedOf x ws) (sym e) ∙ q ∙ ap (load table) (take-replicate 0 n lentMost h)
 
     module _ (ws : List ℕ) {a : Answer} (loaded : loadedOf a ws ≡ load left (take n array)) where
-      pub refused-left : {k : ℕ} → a ≡ answer.Refused k → refuses k ≡ judged (some asked)
+      pub refused-left : {why : Refusal} → a ≡ answer.Refused why → refuses (number (refusalOf why)) ≡ judged (some asked)
       refused-left e = ap (λ q. loadedLeft asked (q .workspace) (q .answer)) (loads left ws e loaded)
 
       after-left : {l : ℕ} → a ≡ answer.Returned l
@@ -56,7 +59,7 @@ module _ (n : ℕ) (h : n ≤ lentMost) where
       after-left e = ap (λ q. loadedLeft asked (q .workspace) (q .answer)) (loads left ws e loaded)
 
       module _ {l : ℕ} (l-is : a ≡ answer.Returned l) (vs : List ℕ) {b : Answer} (loaded-right : loadedOf b vs ≡ load right (take n array)) where
-        pub refused-right : {k : ℕ} → b ≡ answer.Refused k → refuses k ≡ judged (some asked)
+        pub refused-right : {why : Refusal} → b ≡ answer.Refused why → refuses (number (refusalOf why)) ≡ judged (some asked)
         refused-right e = ap (λ q. loadedRight n budget ws l (q .workspace) (q .answer)) (loads right vs e loaded-right) ∙ after-left l-is
 
         -- The press on both arrays' first words.

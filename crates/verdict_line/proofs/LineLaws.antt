@@ -1,19 +1,18 @@
 -- The length of a line, and the line of a workspace that is lent in part.
 use Prim.Native.Nat.{ℕ, zero, suc, _/_, _%_, _≤_, _<_, min}
 use mathlib.Core.Path.{_≡_, refl, sym, _∙_, ap}
-use mathlib.Core.Bool.{Bool, true, false, or-true}
+use mathlib.Core.Bool.{Bool, true, false, and-false}
 use mathlib.Core.List.{List, [], _∷_}
 use mathlib.Core.Option.{some}
 use native.Mathlib.Omega.{arith}
 use native.Mathlib.Decide.{decLt}
-use lib.Dec.{ltb}
 use lib.Seq.{length-sets}
-use borrow.Author.Tests.{lt-ltb}
+use borrow.Author.Tests.{lt-leb}
 use lib.ListN.{length, take, replicate, length-append, length-replicate}
 use Rattle.calculus.specs.Rounds.{Verdict, Same, Different, Budget, Full}
 use Rattle.verdict_line.specs.Line.{Line, input, refuses, shows, judged, nameOf, lineBytes, lineMost, printed}
 use Rattle.calculus.specs.Words.{workspaceMost}
-use Rattle.calculus.specs.Refusal.{wrongWorkspaceNumber}
+use Rattle.calculus.specs.Refusal.{WrongWorkspace, number}
 use Rattle.tables.specs.Load.{refused, loadStored, load}
 use Rattle.verdict_line.specs.Request.{Request, request}
 use Rattle.text.specs.Put.{Put}
@@ -45,11 +44,11 @@ take-replicate a (suc n) zero h = absurd (omega arith)
 take-replicate a (suc n) (suc m) h = ap (_∷_ a) (take-replicate a n m (omega arith))
 
 -- A workspace above the limit is refused, whatever its length.
-too-large : (table ws : List ℕ) → workspaceMost < length ws → load table ws .answer ≡ refused wrongWorkspaceNumber
+too-large : (table ws : List ℕ) → workspaceMost < length ws → load table ws .answer ≡ refused WrongWorkspace
 unfolding loadStored
-too-large table ws h = rw (lt-ltb workspaceMost (length ws) h, or-true)
+too-large table ws h = rw (lt-leb (length ws) workspaceMost h, and-false)
 
-too-large-line : (q : Request) → workspaceMost < q .C → judged (some q) ≡ refuses wrongWorkspaceNumber
+too-large-line : (q : Request) → workspaceMost < q .C → judged (some q) ≡ refuses (number WrongWorkspace)
 too-large-line q h = rw (too-large (q .left) (replicate (q .C) 0) (rw length-replicate h))
 
 -- So a request is judged by the words that are lent.

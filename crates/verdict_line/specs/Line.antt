@@ -33,11 +33,11 @@ pressed C budget left right l r =
     .answer)
 
 abbrev pub loadedRight : (C budget : ℕ) → (left : List ℕ) → (l : ℕ) → (right : List ℕ) → Answer → Line
-loadedRight C budget left l right (refused n) = refuses n
+loadedRight C budget left l right (refused why) = refuses (number why)
 loadedRight C budget left l right (returned r) = pressed C budget left right l r
 
 abbrev pub loadedLeft : Request → (left : List ℕ) → Answer → Line
-loadedLeft q left (refused n) = refuses n
+loadedLeft q left (refused why) = refuses (number why)
 loadedLeft q left (returned l) =
     let loaded = load (q .right) (replicate (q .C) 0) in loadedRight (q .C) (q .budget) left l (loaded .workspace) (loaded .answer)
 

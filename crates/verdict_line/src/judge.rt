@@ -74,9 +74,9 @@ fn judge_with(bytes: &[u8], left: Table, right: Table, budget: u32, c: u32) -> L
     let mut right_words = [0u32; LENT_MOST];
     let mut scratch = [0u32; LENT_MOST];
     match load_from(bytes, left, &mut left_words[..n]) {
-        tables::Answer::Refused(number) => Line::Refuses(number),
+        tables::Answer::Refused(refusal) => Line::Refuses(refusal.number()),
         tables::Answer::Returned(l) => match load_from(bytes, right, &mut right_words[..n]) {
-            tables::Answer::Refused(number) => Line::Refuses(number),
+            tables::Answer::Refused(refusal) => Line::Refuses(refusal.number()),
             tables::Answer::Returned(r) => {
                 let pressed = press_owned(
                     &mut left_words[..n],

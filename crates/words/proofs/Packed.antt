@@ -1,6 +1,6 @@
 -- Frames in one word: what the parts of a word made of four numbers are, and of the word before it.
-use Prim.Native.Nat.{ℕ, _+_, _-_, _*_, _/_, _%_, _≤_, _<_}
-use mathlib.Core.Path.{_≡_, ap}
+use Prim.Native.Nat.{ℕ, _+_, _-_, _*_, _/_, _%_, _<_}
+use mathlib.Core.Path.{_≡_}
 use native.Mathlib.Omega.{arith}
 use Rattle.words.specs.Frames.{frame}
 use Rattle.words.specs.Packed.{termsBase, branchesBase, tagBase, unpacked, Packs}

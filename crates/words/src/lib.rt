@@ -142,7 +142,7 @@ pub fn skip(ws: &[u32], at: usize, items: usize) -> usize
     i
 }
 
-// Whether the first `n` words are one whole accepted term of at most as many words as a workspace has (refusal 10), by a scan from the left.
+// Whether the first `n` words are one whole accepted term of at most as many words as a workspace has (refusal 10).
 pub fn is_term(ws: &[u32], n: usize) -> bool
     ensures { λ r. ⌜ r ≡ isTerm (now (ws .entry)) n ⌝ }
 {
@@ -152,6 +152,14 @@ pub fn is_term(ws: &[u32], n: usize) -> bool
     if n > ws.len() {
         return false;
     }
+    is_whole(ws, n)
+}
+
+// The same for words of a workspace, by a scan from the left.
+fn is_whole(ws: &[u32], n: usize) -> bool
+    requires { ⌜ (n ≤ workspaceMost) × (n ≤ length (now ws)) ⌝ }
+    ensures { λ r. ⌜ r ≡ isTerm (now (ws .entry)) n ⌝ }
+{
     // The frames are the current one, and the entries below `top`, which wait. Each word adds at most one.
     let mut stack = [0; Frame::ROOM];
     let mut top: usize = 0;

@@ -64,9 +64,9 @@ pub fn contracting() -> Vec<Case> {
 pub fn untouched() -> Vec<Case> {
     vec![
         looping_beside_normal(),
-        looping_under(2_030),
+        looping_under(1_000),
         looping_before(2_001),
-        looping_in_stuck_cases(255),
+        looping_in_stuck_cases(63),
         addition_before(30, 1_501),
     ]
 }

@@ -14,7 +14,7 @@ use Rattle.calculus.specs.Words.{tagOf}
 use Rattle.calculus.specs.Accepted.{branchLimit, StartsAbove, Rising}
 use Rattle.tables.specs.Records.{Table}
 use Rattle.tables.specs.Meaning.{Means, variable, abstraction, application, constructor, case-of, no-term, a-term, no-branch, a-branch}
-use Rattle.tables.specs.Refusals.{chain, isBranch, allTerms, allBranches, startsAbove, rising, caseFits}
+use Rattle.tables.specs.Children.{chain, isBranch, allTerms, allBranches, startsAbove, rising, caseFits}
 use Rattle.tables.proofs.Refusal.Tests.{if-false}
 use Rattle.tables.proofs.Refusal.LinkRules.{Linked, Enough, nothing-left, next-enough}
 use Rattle.tables.proofs.Meaning.MeaningLaws.{term-inside}

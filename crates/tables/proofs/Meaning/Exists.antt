@@ -13,7 +13,7 @@ use Rattle.calculus.specs.Words.{branchKind}
 use Rattle.calculus.specs.Accepted.{argumentLimit, branchLimit}
 use Rattle.tables.specs.Records.{Record, Table}
 use Rattle.tables.specs.Meaning.{Means, variable, abstraction, application, constructor, case-of, no-term, a-term, no-branch, a-branch}
-use Rattle.tables.specs.Refusals.{chain, children, isBranch, allTerms, allBranches, rising, caseFits, childrenFit}
+use Rattle.tables.specs.Children.{chain, children, isBranch, allTerms, allBranches, rising, caseFits, childrenFit}
 use Rattle.tables.proofs.Refusal.LinkRules.{Ahead, ahead-from, Linked, Enough, nothing-left, next-enough, children-enough}
 use Rattle.tables.proofs.Meaning.ChainMeaning.{chain-record, terms-chain}
 use Rattle.tables.proofs.Refusal.Fits.{Valued, Fitted}

@@ -14,7 +14,7 @@ use Rattle.calculus.specs.Term.{Sort, term, terms, branches, Exp}
 use Rattle.calculus.specs.Words.{words, size}
 use Rattle.tables.specs.Records.{Table, sumOf}
 use Rattle.tables.specs.Meaning.{Means, variable, abstraction, application, constructor, case-of, no-term, a-term, no-branch, a-branch}
-use Rattle.tables.specs.Refusals.{naming, namings}
+use Rattle.tables.specs.Links.{naming, namings}
 use Rattle.tables.proofs.Refusal.Sums.{sum-eq, sum-ones, sum-add, sum-times, sum-swap, sum-unnamed, sum-named}
 use Rattle.tables.proofs.Refusal.LinkRules.{Ahead, Linked, Enough, nothing-left, first-enough, next-enough}
 

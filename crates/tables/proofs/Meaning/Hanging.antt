@@ -9,8 +9,7 @@ use native.Mathlib.Omega.{arith}
 use lib.Dec.{eqb}
 use borrow.Author.Tests.{ne-eqb}
 use Rattle.tables.specs.Records.{Record, Table}
-use Rattle.tables.specs.Refusals.{chain}
-use Rattle.tables.specs.Chains.{chainFrom}
+use Rattle.tables.specs.Children.{chain, chainFrom}
 use Rattle.tables.specs.Reading.{hanging}
 use Rattle.tables.proofs.Refusal.Tests.{if-false}
 use Rattle.tables.proofs.Refusal.LinkRules.{Ahead, Linked, Enough, nothing-left, first-enough, next-enough}

@@ -10,10 +10,8 @@ use borrow.Author.Tests.{eqb-true, eq-eqb, ne-eqb}
 use Rattle.calculus.specs.Term.{Sort, term, terms, branches, Exp, lam, case, nil, cons, Term, Terms}
 use Rattle.calculus.specs.Words.{variableKind, abstractionKind, applicationKind, constructorKind, caseKind, branchKind}
 use Rattle.calculus.proofs.All.{All, holds, nothing, all-map, all-bind, all-eqb, all-some}
-use Rattle.tables.specs.Records.{Table, OfKind}
-use Rattle.tables.specs.Meaning.{Means, variable, abstraction, application, constructor, case-of, no-term, a-term, no-branch, a-branch}
-use Rattle.tables.specs.Meaning.{variableOf, onlyOne, applicationOf, termOf, isRecord, Reading}
-use Rattle.tables.specs.Meaning.{meantTerm, meantTerms, meantBranch, meantBranches, meant, meaning}
+use Rattle.tables.specs.Records.{Table, OfKind, isRecord}
+use Rattle.tables.specs.Meaning.{Means, variable, abstraction, application, constructor, case-of, no-term, a-term, no-branch, a-branch, variableOf, onlyOne, applicationOf, termOf, Reading, meantTerm, meantTerms, meantBranch, meantBranches, meant, meaning}
 use Rattle.tables.proofs.Refusal.Tests.{if-true, if-false, all-if, isRecord-true, record-isRecord}
 use Rattle.tables.proofs.Refusal.LinkRules.{Ahead, ahead-later, Linked, linked}
 use Rattle.tables.specs.Theorems.{Means-unique, Meaning-sound, Meaning-complete}

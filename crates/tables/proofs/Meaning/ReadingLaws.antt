@@ -12,9 +12,9 @@ use Rattle.calculus.specs.Words.{variableKind, constructorKind, caseKind, branc
 use Rattle.calculus.specs.Accepted.{argumentLimit, indexLimit}
 use Rattle.words.specs.Limits.{payloadBound}
 use Rattle.tables.specs.Records.{Record, Table, Stored, recordAt, view}
-use Rattle.tables.specs.Refusals.{isTag, valueFits, children, childrenFit}
-use Rattle.tables.specs.Chains.{chainFrom}
-use Rattle.tables.specs.Reading.{ahead, payload, Wordable, chainWords, termWords, chainScoped, termScoped, Readable}
+use Rattle.tables.specs.Values.{isTag, valueFits}
+use Rattle.tables.specs.Children.{children, childrenFit, chainFrom}
+use Rattle.tables.specs.Reading.{ahead, payload, Wordable, chainWords, termWords, Readable}
 use Rattle.tables.proofs.Refusal.LinkRules.{Ahead, Linked, linked}
 use Rattle.tables.proofs.Refusal.Fits.{valued, fitted}
 use Rattle.tables.proofs.Meaning.Hanging.{hanging-zero, hanging-record}
@@ -29,14 +29,6 @@ module _ (T : Table) where
   pub chainWords-record : Linked T → (i : ℕ) → 1 ≤ i → i ≤ T .n → chainWords T i ≡ termWords T i ++ chainWords T (T .at i .next)
   unfolding chainWords
   chainWords-record L i l u = hanging-record T [] _ L i l u
-
-  pub chainScoped-end : (l d : ℕ) → l ≡ 0 → chainScoped T l d ≡ true
-  unfolding chainScoped
-  chainScoped-end l d e = rw e (ap (λ (f : ℕ → Bool). f d) (hanging-zero T (λ d′. true) _ (T .n)))
-
-  pub chainScoped-record : Linked T → (i d : ℕ) → 1 ≤ i → i ≤ T .n → chainScoped T i d ≡ (termScoped T i d && chainScoped T (T .at i .next) d)
-  unfolding chainScoped
-  chainScoped-record L i d l u = ap (λ (f : ℕ → Bool). f d) (hanging-record T (λ d′. true) _ L i l u)
 
   -- Fewer records are ahead at a link of a record than at the record.
   pub ahead-end : (l : ℕ) → l ≡ 0 → ahead T l ≡ 0
@@ -85,7 +77,6 @@ pub record ReadOn (S : Stored) (link : ℕ) (r : Record) : Type 0 where
   pub fewer-after : ahead (view S) (r .next) < ahead (view S) link
   pub words : chainWords (view S) link ≡ termWords (view S) link ++ chainWords (view S) (r .next)
   pub words-length : length (chainWords (view S) link) ≡ length (termWords (view S) link) + length (chainWords (view S) (r .next))
-  pub free-numbers : (d : ℕ) → chainScoped (view S) link d ≡ (termScoped (view S) link d && chainScoped (view S) (r .next) d)
   pub wordable : Wordable (r .kind) (r .value) (length (children (view S) link))
 
 pub read-on : (S : Stored) (link : ℕ) (r : Record) → Readable S link → 1 ≤ link → r ≡ recordAt S link → ReadOn S link r
@@ -107,7 +98,6 @@ read-on S link r h v e =
       fewer-after = ahead-falls T link _ v u (L .next-ahead link v u);
       words = chainWords-record T L link v u;
       words-length = ap length (chainWords-record T L link v u) ∙ length-append (termWords T link) _;
-      free-numbers = λ d. chainScoped-record T L link d v u;
       wordable = record {
         kind-fits = omega (arith, values .known-kind link v u);
         payload-fits = payload-small (T .at link .kind) (T .at link .value) _ small few;

@@ -1,30 +1,36 @@
 -- What the readers make of a table is what the table means: the words of the term, and whether its free numbers are in range.
-use Prim.Native.Nat.{ℕ, suc, _+_, _-_, _≤_}
+use Prim.Native.Nat.{ℕ, _+_, _-_, _≤_}
 use mathlib.Core.Path.{_≡_, refl, ap, ap₂, sym, _∙_}
-use mathlib.Core.Bool.{not, _&&_, and-true}
-use mathlib.Core.List.{_∷_, _++_, append-nil}
+use mathlib.Core.Bool.{not}
+use mathlib.Core.List.{List, _∷_, _++_, append-nil}
 use mathlib.Core.Logic.{inr}
-use native.Mathlib.Nat.{add-zero}
-use native.Mathlib.Numerals.{add-one}
 use native.Mathlib.Omega.{arith}
 use lib.Dec.{eqb}
-use lib.ListN.{length}
+use lib.ListN.{length, drop}
+use lib.Seq.{sets-eq}
 use borrow.Author.Tests.{eqb-true}
 use Rattle.calculus.specs.Term.{Sort, term, terms, branches, Exp, Term, Branches, count}
-use Rattle.calculus.specs.Words.{abstractionKind, applicationKind, caseKind, word, words, countOf}
+use Rattle.calculus.specs.Words.{abstractionKind, applicationKind, caseKind, word, words, size, workspaceMost}
 use Rattle.calculus.proofs.WordLaws.{pack-of-parts}
-use Rattle.words.specs.Bound.{binding}
+use Rattle.words.specs.IsTerm.{isTerm}
+use Rattle.words.specs.Placed.{Placed}
+use Rattle.words.proofs.PlacedLaws.{placed-length}
 use Rattle.tables.specs.Records.{Table, Stored, view}
 use Rattle.tables.specs.Meaning.{Means, variable, abstraction, application, constructor, case-of, no-term, a-term, no-branch, a-branch}
-use Rattle.tables.specs.Refusals.{valueFits, children, freeFits, freeAbove, wrongFree}
-use Rattle.tables.specs.Reading.{chainWords, termWords, chainScoped, termScoped, Readable}
+use Rattle.tables.specs.Values.{valueFits}
+use Rattle.tables.specs.Children.{children}
+use Rattle.tables.specs.Reading.{chainWords, termWords, Readable}
+use Rattle.tables.specs.FreeNumbers.{freeAbove, wrongFree}
 use Rattle.tables.proofs.Refusal.LinkRules.{Linked, linked, children-enough, next-enough}
-use Rattle.tables.proofs.Refusal.Fits.{Valued, valued, fitted}
+use Rattle.tables.proofs.Refusal.Fits.{Valued, valued, Fitted, fitted}
 use Rattle.tables.proofs.Meaning.MeaningLaws.{term-inside, meaning-complete}
 use Rattle.tables.proofs.Meaning.ChainMeaning.{terms-chain, branches-chain}
 use Rattle.tables.proofs.Meaning.Exists.{record-means}
+use Rattle.tables.proofs.Meaning.Extent.{extent, extent-zero, root-extent, means-sized}
+use Rattle.tables.proofs.Meaning.Accepts.{free-is-term}
+use Rattle.tables.proofs.Refusal.RecordLaws.{sized}
 use Rattle.tables.proofs.Meaning.Hanging.{chain-next}
-use Rattle.tables.proofs.Meaning.ReadingLaws.{chainWords-end, chainWords-record, chainScoped-end, chainScoped-record}
+use Rattle.tables.proofs.Meaning.ReadingLaws.{chainWords-end, chainWords-record}
 
 module _ (T : Table) (L : Linked T) (values : Valued T) where
   -- An abstraction and an application have the value 0.
@@ -65,41 +71,43 @@ module _ (T : Table) (L : Linked T) (values : Valued T) where
   means-spelled {i = i} (a-branch {b = b} k m ms) =
       chainWords-record T L i (k .0) (k .1) ∙ rw (k .2, pack-of-parts, means-spelled m, append-nil (words b), means-spelled ms)
 
-  abbrev Scoped : {s : Sort} → ℕ → ℕ → Exp s → Type 0
-  Scoped {s = term} i d e = termScoped T i d ≡ freeFits d e
-  Scoped {s = terms} l d e = chainScoped T l d ≡ freeFits d e
-  Scoped {s = branches} l d e = chainScoped T l d ≡ freeFits d e
-
-  pub means-scoped : {s : Sort} {i : ℕ} {e : Exp s} → Means T s i e → (d : ℕ) → Scoped i d e
-  unfolding binding
-  means-scoped (variable k m) d = rw (k .2, means-scoped m (d + 0), and-true)
-  means-scoped (abstraction {b = b} k m) d = rw (k .2, add-one, means-scoped m (suc d), and-true)
-  means-scoped (application {f = f} {a = a} k m) d = rw (k .2, add-zero, means-scoped m d, and-true (freeFits d a))
-  means-scoped (constructor k m) d = rw (k .2, add-zero, means-scoped m d)
-  means-scoped (case-of k m ms) d =
-      let r = term-inside m in
-      rw (k .2, add-zero) (chainScoped-record T L _ d (r .0) (r .1) ∙ ap₂ _&&_ (means-scoped m d) (means-scoped ms d))
-  means-scoped no-term d = chainScoped-end T 0 d refl
-  means-scoped {i = i} (a-term m ms) d =
-      let r = term-inside m in
-      chainScoped-record T L i d (r .0) (r .1) ∙ ap₂ _&&_ (means-scoped m d) (means-scoped ms d)
-  means-scoped no-branch d = chainScoped-end T 0 d refl
-  means-scoped {i = i} (a-branch {b = b} k m ms) d =
-      chainScoped-record T L i d (k .0) (k .1)
-      ∙ rw (k .2, means-scoped m (d + countOf (T .at i .value)), and-true (freeFits (d + countOf (T .at i .value)) b), means-scoped ms d)
-
--- The root means a term, and free numbers are in range where the reader finds them so.
+-- The root means a term with as many words as there are records.
 module _ (S : Stored) (h : Readable S (view S .root)) (l : 1 ≤ view S .root) where
-  pub root-means : (t : Term) × Means (view S) term (view S .root) t
-  root-means =
-      let T = view S in
-      let fits = fitted T (h .children-fit) in
-      record-means T (linked T (h .walkable .links-fit)) fits (valued T (h .values-fit)) (T .n) (T .root) l (h .walkable .link-within) (omega arith) (fits .root-term)
+  abbrev T : Table
+  T = view S
 
-  pub wrongFree-scoped : wrongFree (view S) ≡ not (termScoped (view S) (view S .root) 0)
-  wrongFree-scoped =
-      let T = view S in
-      let links = h .walkable .links-fit in
-      let t = root-means in
-      ap freeAbove (meaning-complete T (t .0) links (t .1))
-      ∙ ap not (sym (means-scoped T (linked T links) (valued T (h .values-fit)) (t .1) 0))
+  abbrev links : Linked T
+  links = linked T (h .walkable .links-fit)
+
+  abbrev values : Valued T
+  values = valued T (h .values-fit)
+
+  abbrev fits : Fitted T
+  fits = fitted T (h .children-fit)
+
+  pub root-means : (t : Term) × Means T term (T .root) t
+  root-means = record-means T links fits values (T .n) (T .root) l (h .walkable .link-within) (omega arith) (fits .root-term)
+
+  root-words : termWords T (T .root) ≡ words (root-means .0)
+  root-words = means-spelled T links values (root-means .1)
+
+  root-size : size (root-means .0) ≡ T .n
+  root-size =
+      let last : extent T (T .at (T .root) .next) ≡ 0 = ap (extent T) (fits .root-last) ∙ extent-zero T in
+      omega (arith, means-sized T links (root-means .1), last, root-extent T links l (h .walkable .link-within))
+
+  pub root-short : length (termWords T (T .root)) ≤ workspaceMost
+  root-short = omega (arith, ap length root-words, root-size, sized S (h .walkable .length-fits))
+
+  -- Where its words are put, they are an accepted term exactly if its free numbers are in range.
+  pub free-in-words : (zeros ws : List ℕ) (end : ℕ) → length zeros ≡ workspaceMost → Placed zeros 0 (termWords T (T .root)) ws end
+      → wrongFree T ≡ not (isTerm ws end)
+  free-in-words zeros ws end e p =
+      let t = root-means .0 in
+      let ends : end ≡ size t = omega (arith, p .position, ap length root-words) in
+      let placed : ws ≡ words t ++ drop (0 + size t) zeros = p .slice ∙ rw root-words (sets-eq (words t) zeros 0 (omega (arith, ap length root-words, root-short))) in
+      let same-length : length ws ≡ length (words t ++ drop (0 + size t) zeros) = ap length placed in
+      let short : length (words t ++ drop (0 + size t) zeros) ≤ workspaceMost = omega (arith, placed-length p) in
+      let same : isTerm (words t ++ drop (0 + size t) zeros) (size t) ≡ isTerm ws end = ap₂ isTerm (sym placed) (sym ends) in
+      ap freeAbove (meaning-complete T t (h .walkable .links-fit) (root-means .1))
+      ∙ ap not (free-is-term T links values fits (root-means .1) (drop (0 + size t) zeros) short ∙ same)

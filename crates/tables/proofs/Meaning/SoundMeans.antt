@@ -4,7 +4,7 @@ use mathlib.Core.Option.{some}
 use native.Mathlib.Omega.{arith}
 use borrow.Author.Tests.{not-false}
 use Rattle.tables.specs.Meaning.{meaning}
-use Rattle.tables.specs.Refusals.{freeFits}
+use Rattle.tables.specs.FreeNumbers.{freeFits}
 use Rattle.tables.specs.Theorems.{Sound-means}
 use Rattle.tables.proofs.Refusal.Tests.{isRecord-true}
 use Rattle.tables.proofs.Refusal.LinkRules.{linked}

@@ -9,8 +9,7 @@ use borrow.Author.Tests.{ne-eqb}
 use Rattle.calculus.specs.Words.{variableKind, applicationKind, constructorKind, caseKind}
 use Rattle.calculus.specs.Accepted.{argumentLimit}
 use Rattle.tables.specs.Records.{Record}
-use Rattle.tables.specs.Refusals.{allTerms, childrenFit}
-use Rattle.tables.specs.Chains.{numberFits}
+use Rattle.tables.specs.Children.{allTerms, childrenFit, numberFits}
 
 -- None of no records is a branch.
 none-branch : (rs : List Record) → eqb (length rs) 0 ≡ (eqb (length rs) 0 && allTerms rs)

@@ -7,7 +7,8 @@ use lib.ListN.{length}
 use borrow.Author.Tests.{leb-true, le-leb, eqb-true, eq-eqb, not-true, not-false}
 use Rattle.calculus.specs.Words.{branchKind}
 use Rattle.tables.specs.Records.{Table, everyOf}
-use Rattle.tables.specs.Refusals.{valueFits, wrongValue, children, isBranch, childrenFit, agrees, recordFits, wrongChildren}
+use Rattle.tables.specs.Values.{valueFits, wrongValue}
+use Rattle.tables.specs.Children.{children, isBranch, childrenFit, agrees, recordFits, wrongChildren}
 use Rattle.tables.proofs.Refusal.Sums.{every-at, every-of}
 
 pub record Valued (T : Table) : Type 0 where

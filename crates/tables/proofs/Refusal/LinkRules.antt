@@ -8,7 +8,7 @@ use native.Mathlib.Omega.{arith}
 use lib.Dec.{leb, ltb, eqb}
 use borrow.Author.Tests.{leb-true, le-leb, ltb-true, lt-ltb, eqb-true, eq-eqb, not-false}
 use Rattle.tables.specs.Records.{Table, sumOf}
-use Rattle.tables.specs.Refusals.{linkFits, naming, namings, wrongLink}
+use Rattle.tables.specs.Links.{linkFits, naming, namings, wrongLink}
 use Rattle.tables.proofs.Refusal.Sums.{every-at, every-of, sum-eq, sum-zeros, naming-other}
 
 -- A link of record i that is not 0 names a later record.

@@ -12,8 +12,7 @@ use lib.Seq.{getD-set-same, getD-set-other}
 use borrow.Author.Tests.{leb-true, eqb-true, eq-eqb, ne-eqb}
 use Rattle.calculus.specs.Words.{workspaceMost}
 use Rattle.tables.specs.Records.{Table, everyOf, sumOf}
-use Rattle.tables.specs.Refusals.{linkFits, naming, namings, wrongLink}
-use Rattle.tables.specs.Links.{linksFit, allLinksFit, namedOnce}
+use Rattle.tables.specs.Links.{linkFits, naming, namings, wrongLink, linksFit, allLinksFit, namedOnce}
 use Rattle.tables.proofs.Refusal.Sums.{every-at}
 
 swap : (a b c d : Bool) → (a && b && (c && d)) ≡ (a && c && (b && d))

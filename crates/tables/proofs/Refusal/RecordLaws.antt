@@ -11,7 +11,7 @@ use Rattle.calculus.specs.Words.{workspaceMost}
 use Rattle.tables.specs.declared.records.Form.{Form}
 use Rattle.tables.specs.declared.records.Form.the-variants as form
 use Rattle.tables.specs.Records.{Record, Stored, view, Inside}
-use Rattle.tables.specs.Refusals.{wrongLength, wrongHeader}
+use Rattle.tables.specs.Header.{wrongLength, wrongHeader}
 use Rattle.tables.proofs.Refusal.Tests.{isRecord-true}
 
 -- The forms.

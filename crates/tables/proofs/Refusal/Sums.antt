@@ -7,7 +7,7 @@ use native.Mathlib.Nat.{zero-mul, one-mul, add-mul, eq-or-lt-of-le}
 use native.Mathlib.Omega.{arith}
 use borrow.Author.Tests.{eq-eqb, ne-eqb}
 use Rattle.tables.specs.Records.{everyOf, sumOf}
-use Rattle.tables.specs.Refusals.{naming}
+use Rattle.tables.specs.Links.{naming}
 
 pub every-at : (n : ℕ) (p : ℕ → Bool) → everyOf n p ≡ true → (i : ℕ) → 1 ≤ i → i ≤ n → p i ≡ true
 every-at zero p h i l u = absurd (omega arith)

@@ -1,17 +1,12 @@
 -- What a test decides: values and options that are made by an `elim` on it, and the test whether an index is a record.
 use Prim.Native.Nat.{ℕ, _≤_}
 use mathlib.Core.Path.{_≡_, refl}
-use mathlib.Core.Bool.{Bool, true, false, true≢false, false≢true, _||_, and-eq-true-iff}
+use mathlib.Core.Bool.{Bool, true, false, true≢false, false≢true, and-eq-true-iff}
 use mathlib.Core.Option.{Option}
 use lib.Dec.{leb}
 use borrow.Author.Tests.{leb-true, le-leb}
 use Rattle.calculus.proofs.All.{All}
-use Rattle.tables.specs.Records.{Table}
-use Rattle.tables.specs.Meaning.{isRecord}
-
-pub both-false : (a b : Bool) → (a || b) ≡ false → (a ≡ false) × (b ≡ false)
-both-false true b h = absurd (true≢false h)
-both-false false b h = (refl, h)
+use Rattle.tables.specs.Records.{Table, isRecord}
 
 pub if-true : {A : Type 0} (b : Bool) (x y : A) → b ≡ true → _≡_ {A = A} (elim b [ true ↦ x | false ↦ y ]) x
 if-true true x y h = refl

@@ -7,8 +7,7 @@ use native.Mathlib.Omega.{arith}
 use lib.Dec.{eqb}
 use lib.ListN.{length}
 use Rattle.tables.specs.Records.{Record, Table, Stored, recordAt, view, Inside}
-use Rattle.tables.specs.Refusals.{chain}
-use Rattle.tables.specs.Chains.{chainFrom, Walkable}
+use Rattle.tables.specs.Children.{chain, chainFrom, Walkable}
 use Rattle.tables.proofs.Refusal.LinkRules.{linked}
 use Rattle.tables.proofs.Meaning.Hanging.{ahead-within, chain-next}
 use Rattle.tables.proofs.Refusal.RecordLaws.{inside}

@@ -8,8 +8,8 @@ use native.Mathlib.Omega.{arith}
 use lib.Dec.{ltb}
 use borrow.Author.Tests.{lt-ltb, le-ltb}
 use Rattle.tables.specs.Records.{Table, sumOf}
+use Rattle.tables.specs.Links.{naming, namings}
 use Rattle.tables.specs.PrefixOrder.{Fills, nothing, chained, InPrefixOrder}
-use Rattle.tables.specs.Refusals.{naming, namings}
 use Rattle.tables.proofs.Refusal.Sums.{naming-itself, naming-other}
 use Rattle.tables.proofs.Refusal.LinkRules.{Ahead, Linked}
 

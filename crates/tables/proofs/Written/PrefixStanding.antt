@@ -13,7 +13,7 @@ use Rattle.calculus.specs.Words.{words, size, branchKind, pack, tagOf, countOf}
 use Rattle.calculus.proofs.WordLaws.{pack-of-parts}
 use Rattle.tables.specs.Records.{Table, OfKind}
 use Rattle.tables.specs.Meaning.{Means, variable, abstraction, application, constructor, case-of, no-term, a-term, no-branch, a-branch}
-use Rattle.tables.specs.Refusals.{valueFits}
+use Rattle.tables.specs.Values.{valueFits}
 use Rattle.tables.specs.PrefixOrder.{Fills, nothing, chained}
 use Rattle.tables.specs.Write.{linkTo, records}
 use Rattle.tables.proofs.Meaning.MeaningLaws.{term-inside}

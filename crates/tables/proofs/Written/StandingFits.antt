@@ -13,7 +13,8 @@ use Rattle.calculus.specs.Theorems.{IndicesWithin}
 use Rattle.calculus.proofs.WordLaws.{tagOf-pack, countOf-pack, accepted-packable}
 use Rattle.tables.specs.Records.{Table, OfKind}
 use Rattle.tables.specs.Meaning.{Means, variable, abstraction, application, constructor, case-of, no-term}
-use Rattle.tables.specs.Refusals.{isTag, valueFits, children, childrenFit}
+use Rattle.tables.specs.Values.{isTag, valueFits}
+use Rattle.tables.specs.Children.{children, childrenFit}
 use Rattle.tables.specs.Write.{linkTo, records}
 use Rattle.tables.proofs.Refusal.LinkRules.{Linked, children-enough}
 use Rattle.tables.proofs.Meaning.ChainMeaning.{terms-chain, case-chain}

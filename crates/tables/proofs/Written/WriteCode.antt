@@ -1,55 +1,29 @@
 -- Writing where no refusal is met: the words that are written from, and what the code leaves.
 use Prim.Native.Nat.{ℕ, _+_, _*_, _≤_}
-use mathlib.Core.Path.{_≡_, refl, sym, ap, _∙_}
-use mathlib.Core.Bool.{Bool, true, false, cond}
+use mathlib.Core.Path.{_≡_, sym, _∙_}
+use mathlib.Core.Bool.{false}
 use mathlib.Core.List.{List, [], _∷_}
-use mathlib.Core.Option.{some, none, Option·none-ne-some}
-use lib.Dec.{leb, ltb}
+use mathlib.Core.Option.{some}
 use lib.ListN.{length, take}
-use lib.Seq.{sets, length-take-le}
-use borrow.Author.Tests.{leb-true, ltb-false, eq-eqb}
+use lib.Seq.{sets}
+use borrow.Author.Tests.{eq-eqb, not-false}
 use Rattle.calculus.specs.Term.{Term}
-use Rattle.calculus.specs.Words.{words, size, workspaceLeast, workspaceMost}
-use Rattle.calculus.specs.Accepted.{Accepted}
-use Rattle.calculus.specs.Read.{read}
+use Rattle.calculus.specs.Words.{workspaceMost}
 use Rattle.calculus.specs.Workspace.{termAt}
 use Rattle.calculus.proofs.WordLaws.{accepted-packable}
-use Rattle.calculus.proofs.ReadLaws.{read-sound, read-accepted}
+use Rattle.calculus.proofs.WorkspaceLaws.{sized-most}
 use Rattle.words.proofs.PlacedLaws.{sets-whole}
 use Rattle.tables.specs.Records.{form1, recordsWords}
-use Rattle.tables.specs.Refusals.{wrongWorkspace}
+use Rattle.tables.specs.Header.{wrongWorkspace}
 use Rattle.tables.specs.Load.{returned}
 use Rattle.tables.specs.Write.{entry, records, tableOf, Written, write}
 use Rattle.tables.specs.Writing.{entries}
-use Rattle.tables.proofs.Refusal.Tests.{both-false}
+use Rattle.tables.proofs.Meaning.Held.{Held, held}
 use Rattle.tables.proofs.Written.WrittenTable.{tableOf-length}
 use Rattle.tables.proofs.Written.EntriesLaws.{entries-records}
 
 pub workspace-short : (C : ℕ) → wrongWorkspace C ≡ false → C ≤ workspaceMost
-workspace-short C h = ltb-false workspaceMost C (both-false (ltb C workspaceLeast) (ltb workspaceMost C) h .1)
-
--- The words of the term that a workspace holds.
-pub record Held (ws : List ℕ) (n : ℕ) (t : Term) : Type 0 where
-  pub within : n ≤ length ws
-  pub words-are : words t ≡ take n ws
-  pub accepted : Accepted 0 t
-  pub size-is : size t ≡ n
-
-pub held : (ws : List ℕ) (n : ℕ) (t : Term) → termAt ws n ≡ some t → Held ws n t
-unfolding termAt
-held ws n t h = go (leb n (length ws)) refl h
-  where
-    go : (b : Bool) → leb n (length ws) ≡ b → cond b (read (take n ws)) none ≡ some t → Held ws n t
-    go false e q = absurd (Option·none-ne-some _ q)
-    go true e q =
-        let within = leb-true n (length ws) e in
-        let are = read-sound (take n ws) q in
-        record {
-          within = within;
-          words-are = are;
-          accepted = read-accepted (take n ws) q;
-          size-is = ap length are ∙ length-take-le n ws within;
-        }
+workspace-short C h = sized-most C [] (not-false _ h)
 
 -- The header and then the records, over the whole table.
 pub written : (ws table headed last : List ℕ) (n : ℕ) (t : Term) → wrongWorkspace (length ws) ≡ false → termAt ws n ≡ some t

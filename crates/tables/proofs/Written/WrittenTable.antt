@@ -1,23 +1,26 @@
 -- The table of an accepted term is in prefix order, means the term and meets no refusal.
 use Prim.Native.Nat.{ℕ, suc, _+_, _*_, _≤_}
 use mathlib.Core.Path.{_≡_, refl, ap}
-use mathlib.Core.Bool.{true, false, and-eq-true-iff}
+use mathlib.Core.Bool.{false}
 use mathlib.Core.List.{_∷_}
 use native.Mathlib.Omega.{arith}
 use lib.ListN.{length}
 use borrow.Author.Tests.{le-leb, le-ltb, eq-eqb}
-use Rattle.calculus.specs.Term.{Sort, term, Exp, var, lam, app, con, case, nil, cons, end, branch, Term}
+use Rattle.calculus.specs.Term.{term, Term}
 use Rattle.calculus.specs.Words.{size, workspaceMost}
-use Rattle.calculus.specs.Accepted.{Accepted, freeLimit}
+use Rattle.calculus.specs.Accepted.{Accepted}
 use Rattle.calculus.proofs.WordLaws.{size-positive, accepted-packable}
 use Rattle.calculus.proofs.Indices.{indices-bounded}
 use Rattle.tables.specs.Records.{form1, recordAt, inForm1, view}
 use Rattle.tables.specs.Meaning.{Means}
-use Rattle.tables.specs.Refusals.{wrongWorkspace, wrongLength, wrongHeader, wrongLink, freeFits, wrongFree}
+use Rattle.tables.specs.Header.{wrongWorkspace, wrongLength, wrongHeader}
+use Rattle.tables.specs.Links.{wrongLink}
+use Rattle.tables.specs.FreeNumbers.{wrongFree}
 use Rattle.tables.specs.PrefixOrder.{nothing, InPrefixOrder}
 use Rattle.tables.specs.Write.{entry, records, tableOf}
 use Rattle.tables.proofs.Refusal.Tests.{record-isRecord}
 use Rattle.tables.proofs.Refusal.LinkRules.{linked-passes}
+use Rattle.tables.proofs.Meaning.Accepts.{accepted-free}
 use Rattle.tables.proofs.Meaning.MeaningLaws.{meaning-complete}
 use Rattle.tables.proofs.Meaning.ChainMeaning.{term-not-branch}
 use Rattle.tables.proofs.Refusal.Fits.{Valued, valued-passes, Fitted, fitted-passes}
@@ -26,17 +29,6 @@ use Rattle.tables.proofs.Written.PrefixLinks.{prefix-linked}
 use Rattle.tables.proofs.Written.Standing.{Stand, records-length, stand-next, stand-means, stand-fills}
 use Rattle.tables.proofs.Written.StandingFits.{Fits, stand-fits}
 use Rattle.tables.proofs.Written.TableWords.{recordsWords-length, words-stand}
-
-accepted-free : {s : Sort} (e : Exp s) (d : ℕ) → Accepted d e → freeFits d e ≡ true
-accepted-free (var i) d a = le-leb i (d + freeLimit) a
-accepted-free (lam b) d a = accepted-free b (suc d) a
-accepted-free (app f g) d a = and-eq-true-iff _ _ .1 (accepted-free f d (a .0), accepted-free g d (a .1))
-accepted-free (con t xs) d a = accepted-free xs d (a .1)
-accepted-free (case e bs) d a = and-eq-true-iff _ _ .1 (accepted-free e d (a .1), accepted-free bs d (a .2))
-accepted-free nil d a = refl
-accepted-free (cons g xs) d a = and-eq-true-iff _ _ .1 (accepted-free g d (a .0), accepted-free xs d (a .1))
-accepted-free end d a = refl
-accepted-free (branch t n b bs) d a = and-eq-true-iff _ _ .1 (accepted-free b (d + n) (a .1), accepted-free bs d (a .2))
 
 pub tableOf-length : (t : Term) → length (tableOf t) ≡ form1 .recordWords * (size t + 1)
 tableOf-length t = omega (arith, recordsWords-length (records 1 0 t), records-length t 1 0)

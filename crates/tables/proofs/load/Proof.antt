@@ -6,9 +6,9 @@ use lib.ListN.{length}
 use borrow.Author.Needs.{needs}
 use Rattle.tables.specs.Load.{checks, firstMet, loadStored}
 use Rattle.tables.specs.Records.{view, inForm1}
+use Rattle.tables.specs.Reading.{termWords}
 use Rattle.tables.specs.Types.{metOf}
 use Rattle.words.specs.Placed.{Placed}
-use Rattle.tables.specs.Reading.{termWords}
 use Rattle.tables.proofs.Refusal.RecordLaws.{headed}
 use Rattle.tables.proofs.LoadCode.{passed, root-readable, room, loaded}
 use Rattle.words.proofs.PlacedLaws.{placed-length}
@@ -18,8 +18,8 @@ use Rattle.tables.proofs.load.Tie as tie
 first-met-requires : tie.Need-first-met-requires
 first-met-requires c κs = search needs
 
-enum-known-number : tie.Need-enum-known-number
-enum-known-number c = search needs
+enum-known-refusal : tie.Need-enum-known-refusal
+enum-known-refusal c = search needs
 
 enum-told : tie.Need-enum-told
 enum-told c = search needs
@@ -64,7 +64,7 @@ clear-requires c κs =
 
 returns : tie.Need-returns
 unfolding loadStored
-returns c = rw (← c .before .before .before .first-met .ensures, c .before .number .given .1)
+returns c = rw (← c .before .before .before .first-met .ensures, c .before .refusal .given .1)
 
 same-length : tie.Need-same-length
 same-length c = search needs
@@ -80,7 +80,7 @@ load-spec =
     tie.close
     (tie.spec
     first-met-requires
-    enum-known-number
+    enum-known-refusal
     enum-told
     root-requires
     read-term-requires

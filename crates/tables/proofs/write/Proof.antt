@@ -12,9 +12,10 @@ use Rattle.calculus.specs.Term.{Term}
 use Rattle.calculus.specs.Words.{workspaceMost}
 use Rattle.calculus.specs.Workspace.{termAt}
 use Rattle.words.proofs.IsTerm.{isTerm-some, isTerm-none}
-use Rattle.tables.specs.Refusals.{wrongWorkspace}
+use Rattle.tables.specs.Header.{wrongWorkspace}
 use Rattle.tables.specs.Write.{write}
-use Rattle.tables.proofs.Written.WriteCode.{workspace-short, held, written}
+use Rattle.tables.proofs.Meaning.Held.{held}
+use Rattle.tables.proofs.Written.WriteCode.{workspace-short, written}
 use Rattle.tables.proofs.write.Statement.{statement}
 use Rattle.tables.proofs.write.Tie as tie
 
@@ -58,8 +59,8 @@ returns-3 : tie.Need-returns-3
 unfolding write
 returns-3 c = rw (workspace-fits (c .before .before .before), term (c .before) .1, ne-eqb _ _ (c .if3 .taken))
 
-cast-t11 : tie.Need-cast-t11
-cast-t11 c = omega (arith, within (c .before))
+cast-t14 : tie.Need-cast-t14
+cast-t14 c = omega (arith, within (c .before))
 
 put-requires : tie.Need-put-requires
 put-requires c κs = search needs
@@ -99,7 +100,7 @@ write-spec =
     add-if3
     mul-if3
     returns-3
-    cast-t11
+    cast-t14
     put-requires
     slice-aggregate-put-records
     put-records-requires

@@ -12,12 +12,15 @@ enum-known-answer c = search needs
 slice-aggregate-put-numbered : tie.Need-slice-aggregate-put-numbered
 slice-aggregate-put-numbered c = search needs
 
+number-requires : tie.Need-number-requires
+number-requires c κs = search needs
+
 cast-put-numbered : tie.Need-cast-put-numbered
 cast-put-numbered c = search needs
 
 put-numbered-requires : tie.Need-put-numbered-requires
 put-numbered-requires c κs =
-    let start = c .before .before .before .before .before .before .before .before in
+    let start = c .before .before .before .before .before .before .before .before .before in
     le-trans (line-within _ _) (omega (arith, start .pre .0 .1, start .pre .1))
 
 enum-known-answer-2 : tie.Need-enum-known-answer-2
@@ -32,7 +35,8 @@ same-length : tie.Need-same-length
 same-length c = search needs
 
 returns : tie.Need-returns
-returns c = rw (c .before .before .before .before .before .before .answer .given .1) (c .before .before .put-numbered .ensures)
+returns c =
+    rw (c .before .before .before .before .before .before .before .answer .given .1, ← c .before .before .before .before .number .ensures) (c .before .before .put-numbered .ensures)
 
 same-length-2 : tie.Need-same-length-2
 same-length-2 c = search needs
@@ -46,6 +50,7 @@ put-table-line-spec =
     (tie.spec
     enum-known-answer
     slice-aggregate-put-numbered
+    number-requires
     cast-put-numbered
     put-numbered-requires
     enum-known-answer-2

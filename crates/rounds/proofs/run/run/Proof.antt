@@ -5,11 +5,11 @@ use mathlib.Core.Path.{_≡_, sym, _∙_, ap}
 use native.Mathlib.Omega.{arith}
 use lib.ListN.{length, take}
 use borrow.Author.Needs.{needs}
+use Rattle.calculus.specs.Rounds.{Round, goes, same, roundBy}
 use Rattle.step.specs.Held.{held}
 use Rattle.rounds.specs.Compare.{common}
-use Rattle.rounds.specs.Turn.{planned, Turn, goes}
-use Rattle.rounds.specs.Types.{planOf, turnOf}
-use Rattle.rounds.proofs.TurnLaws.{Turned}
+use Rattle.rounds.specs.Turn.{planned}
+use Rattle.rounds.specs.Types.{planOf, roundOf}
 use Rattle.rounds.proofs.RunCode.{plan-is}
 use Rattle.rounds.proofs.RunLoop.{Going, going-first, left-room, right-room, compares, judged, agreeing, ran, spends, left-advances, right-advances, going-on}
 use Rattle.rounds.proofs.run.run.Statement.{statement}
@@ -66,12 +66,12 @@ module _ (c : tie.After-judge Inv-loop μ-loop) where
   scratch-same = c .before .before .before .before .find2 .kept .1 .1 .1 .0 ∙ c .before .before .before .before .before .before .before .before .before .find .kept .1 .1 .1 .0
 
   -- The judged round of the rounds' definition.
-  abbrev Judged : Turn → Type 0
-  Judged t =
-      Turned (length (call .args .left .now)) (call .args .budget - turn .loop .spent) (held (turn .loop .left) (turn .loop .a .length))
-      (held (turn .loop .right) (turn .loop .b .length)) t
+  abbrev Judged : Round → Type 0
+  Judged x =
+      roundBy same (length (call .args .left .now)) (call .args .budget - turn .loop .spent) (held (turn .loop .left) (turn .loop .a .length))
+      (held (turn .loop .right) (turn .loop .b .length)) ≡ x
 
-  the-round : {t : Turn} → turnOf (c .judge .result) ≡ t → Judged t
+  the-round : {x : Round} → roundOf (c .judge .result) ≡ x → Judged x
   the-round e = judged (turn .loop .inv) shares left-plan right-plan (sym e ∙ c .judge .ensures)
 
 same-length : tie.Need-same-length Inv-loop μ-loop
@@ -84,13 +84,13 @@ same-length-3 : tie.Need-same-length-3 Inv-loop μ-loop
 same-length-3 c = scratch-same (c .before .before .before) ∙ turn (c .before .before .before) .loop .inv .scratch-kept
 
 returns : tie.Need-returns Inv-loop μ-loop
-returns c = ran (turn (c .before .before .before) .loop .inv) (scratch-same (c .before .before .before)) (the-round (c .before .before .before) (ap turnOf (c .before .verdict .given .1)))
+returns c = ran (turn (c .before .before .before) .loop .inv) (scratch-same (c .before .before .before)) (the-round (c .before .before .before) (ap roundOf (c .before .verdict .given .1)))
 
 enum-known-count : tie.Need-enum-known-count Inv-loop μ-loop
 enum-known-count c = search needs
 
 goes-on : (c : tie.After-count Inv-loop μ-loop) → Judged (c .before .before) (goes (c .count .given .0 .0))
-goes-on c = the-round (c .before .before) (ap turnOf (c .count .given .1))
+goes-on c = the-round (c .before .before) (ap roundOf (c .count .given .1))
 
 agreed-requires : tie.Need-agreed-requires Inv-loop μ-loop
 agreed-requires c κs = let j = c .before .before .before .before in agreeing (turn j .loop .inv) (shares j) (left-plan j) (right-plan j)

@@ -5,8 +5,7 @@ use native.Mathlib.Omega.{arith}
 use lib.ListN.{length}
 use borrow.Author.Tests.{eq-eqb, ne-eqb}
 use Rattle.tables.specs.Types.{stored, viewed, recordOf}
-use Rattle.tables.specs.Refusals.{allTerms}
-use Rattle.tables.specs.Chains.{chainFrom, Walkable}
+use Rattle.tables.specs.Children.{allTerms, chainFrom, Walkable}
 use Rattle.tables.proofs.Meaning.Hanging.{chain-end}
 use Rattle.tables.proofs.Refusal.Walks.{walk-inside, Walked, walked}
 use Rattle.tables.proofs.children.all_terms.Statement.{statement}

@@ -7,8 +7,7 @@ use lib.ListN.{length}
 use borrow.Author.Needs.{needs}
 use borrow.Author.Tests.{eq-eqb, ne-eqb, not-true, not-false}
 use Rattle.tables.specs.Types.{stored, viewed, recordOf}
-use Rattle.tables.specs.Refusals.{allBranches}
-use Rattle.tables.specs.Chains.{chainFrom, branchesRise, Walkable}
+use Rattle.tables.specs.Children.{allBranches, chainFrom, branchesRise, Walkable}
 use Rattle.tables.proofs.Meaning.Hanging.{chain-end}
 use Rattle.tables.proofs.Refusal.Walks.{walk-inside, Walked, walked}
 use Rattle.tables.proofs.children.branches_rise.Statement.{statement}

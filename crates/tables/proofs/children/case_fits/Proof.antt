@@ -4,8 +4,7 @@ use native.Mathlib.Nat.{pos-of-ne-zero}
 use borrow.Author.Needs.{needs}
 use borrow.Author.Tests.{le-leb, lt-leb, eq-eqb, ne-eqb}
 use Rattle.tables.specs.Types.{stored, viewed, recordOf}
-use Rattle.tables.specs.Refusals.{allBranches}
-use Rattle.tables.specs.Chains.{chainFrom}
+use Rattle.tables.specs.Children.{allBranches, chainFrom}
 use Rattle.tables.proofs.Meaning.Hanging.{chain-end}
 use Rattle.tables.proofs.Refusal.Walks.{walk-inside, Walked, walked}
 use Rattle.tables.proofs.children.case_fits.Statement.{statement}

@@ -5,7 +5,7 @@ use native.Mathlib.Nat.{pos-of-ne-zero}
 use native.Mathlib.Omega.{arith}
 use lib.ListN.{length}
 use Rattle.tables.specs.Types.{stored, viewed, recordOf}
-use Rattle.tables.specs.Chains.{chainFrom, Walkable}
+use Rattle.tables.specs.Children.{chainFrom, Walkable}
 use Rattle.tables.proofs.Refusal.RecordLaws.{sized}
 use Rattle.tables.proofs.Meaning.Hanging.{chain-end}
 use Rattle.tables.proofs.Refusal.Walks.{walk-inside, walk-short, Walked, walked}

@@ -1,7 +1,7 @@
 -- `number_fits` meets its contract: in each arm the kind is known, and `numberFits` computes there.
 use borrow.Author.Needs.{needs}
 use borrow.Author.Tests.{ne-eqb}
-use Rattle.tables.specs.Chains.{numberFits}
+use Rattle.tables.specs.Children.{numberFits}
 use Rattle.tables.proofs.children.number_fits.Statement.{statement}
 use Rattle.tables.proofs.children.number_fits.Tie as tie
 

@@ -2,8 +2,7 @@
 use borrow.Author.Needs.{needs}
 use borrow.Author.Tests.{not-true, not-false}
 use Rattle.tables.specs.Types.{stored}
-use Rattle.tables.specs.Refusals.{childrenFit}
-use Rattle.tables.specs.Chains.{Walkable}
+use Rattle.tables.specs.Children.{childrenFit, Walkable}
 use Rattle.tables.proofs.Refusal.RecordLaws.{parts}
 use Rattle.tables.proofs.Refusal.Walks.{walk-inside, walked}
 use Rattle.tables.proofs.Refusal.ChildCounts.{children-counted}

@@ -5,8 +5,8 @@ use mathlib.Core.Bool.{true}
 use native.Mathlib.Omega.{arith}
 use borrow.Author.Tests.{eq-eqb, ne-eqb, not-true, not-false}
 use Rattle.tables.specs.Records.{recordAt, everyOf}
+use Rattle.tables.specs.Children.{recordFits, wrongChildren}
 use Rattle.tables.specs.Types.{stored, viewed, recordOf}
-use Rattle.tables.specs.Refusals.{recordFits, wrongChildren}
 use Rattle.tables.proofs.Refusal.RecordLaws.{headed, parts}
 use Rattle.tables.proofs.Refusal.Loops.{every-more, every-fails, every-end}
 use Rattle.tables.proofs.Refusal.Walks.{walk-inside}

@@ -1,29 +1,47 @@
--- `wrong_free` meets its contract: it reads from the root, under no binders.
+-- `wrong_free` meets its contract: the words that the reader leaves are those of the term that the root means.
+use Prim.Native.Nat.{ℕ}
 use mathlib.Core.Path.{ap, sym, _∙_}
 use mathlib.Core.Bool.{not}
 use native.Mathlib.Omega.{arith}
-use Rattle.tables.specs.Types.{viewed}
-use Rattle.tables.specs.Reading.{termScoped}
+use lib.ListN.{replicate, length-replicate}
+use borrow.Author.Needs.{needs}
+use Rattle.calculus.specs.Words.{workspaceMost}
 use Rattle.tables.proofs.Refusal.RecordLaws.{headed}
-use Rattle.tables.proofs.Meaning.ReadingLaws.{ahead-record}
-use Rattle.tables.proofs.Meaning.ReadingMeaning.{wrongFree-scoped}
+use Rattle.tables.proofs.Meaning.ReadingMeaning.{root-short, free-in-words}
 use Rattle.tables.proofs.free_numbers.wrong_free.Statement.{statement}
 use Rattle.tables.proofs.free_numbers.wrong_free.Tie as tie
 
 root-requires : tie.Need-root-requires
 root-requires c κs = headed _ (c .before .pre .0 .walkable .length-fits)
 
-term-scoped-requires : tie.Need-term-scoped-requires
-term-scoped-requires c κs =
-    let p = c .before .before .pre in
-    let T = viewed (c .before .before .args .form) (c .before .before .args .table .now) in
-    rw (c .root .ensures) (p .0, p .1, omega (arith, ahead-record T (T .root) (p .1)))
+slice-aggregate-read-term : tie.Need-slice-aggregate-read-term
+slice-aggregate-read-term c = search needs
+
+read-term-requires : tie.Need-read-term-requires
+read-term-requires c κs =
+    let p = c .before .before .before .pre in
+    rw (c .before .root .ensures) (p, omega (arith, root-short _ (p .0) (p .1), length-replicate {A = ℕ} workspaceMost 0))
+
+slice-aggregate-is-term : tie.Need-slice-aggregate-is-term
+slice-aggregate-is-term c = search needs
+
+is-term-requires : tie.Need-is-term-requires
+is-term-requires c κs = search needs
 
 returns : tie.Need-returns
 returns c =
-    let p = c .before .before .before .pre in
-    let T = viewed (c .before .before .before .args .form) (c .before .before .before .args .table .now) in
-    ap not (c .term-scoped .ensures ∙ ap (λ l. termScoped T l 0) (c .before .root .ensures)) ∙ sym (wrongFree-scoped _ (p .0) (p .1))
+    let read = c .before .before .before in
+    let p = read .before .before .before .before .pre in
+    ap not (c .is-term .ensures)
+    ∙ sym (free-in-words _ (p .0) (p .1) (replicate workspaceMost 0) _ _ (length-replicate {A = ℕ} workspaceMost 0) (rw (read .before .before .root .ensures) at (read .read-term .ensures)))
 
 pub wrong-free-spec : {M : Type 1} → statement M
-wrong-free-spec = tie.close (tie.spec root-requires term-scoped-requires returns)
+wrong-free-spec =
+    tie.close
+    (tie.spec
+    root-requires
+    slice-aggregate-read-term
+    read-term-requires
+    slice-aggregate-is-term
+    is-term-requires
+    returns)

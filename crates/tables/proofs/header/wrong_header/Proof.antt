@@ -2,7 +2,7 @@
 use mathlib.Core.Path.{sym, _∙_}
 use native.Mathlib.Omega.{arith}
 use borrow.Author.Tests.{le-leb, lt-leb, not-true, not-false}
-use Rattle.tables.specs.Refusals.{wrongHeader}
+use Rattle.tables.specs.Header.{wrongHeader}
 use Rattle.tables.proofs.Refusal.RecordLaws.{ltb-not, inside, headed}
 use Rattle.tables.proofs.header.wrong_header.Statement.{statement}
 use Rattle.tables.proofs.header.wrong_header.Tie as tie

@@ -3,7 +3,7 @@ use mathlib.Core.Path.{ap, _∙_}
 use native.Mathlib.Omega.{arith}
 use borrow.Author.Needs.{needs}
 use borrow.Author.Tests.{lt-ltb, le-ltb, le-leb, lt-leb}
-use Rattle.tables.specs.Refusals.{wrongLength}
+use Rattle.tables.specs.Header.{wrongLength}
 use Rattle.tables.specs.Types.{formOf}
 use Rattle.tables.proofs.Refusal.RecordLaws.{only}
 use Rattle.tables.proofs.header.wrong_length.Statement.{statement}

@@ -1,13 +1,16 @@
 -- `wrong_workspace` meets its contract.
-use borrow.Author.Tests.{lt-ltb, le-ltb}
+use mathlib.Core.Path.{ap, _∙_}
+use mathlib.Core.Bool.{not}
+use borrow.Author.Needs.{needs}
+use Rattle.calculus.proofs.WorkspaceLaws.{sized-one}
 use Rattle.tables.proofs.header.wrong_workspace.Statement.{statement}
 use Rattle.tables.proofs.header.wrong_workspace.Tie as tie
 
-returns : tie.Need-returns
-returns c = rw (lt-ltb _ _ (c .if1 .taken))
+sized-requires : tie.Need-sized-requires
+sized-requires c κs = search needs
 
-returns-2 : tie.Need-returns-2
-returns-2 c = rw (le-ltb _ _ (c .if1 .left))
+returns : tie.Need-returns
+returns c = ap not (c .sized .ensures ∙ sized-one (c .before .args .length))
 
 pub wrong-workspace-spec : {M : Type 1} → statement M
-wrong-workspace-spec = tie.close (tie.spec returns returns-2)
+wrong-workspace-spec = tie.close (tie.spec sized-requires returns)

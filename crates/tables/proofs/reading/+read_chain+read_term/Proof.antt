@@ -1,17 +1,16 @@
 -- The readers meet their contracts, as one cycle of calls.
-use Prim.Native.Nat.{ℕ}
+use Prim.Native.Nat.{ℕ, _+_, _*_, _<_}
 use mathlib.Core.Path.{refl, ap, _∙_}
 use native.Mathlib.Nat.{pos-of-ne-zero}
 use native.Mathlib.Omega.{arith}
 use lib.ListN.{length, length-set}
 use borrow.Fn.Kinds.{In}
-use borrow.Fn.PlainCycle.{Measures}
+use borrow.Fn.PlainCycle.{Measures, is, falls, and}
 use Rattle.tables.specs.Types.{stored, viewed, recordOf}
-use Rattle.tables.specs.Reading.{chainWords}
+use Rattle.tables.specs.Reading.{ahead, chainWords}
 use Rattle.tables.proofs.Refusal.RecordLaws.{parts}
 use Rattle.tables.proofs.Refusal.Walks.{walk-inside}
 use Rattle.tables.proofs.Meaning.ReadingLaws.{chainWords-end, ReadOn, read-on, term-read}
-use Rattle.tables.proofs.Meaning.Turns.{termTurns, chainTurns, entered, called}
 use Rattle.words.proofs.PlacedLaws.{placed-none, placed-cons, placed-append, placed-length}
 use Rattle.tables.proofs.reading.read_chain.Reads as read-chain
 use Rattle.tables.proofs.reading.read_chain.Kinds as read-chain-kinds
@@ -25,23 +24,25 @@ use Rattle.tables.proofs.children.chain_length.Reads as chain-length-re
 use Rattle.tables.proofs.reading.+read_chain+read_term.{statement}
 use Rattle.tables.proofs.reading.+read_chain+read_term.Tie.{close}
 
+-- The records still ahead fall at each call: a reader of a term has 2 for each of them, and a reader of a chain, which calls it at its own link,
+-- one more.
 abbrev μ-read-chain : Measures 2 read-chain-kinds.ps ℕ
-μ-read-chain κs a = chainTurns (viewed (a .1 .0) (a .0 .now)) (a .1 .1 .0)
+μ-read-chain κs a = 2 * ahead (viewed (a .1 .0) (a .0 .now)) (a .1 .1 .0) + 1
 
 abbrev μ-read-term : Measures 2 read-term-kinds.ps ℕ
-μ-read-term κs a = termTurns (viewed (a .1 .0) (a .0 .now)) (a .1 .1 .0)
+μ-read-term κs a = 2 * ahead (viewed (a .1 .0) (a .0 .now)) (a .1 .1 .0)
 
 abbrev read-chain-at : ℕ → In 2 read-chain-kinds.ps
-read-chain-at = entered 2 read-chain-kinds.ps μ-read-chain read-chain.Pre
+read-chain-at t = and 2 read-chain-kinds.ps (is 2 read-chain-kinds.ps μ-read-chain t) read-chain.Pre
 
 abbrev read-term-at : ℕ → In 2 read-term-kinds.ps
-read-term-at = entered 2 read-term-kinds.ps μ-read-term read-term.Pre
+read-term-at t = and 2 read-term-kinds.ps (is 2 read-term-kinds.ps μ-read-term t) read-term.Pre
 
 abbrev read-chain-below : ℕ → In 2 read-chain-kinds.ps
-read-chain-below = called 2 read-chain-kinds.ps μ-read-chain read-chain.Pre
+read-chain-below t = and 2 read-chain-kinds.ps (falls 2 read-chain-kinds.ps _<_ μ-read-chain t) read-chain.Pre
 
 abbrev read-term-below : ℕ → In 2 read-term-kinds.ps
-read-term-below = called 2 read-term-kinds.ps μ-read-term read-term.Pre
+read-term-below t = and 2 read-term-kinds.ps (falls 2 read-term-kinds.ps _<_ μ-read-term t) read-term.Pre
 
 -- What each of the two knows of the functions that it calls.
 abbrev chain-claims : ℕ → read-chain-lts.Claims

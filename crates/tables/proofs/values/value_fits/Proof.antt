@@ -1,10 +1,7 @@
 -- `value_fits` meets its contract: in each arm the kind is known, and `valueFits` computes there.
-use mathlib.Core.Bool.{and-true}
-use native.Mathlib.Omega.{arith}
 use borrow.Author.Needs.{needs}
 use borrow.Author.Tests.{le-leb, lt-leb, ne-eqb}
-use Rattle.calculus.specs.Words.{countOf}
-use Rattle.tables.specs.Refusals.{valueFits}
+use Rattle.tables.specs.Values.{valueFits}
 use Rattle.tables.proofs.values.value_fits.Statement.{statement}
 use Rattle.tables.proofs.values.value_fits.Tie as tie
 
@@ -14,8 +11,8 @@ returns c = rw (lt-leb _ _ (c .if1 .taken))
 is-tag-requires : tie.Need-is-tag-requires
 is-tag-requires c κs = search needs
 
-is-tag-requires-2 : tie.Need-is-tag-requires-2
-is-tag-requires-2 c κs = search needs
+is-tagged-requires : tie.Need-is-tagged-requires
+is-tagged-requires c κs = search needs
 
 returns-2 : tie.Need-returns-2
 unfolding valueFits
@@ -27,9 +24,7 @@ returns-3 c = rw (c .before .match .keys2) (c .is-tag .ensures)
 
 returns-4 : tie.Need-returns-4
 unfolding valueFits
-returns-4 c =
-    let v = c .before .before .before .args .value in
-    rw (c .before .match .keys3, le-leb (countOf v) 15 (omega arith), and-true) (c .is-tag2 .ensures)
+returns-4 c = rw (c .before .match .keys3) (c .is-tagged .ensures)
 
 returns-5 : tie.Need-returns-5
 unfolding valueFits
@@ -39,4 +34,4 @@ returns-5 c =
 
 pub value-fits-spec : {M : Type 1} → statement M
 value-fits-spec =
-    tie.close (tie.spec returns is-tag-requires is-tag-requires-2 returns-2 returns-3 returns-4 returns-5)
+    tie.close (tie.spec returns is-tag-requires is-tagged-requires returns-2 returns-3 returns-4 returns-5)

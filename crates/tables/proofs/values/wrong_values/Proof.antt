@@ -9,7 +9,7 @@ use borrow.Author.Tests.{not-true, not-false}
 use Rattle.calculus.specs.Words.{branchKind}
 use Rattle.tables.specs.Types.{viewed}
 use Rattle.tables.specs.Records.{Record, everyOf}
-use Rattle.tables.specs.Refusals.{valueFits, wrongValue}
+use Rattle.tables.specs.Values.{valueFits, wrongValue}
 use Rattle.tables.proofs.Refusal.RecordLaws.{headed, inside}
 use Rattle.tables.proofs.Refusal.Loops.{every-more, every-fails, every-end}
 use Rattle.tables.proofs.values.wrong_values.Statement.{statement}

@@ -3,7 +3,7 @@ use Prim.Native.Nat.{_≤_}
 use mathlib.Core.Path.{_≡_, sym, _∙_, ap}
 use mathlib.Core.Option.{some}
 use native.Mathlib.Omega.{arith}
-use Rattle.verdict_line.specs.Line.{judged}
+use Rattle.verdict_line.specs.Line.{judged, refuses}
 use Rattle.verdict_line.specs.Judge.{lentMost, requestFor}
 use Rattle.verdict_line.proofs.LineLaws.{judged-lent}
 use Rattle.verdict_line.proofs.JudgeLaws.{lent-length, again-fits, again-length, refused-left, refused-right, pressed-line}
@@ -39,8 +39,11 @@ slice-aggregate-load-from c = lent-length (c .before .lent .result) (within (c .
 load-from-requires : tie.Need-load-from-requires
 load-from-requires c κs = search needs
 
-enum-known-number : tie.Need-enum-known-number
-enum-known-number c = search needs
+enum-known-refusal : tie.Need-enum-known-refusal
+enum-known-refusal c = search needs
+
+number-requires : tie.Need-number-requires
+number-requires c κs = search needs
 
 enum-known-l : tie.Need-enum-known-l
 enum-known-l c = search needs
@@ -54,8 +57,11 @@ slice-aggregate-load-from-2 c = lent-length _ (within (c .before .before .before
 load-from-requires-2 : tie.Need-load-from-requires-2
 load-from-requires-2 c κs = search needs
 
-enum-known-number-2 : tie.Need-enum-known-number-2
-enum-known-number-2 c = search needs
+enum-known-refusal-2 : tie.Need-enum-known-refusal-2
+enum-known-refusal-2 c = search needs
+
+number-requires-2 : tie.Need-number-requires-2
+number-requires-2 c κs = search needs
 
 enum-known-r : tie.Need-enum-known-r
 enum-known-r c = search needs
@@ -89,16 +95,20 @@ line-of-requires c κs = search needs
 
 returns : tie.Need-returns
 returns c =
-    let o = c .before .before .before .before .before .before in
+    let o = c .before .before .before .before .before .before .before in
     let a = start o .args in
-    refused-left (o .lent .result) (within o) (a .budget) _ _ (c .before .before .before .before .load-from .last .1 .1 .0) (c .before .before .before .before .load-from .ensures) (c .before .number .given .1)
+    ap refuses (c .number .ensures)
+    ∙ refused-left (o .lent .result) (within o) (a .budget) _ _ (c .before .before .before .before .before .load-from .last .1 .1 .0) (c .before .before .before .before .before .load-from .ensures) (c .before .before .refusal .given .1)
     ∙ for-all-words o
 
 returns-2 : tie.Need-returns-2
 returns-2 c =
-    let o = c .before .before .before .before .before .before .before .before .before .before .before .before in
+    let o = c .before .before .before .before .before .before .before .before .before .before .before .before .before in
     let a = start o .args in
-    refused-right (o .lent .result) (within o) (a .budget) _ _ (c .before .before .before .before .before .before .before .before .before .before .load-from .last .1 .1 .0) (c .before .before .before .before .before .before .before .before .before .before .load-from .ensures) (c .before .before .before .before .before .before .before .l .given .1) (c .before .before .before .before .load-from2 .last .1 .1 .0) (c .before .before .before .before .load-from2 .ensures) (c .before .number2 .given .1)
+    let x = c .before .before .before .before .before .before .before .before .before .before .before .load-from in
+    let y = c .before .before .before .before .before .load-from2 in
+    ap refuses (c .number2 .ensures)
+    ∙ refused-right (o .lent .result) (within o) (a .budget) _ _ (x .last .1 .1 .0) (x .ensures) (c .before .before .before .before .before .before .before .before .l .given .1) (y .last .1 .1 .0) (y .ensures) (c .before .before .refusal2 .given .1)
     ∙ for-all-words o
 
 returns-3 : tie.Need-returns-3
@@ -120,12 +130,14 @@ judge-with-spec =
     array-borrow-prefix-left-words
     slice-aggregate-load-from
     load-from-requires
-    enum-known-number
+    enum-known-refusal
+    number-requires
     enum-known-l
     array-borrow-prefix-right-words
     slice-aggregate-load-from-2
     load-from-requires-2
-    enum-known-number-2
+    enum-known-refusal-2
+    number-requires-2
     enum-known-r
     array-borrow-prefix-left-words-2
     slice-aggregate-press-owned

@@ -1,5 +1,5 @@
 -- `Frame::enter` meets its contract.
-use mathlib.Core.Path.{sym, _∙_}
+use mathlib.Core.Path.{_∙_}
 use native.Mathlib.Omega.{arith}
 use Rattle.words.specs.Packed.{unpacked}
 use Rattle.words.proofs.Frames.{allowed-term, allowed-branch, allowed-none}
