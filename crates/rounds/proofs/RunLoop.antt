@@ -1,6 +1,6 @@
 -- The loop of the rounds: before each turn both workspaces hold the current terms, and the rounds still to make with what is left of the budget
 -- end in what all the rounds end in.
-use Prim.Native.Nat.{ℕ, _+_, _-_, _≤_, _<_}
+use Prim.Native.Nat.{ℕ, _+_, _-_, _*_, _≤_, _<_}
 use mathlib.Core.Path.{_≡_, refl, sym, _∙_, ap, subst, subst⁻¹}
 use mathlib.Core.Bool.{true, false, cond}
 use mathlib.Core.List.{List, _++_}
@@ -11,7 +11,7 @@ use lib.ListN.{length, take, drop}
 use lib.Seq.{length-take-le}
 use borrow.Author.Tests.{eqb-true, eqb-false}
 use Rattle.calculus.specs.Term.{Term}
-use Rattle.calculus.specs.Words.{words, size}
+use Rattle.calculus.specs.Words.{workspaceMost, words, size}
 use Rattle.calculus.specs.Accepted.{Accepted}
 use Rattle.calculus.specs.Workspace.{termAt}
 use Rattle.calculus.specs.Position.{contractAt}
@@ -21,6 +21,8 @@ use Rattle.calculus.proofs.PositionLaws.{redex-first}
 use Rattle.calculus.proofs.ResumeLaws.{none-before, none-anywhere}
 use Rattle.calculus.proofs.AcceptedLaws.{leftmost-keeps-accepted}
 use Rattle.step.specs.Held.{held, Holds}
+use Rattle.step.specs.declared.Plan as code
+use Rattle.step.specs.Plan as step
 use Rattle.step.specs.Search.{Searched}
 use Rattle.rounds.specs.Compare.{common, Agrees, Compares}
 use Rattle.rounds.specs.Turn.{Plan, lengthIn, planned}
@@ -64,8 +66,8 @@ resumes t n (is-normal r l) q h = rw (next-normal t l) (none-anywhere t r q)
 resumes t n (contracts p u r c l) q h = rw (next-is t l) (none-before p t u c (redex-first t p .0 r .1) q h)
 
 -- A workspace after a side's part in a round.
-module _ {ws ws′ scratch scratch′ : List ℕ} {n r from : ℕ} (h : Holds ws n) (kept : length ws′ ≡ length ws)
-    (a : Advanced ws n scratch r from ws′ scratch′) where
+module _ {ws ws′ scratch scratch′ : List ℕ} {n r from : ℕ} {todo : code.Plan} (h : Holds ws n) (kept : length ws′ ≡ length ws)
+    (a : Advanced ws n todo scratch r from ws′ scratch′) where
   now-held : termAt ws′ r ≡ some (next (held ws n))
   now-held =
       subst⁻¹ (λ k. termAt ws′ k ≡ some (next (held ws n))) (a .returned)
@@ -88,7 +90,7 @@ module _ {ws ws′ scratch scratch′ : List ℕ} {n r from : ℕ} (h : Holds ws
       }
 
 -- What holds before each turn: both terms, where the search on each side goes on, and the words that agree.
-pub record Going (left₀ right₀ scratch₀ : List ℕ) (l r budget : ℕ) (left right scratch : List ℕ) (m i n j agree spent : ℕ) : Type 0 where
+pub record Going (left₀ right₀ scratch₀ : List ℕ) (l r budget : ℕ) (left right scratch room : List ℕ) (m i n j agree spent : ℕ) : Type 0 where
   pub ready : Ready left right scratch m n
   pub left-searched : Searched left m i
   pub right-searched : Searched right n j
@@ -96,13 +98,14 @@ pub record Going (left₀ right₀ scratch₀ : List ℕ) (l r budget : ℕ) (le
   pub left-kept : length left ≡ length left₀
   pub right-kept : length right ≡ length right₀
   pub scratch-kept : length scratch ≡ length scratch₀
+  pub room-length : 2 * length room ≡ workspaceMost
   pub within : spent ≤ budget
   pub rest :
       after spent (rounds (length left₀) (budget - spent) (held left m) (held right n)) ≡ rounds (length left₀) budget (held left₀ l) (held right₀ r)
 
-pub going-first : {left right scratch : List ℕ} {l r : ℕ} (budget : ℕ) → Ready left right scratch l r
-    → Going left right scratch l r budget left right scratch l 0 r 0 0 0
-going-first {left} {right} {scratch} {l} {r} budget h =
+pub going-first : {left right scratch room : List ℕ} {l r : ℕ} (budget : ℕ) → Ready left right scratch l r → 2 * length room ≡ workspaceMost
+    → Going left right scratch l r budget left right scratch room l 0 r 0 0 0
+going-first {left} {right} {scratch} {l = l} {r} budget h room-length =
     let all : budget - 0 ≡ budget = omega arith in
     record {
       ready = h;
@@ -112,17 +115,25 @@ going-first {left} {right} {scratch} {l} {r} budget h =
       left-kept = refl;
       right-kept = refl;
       scratch-kept = refl;
+      room-length = room-length;
       within = omega arith;
       rest = after-zero (rounds (length left) (budget - 0) (held left l) (held right r)) ∙ ap (λ b. rounds (length left) b (held left l) (held right r)) all;
     }
 
-module _ {left₀ right₀ scratch₀ : List ℕ} {l r budget : ℕ} {left right scratch : List ℕ} {m i n j agree spent : ℕ}
-    (g : Going left₀ right₀ scratch₀ l r budget left right scratch m i n j agree spent) where
+module _ {left₀ right₀ scratch₀ : List ℕ} {l r budget : ℕ} {left right scratch room : List ℕ} {m i n j agree spent : ℕ}
+    (g : Going left₀ right₀ scratch₀ l r budget left right scratch room m i n j agree spent) where
   left-fits : m ≤ length left
   left-fits = begins (g .ready .left-holds) .within
 
   right-fits : n ≤ length right
   right-fits = begins (g .ready .right-holds) .within
+
+  -- The scratch serves the searches.
+  pub left-room : m ≤ length scratch
+  left-room = omega (arith, left-fits, g .ready .scratch-length)
+
+  pub right-room : (scratch′ : List ℕ) → length scratch′ ≡ length scratch → n ≤ length scratch′
+  right-room scratch′ kept = omega (arith, right-fits, g .ready .scratch-length, g .ready .right-length)
 
   pub compares : Compares left m right n agree
   compares = record { left-fits = left-fits; right-fits = right-fits; agrees = g .agrees }
@@ -151,9 +162,9 @@ module _ {left₀ right₀ scratch₀ : List ℕ} {l r budget : ℕ} {left right
         (agree-after ls rs (omega (arith, left-fits, g .ready .left-holds .limit)) (omega (arith, right-fits, g .ready .right-holds .limit))
         (rw (ls .taken, rs .taken) shared-agrees) (planned-tells (held left m)) (planned-tells (held right n)))
 
-  pub ran : {v : Verdict} → roundBy same (length left₀) (budget - spent) (held left m) (held right n) ≡ ends v
-      → Ran budget (rounds (length left₀) budget (held left₀ l) (held right₀ r)) (record { verdict = v; spent = spent; left = m; right = n }) left right scratch
-  ran {v} t =
+  pub ran : {v : Verdict} {scratch₁ : List ℕ} → length scratch₁ ≡ length scratch → roundBy same (length left₀) (budget - spent) (held left m) (held right n) ≡ ends v
+      → Ran budget (rounds (length left₀) budget (held left₀ l) (held right₀ r)) (record { verdict = v; spent = spent; left = m; right = n }) left right scratch₁
+  ran {v} kept t =
       let o : after spent (ended v (held left m) (held right n)) ≡ rounds (length left₀) budget (held left₀ l) (held right₀ r)
       = sym (ap (after spent) (rounds-end same (length left₀) (budget - spent) (held left m) (held right n) t)) ∙ g .rest in
       let ls = begins (g .ready .left-holds) in
@@ -168,7 +179,7 @@ module _ {left₀ right₀ scratch₀ : List ℕ} {l r budget : ℕ} {left right
         left-words = sym (ls .start) ∙ ap (λ k. words (k .left) ++ drop m left) o;
         right-others = drop n right;
         right-words = sym (rs .start) ∙ ap (λ k. words (k .right) ++ drop n right) o;
-        scratch-length = g .ready .scratch-length;
+        scratch-length = kept ∙ g .ready .scratch-length;
       }
 
   module _ {p : ℕ} (t : roundBy same (length left₀) (budget - spent) (held left m) (held right n) ≡ goes p) where
@@ -188,27 +199,34 @@ module _ {left₀ right₀ scratch₀ : List ℕ} {l r budget : ℕ} {left right
         let rn : size (held right n) ≤ length left₀ = omega (arith, begins (g .ready .right-holds) .long, right-fits, g .left-kept, g .ready .right-length) in
         (omega (arith, f .0 lm, g .left-kept), omega (arith, f .1 rn, g .left-kept))
 
-    pub left-advances : {a : Plan} → a ≡ planned (held left m) → Advances left m a scratch
-    left-advances e =
-        record { holds = g .ready .left-holds; plan-is = e; fits = both-fit .0; scratch-fits = omega (arith, both-fit .0, g .ready .scratch-length) }
+    pub left-advances : {a : code.Plan} {scratch₁ : List ℕ} → length scratch₁ ≡ length scratch → step.Planned left m a → Advances left m a scratch₁ room
+    left-advances kept e =
+        record {
+          holds = g .ready .left-holds;
+          plan = e;
+          fits = both-fit .0;
+          scratch-fits = omega (arith, both-fit .0, kept, g .ready .scratch-length);
+          room-fits = omega (arith, g .room-length);
+        }
 
-    module _ {left′ scratch′ : List ℕ} {m′ i′ : ℕ} (lk : length left′ ≡ length left) (sk : length scratch′ ≡ length scratch)
-        (la : Advanced left m scratch m′ i′ left′ scratch′) where
-      pub right-advances : {b : Plan} → b ≡ planned (held right n) → Advances right n b scratch′
-      right-advances e =
+    module _ {left′ scratch₁ scratch′ : List ℕ} {m′ i′ : ℕ} {a : code.Plan} (lk : length left′ ≡ length left) (sk : length scratch′ ≡ length scratch)
+        (la : Advanced left m a scratch₁ m′ i′ left′ scratch′) where
+      pub right-advances : {b : code.Plan} {room′ : List ℕ} → 2 * length room′ ≡ workspaceMost → step.Planned right n b → Advances right n b scratch′ room′
+      right-advances room-length e =
           record {
             holds = g .ready .right-holds;
-            plan-is = e;
+            plan = e;
             fits = omega (arith, both-fit .1, g .ready .right-length);
             scratch-fits = omega (arith, both-fit .1, sk, g .ready .scratch-length);
+            room-fits = omega arith;
           }
 
-      module _ {right′ scratch″ : List ℕ} {n′ j′ : ℕ} (rk : length right′ ≡ length right) (sk′ : length scratch″ ≡ length scratch′)
-          (ra : Advanced right n scratch′ n′ j′ right′ scratch″) where
-        pub going-on : {shared agree′ : ℕ} {a b : Plan} → shared ≡ common (take m left) (take n right) → a ≡ planned (held left m)
-            → b ≡ planned (held right n) → agree′ ≡ agreeAfter left m shared a b
-            → Going left₀ right₀ scratch₀ l r budget left′ right′ scratch″ m′ i′ n′ j′ agree′ (spent + p)
-        going-on s x y k =
+      module _ {right′ scratch″ : List ℕ} {n′ j′ : ℕ} {b : code.Plan} (rk : length right′ ≡ length right) (sk′ : length scratch″ ≡ length scratch′)
+          (ra : Advanced right n b scratch′ n′ j′ right′ scratch″) where
+        pub going-on : {shared agree′ : ℕ} {x y : Plan} {room′ : List ℕ} → 2 * length room′ ≡ workspaceMost → shared ≡ common (take m left) (take n right) → x ≡ planned (held left m)
+            → y ≡ planned (held right n) → agree′ ≡ agreeAfter left m shared x y
+            → Going left₀ right₀ scratch₀ l r budget left′ right′ scratch″ room′ m′ i′ n′ j′ agree′ (spent + p)
+        going-on room-length s x y k =
             let (pos, h) = spends in
             let less : budget - (spent + p) ≡ budget - spent - p = omega arith in
             let whole : p + (budget - spent - p) ≡ budget - spent = omega arith in
@@ -228,6 +246,7 @@ module _ {left₀ right₀ scratch₀ : List ℕ} {l r budget : ℕ} {left right
               left-kept = lk ∙ g .left-kept;
               right-kept = rk ∙ g .right-kept;
               scratch-kept = sk′ ∙ sk ∙ g .scratch-kept;
+              room-length = room-length;
               within = omega (arith, g .within);
               rest =
                   rw (advanced-held (g .ready .left-holds) lk la, advanced-held (g .ready .right-holds) rk ra, less)

@@ -11,8 +11,8 @@ use Rattle.rounds.specs.declared.Answer as codeAnswer
 use Rattle.rounds.specs.declared.Answer.the-variants as answer
 use Rattle.rounds.specs.declared.Session as codeSession
 use Rattle.rounds.specs.declared.Pressed as codePressed
-use Rattle.rounds.specs.declared.turn.Plan as codePlan
-use Rattle.rounds.specs.declared.turn.Plan.the-variants as plan
+use Rattle.step.specs.declared.Plan as codePlan
+use Rattle.step.specs.declared.Plan.the-variants as plan
 use Rattle.rounds.specs.declared.turn.Round as codeRound
 use Rattle.rounds.specs.declared.turn.Round.the-variants as round
 use Rattle.rounds.specs.Turn.{Plan, normal, contract}
@@ -53,7 +53,7 @@ refusedWith why s = record { answer = answer.Refused why; session = s }
 
 abbrev pub planOf : codePlan.Plan → Plan
 planOf plan.Normal = normal
-planOf (plan.Contract p n) = contract p n
+planOf (plan.Contract r) = contract (r .at) (r .length)
 
 abbrev pub roundOf : codeRound.Round → Round
 roundOf (round.Ends v) = ends (verdictOf v)

@@ -11,7 +11,11 @@ use crate::turn::Side;
 use crate::turn::advance;
 use crate::turn::agreed;
 use crate::turn::judge;
-use crate::turn::plan_for;
+use step::find;
+use words::Word;
+
+// Room for the scopes of a walk: a scope that is kept took two words.
+const ROOM: usize = Word::WORKSPACE_MOST / 2;
 
 // The rounds of a press, on both workspaces through the scratch.
 pub fn run(
@@ -27,12 +31,13 @@ pub fn run(
 {
     let mut a = Side { length: l, from: 0 };
     let mut b = Side { length: r, from: 0 };
+    let mut room = [0u32; ROOM];
     let mut agree: usize = 0;
     let mut spent: u32 = 0;
     loop {
         let shared = agreeing(left, a.length, right, b.length, agree);
-        let p = plan_for(left, a);
-        let q = plan_for(right, b);
+        let p = find(left, a.length, a.from, scratch);
+        let q = find(right, b.length, b.from, scratch);
         // No term's words are the start of another's, so a term whose words are all shared is the other one.
         match judge(shared == a.length, p, q, budget - spent, left.len()) {
             Round::Ends(verdict) => {
@@ -45,8 +50,8 @@ pub fn run(
             }
             Round::Goes(count) => {
                 agree = agreed(left, a.length, shared, p, q);
-                a = advance(left, a, p, scratch);
-                b = advance(right, b, q, scratch);
+                a = advance(left, a, p, scratch, &mut room);
+                b = advance(right, b, q, scratch, &mut room);
                 spent += count;
             }
         }

@@ -4,21 +4,14 @@ ghost use mathlib.Core.Bool.{cond};
 ghost use mathlib.Core.Option.{some, none, Option·getD};
 ghost use Prim.Native.Nat.{_-_, max};
 ghost use Rattle.calculus.specs.Rounds.{Same, contractions, round};
-ghost use Rattle.rounds.specs.Turn.{contract, lengthIn, planned};
+ghost use Rattle.rounds.specs.Turn.{contract, lengthIn};
 ghost use Rattle.rounds.specs.Resume.{agreeBoth, agreeAfter, Agreeing};
 ghost use Rattle.rounds.specs.Types.{roundOf, planOf};
 ghost use Rattle.rounds.specs.Advance.{Advances, Advanced};
-ghost use Rattle.step.specs.Held.{held};
-ghost use Rattle.step.specs.Search.{Searched};
 use crate::Verdict;
 use crate::compare::least;
+use step::Plan;
 use words::extent;
-
-// What a side would do in a round: nothing where it is normal, or contract the redex at a position, to a term of `length` words.
-pub enum Plan {
-    Normal,
-    Contract { at: usize, length: usize },
-}
 
 // A side between two rounds: its term has `length` words, and no redex starts before `from`.
 pub struct Side {
@@ -32,24 +25,23 @@ pub enum Round {
     Goes(u32),
 }
 
-impl Plan {
-    fn contractions(self) -> u32
-        ensures { λ r. ⌜ r ≡ contractions (lengthIn (planOf self)) ⌝ }
-    {
-        match self {
-            Plan::Normal => 0,
-            Plan::Contract { at: _, length: _ } => 1,
-        }
+// How many contractions a side makes in a round.
+fn contractions(plan: Plan) -> u32
+    ensures { λ r. ⌜ r ≡ contractions (lengthIn (planOf plan)) ⌝ }
+{
+    match plan {
+        Plan::Normal => 0,
+        Plan::Contract(_) => 1,
     }
+}
 
-    // The length of the next term, 0 where there is none.
-    fn next_length(self) -> usize
-        ensures { λ r. ⌜ r ≡ Option·getD (lengthIn (planOf self)) 0 ⌝ }
-    {
-        match self {
-            Plan::Normal => 0,
-            Plan::Contract { at: _, length } => length,
-        }
+// The length of the next term, 0 where there is none.
+fn next_length(plan: Plan) -> usize
+    ensures { λ r. ⌜ r ≡ Option·getD (lengthIn (planOf plan)) 0 ⌝ }
+{
+    match plan {
+        Plan::Normal => 0,
+        Plan::Contract(redex) => redex.length,
     }
 }
 
@@ -69,31 +61,17 @@ pub fn judge(equal: bool, left: Plan, right: Plan, rest: u32, c: usize) -> Round
     if equal {
         return Round::Ends(Verdict::Same);
     }
-    let count = left.contractions() + right.contractions();
+    let count = contractions(left) + contractions(right);
     if count == 0 {
         return Round::Ends(Verdict::Different);
     }
     if rest < count {
         return Round::Ends(Verdict::Budget);
     }
-    if c < longer(left.next_length(), right.next_length()) {
+    if c < longer(next_length(left), next_length(right)) {
         return Round::Ends(Verdict::Full);
     }
     Round::Goes(count)
-}
-
-// What a side would do in a round.
-pub fn plan_for(ws: &[u32], side: Side) -> Plan
-    requires { ⌜ Searched (now ws) (side .length) (side .from) ⌝ }
-    ensures { λ r. ⌜ planOf r ≡ planned (held (now (ws .entry)) (side .length)) ⌝ }
-{
-    match step::find(ws, side.length, side.from) {
-        step::Found::At(at) => Plan::Contract {
-            at,
-            length: step::next_length(ws, side.length, at),
-        },
-        step::Found::Nothing => Plan::Normal,
-    }
 }
 
 // The position before another one, but 0 for 0.
@@ -106,19 +84,25 @@ fn before(at: usize) -> usize
     at - 1
 }
 
-// A side's part in a round that goes on, through the scratch.
-pub fn advance(ws: &mut [u32], side: Side, todo: Plan, scratch: &mut [u32]) -> Side
-    requires { ⌜ Advances (now ws) (side .length) (planOf todo) (now scratch) ⌝ }
-    ensures { λ r. ⌜ Advanced (now (ws .entry)) (side .length) (now (scratch .entry)) (r .length) (r .from) (now (ws .exit)) (now (scratch .exit)) ⌝ }
+// A side's part in a round that goes on, through the scratch; the room keeps the scopes of the walk.
+pub fn advance(
+    ws: &mut [u32],
+    side: Side,
+    todo: Plan,
+    scratch: &mut [u32],
+    room: &mut [u32],
+) -> Side
+    requires { ⌜ Advances (now ws) (side .length) todo (now scratch) (now room) ⌝ }
+    ensures { λ r. ⌜ Advanced (now (ws .entry)) (side .length) todo (now (scratch .entry)) (r .length) (r .from) (now (ws .exit)) (now (scratch .exit)) ⌝ }
 {
     match todo {
         Plan::Normal => Side {
             length: side.length,
             from: side.length,
         },
-        Plan::Contract { at, length: _ } => Side {
-            length: step::contract(ws, side.length, at, scratch),
-            from: before(at),
+        Plan::Contract(redex) => Side {
+            length: step::contract(ws, side.length, redex, scratch, room),
+            from: before(redex.at),
         },
     }
 }
@@ -131,14 +115,11 @@ pub fn agreed(ws: &[u32], n: usize, agree: usize, left: Plan, right: Plan) -> us
     match left {
         Plan::Normal => match right {
             Plan::Normal => agree,
-            Plan::Contract { at, length: _ } => least(agree, at),
+            Plan::Contract(redex) => least(agree, redex.at),
         },
-        Plan::Contract { at, length } => match right {
-            Plan::Normal => least(agree, at),
-            Plan::Contract {
-                at: other,
-                length: _,
-            } => agreed_both(ws, n, agree, at, length, other),
+        Plan::Contract(redex) => match right {
+            Plan::Normal => least(agree, redex.at),
+            Plan::Contract(other) => agreed_both(ws, n, agree, redex.at, redex.length, other.at),
         },
     }
 }

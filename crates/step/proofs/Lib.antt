@@ -3,4 +3,6 @@ pub mod PartsTurns
 pub mod RedexLaws
 pub mod SearchLaws
 pub mod NextLaws
-pub mod GatherLaws
+pub mod PlanLaws
+pub mod TailLaws
+pub mod ContractLaws

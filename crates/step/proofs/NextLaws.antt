@@ -4,6 +4,7 @@ use Prim.Native.Nat.{ℕ, _+_, _-_, _*_, _≤_, _<_}
 use mathlib.Core.Path.{_≡_, refl, sym, _∙_, ap}
 use mathlib.Core.List.{List, _++_, append-assoc}
 use mathlib.Core.Option.{some, Option·none-ne-some}
+use native.Mathlib.Nat.{add-zero}
 use native.Mathlib.Omega.{arith}
 use lib.ListN.{length, take, drop, length-append, length-drop}
 use lib.Seq.{slice, length-slice, length-take-le, take-at, drop-at}
@@ -21,9 +22,8 @@ use Rattle.calculus.proofs.Focus.{Focus, focus}
 use Rattle.calculus.specs.Accepted.{indexLimit}
 use Rattle.substitution.specs.Results.{Substitutable, substituted}
 use Rattle.substitution.proofs.ResultLaws.{substituted-at, substitutable-at}
-use Rattle.step.specs.declared.redex.Redex.the-variants as redex
 use Rattle.step.specs.Held.{held}
-use Rattle.step.specs.Parts.{parts}
+use Rattle.step.specs.Parts.{Parts, nothing, parted, parts}
 use Rattle.step.specs.Next.{next, nextFrom, HoldsRedex}
 use Rattle.step.proofs.HeldLaws.{Start, termAt-start}
 use Rattle.step.proofs.SearchLaws.{no-redex-here}
@@ -40,12 +40,13 @@ pub record Contraction (ws : List ℕ) (n at b a m : ℕ) : Type 0 where
   pub ends : endAt ws at ≤ n
   pub rest : nextFrom ws n at ≡ words (substituted ws b a m) ++ slice (endAt ws at) n ws
   pub short : size (substituted ws b a m) ≤ workspaceMost * workspaceMost
+  pub small : span 1 (drop b ws) + span m (drop a ws) ≤ n
 
 stands-short : {s : Sort} {e : Exp s} {W : List ℕ} {p : ℕ} → Stands W p e → size e ≤ length W
 stands-short {e = e} {W} {p} s = omega (arith, ap length (s .words-at .from), length-append (words e) (s .after), length-drop p W)
 
 -- The parts of a term that contracts.
-record Parted (W : List ℕ) (t c : Term) (b a m : ℕ) : Type 0 where
+record Apart (W : List ℕ) (t c : Term) (b a m : ℕ) : Type 0 where
   body : Term
   arguments : Terms
   body-stands : Stands W b body
@@ -53,10 +54,11 @@ record Parted (W : List ℕ) (t c : Term) (b a m : ℕ) : Type 0 where
   counted : count arguments ≡ m
   few : m < countBase
   indices : (limit : ℕ) → IndicesWithin limit t → IndicesWithin limit arguments
+  smaller : size body + size arguments ≤ size t
   contracted : c ≡ subst arguments 0 body
 
-parted : {W : List ℕ} {t c : Term} {b a m : ℕ} → Root W t (some c) (redex.Parts b a m) → Parted W t c b a m
-parted (contracts {e = e} {xs = xs} s s′ l i) =
+apart : {W : List ℕ} {t c : Term} {b a m : ℕ} → Root W t (some c) (parted b a m) → Apart W t c b a m
+apart (contracts {e = e} {xs = xs} s s′ l i m) =
     record {
       body = e;
       arguments = xs;
@@ -65,6 +67,7 @@ parted (contracts {e = e} {xs = xs} s s′ l i) =
       counted = refl;
       few = l;
       indices = i;
+      smaller = m;
       contracted = refl;
     }
 
@@ -82,7 +85,7 @@ module _ {ws : List ℕ} {n at : ℕ} (here : HoldsRedex ws n at) where
   length-short = omega (arith, start .within, here .holds .limit)
 
   -- The parts are found.
-  pub never-nothing : parts at (drop at ws) ≡ redex.Nothing → ⊥
+  pub never-nothing : parts at (drop at ws) ≡ nothing → ⊥
   never-nothing e = Option·none-ne-some (next ws n at) (sym (no-redex-here (here .holds) redex-within e) ∙ here .redex)
 
   packable : Packable (held ws n)
@@ -143,9 +146,9 @@ module _ {ws : List ℕ} {n at : ℕ} (here : HoldsRedex ws n at) where
       let f = focused in
       omega (arith, end-is, start .long, ap length (f .from ∙ sym (append-assoc (f .before) (words (f .redex)) (f .after))), length-append (f .before ++ words (f .redex)) (f .after))
 
-  module _ {b a m : ℕ} (found : parts at (drop at ws) ≡ redex.Parts b a m) where
-    at-parts : Parted ws (focused .redex) (focused .contractum) b a m
-    at-parts = parted (rw (focused .contracts, found) at (root redex-stands))
+  module _ {b a m : ℕ} (found : parts at (drop at ws) ≡ parted b a m) where
+    at-parts : Apart ws (focused .redex) (focused .contractum) b a m
+    at-parts = apart (rw (focused .contracts, found) at (root redex-stands))
 
     substituted-is : substituted ws b a m ≡ focused .contractum
     substituted-is =
@@ -169,6 +172,15 @@ module _ {ws : List ℕ} {n at : ℕ} (here : HoldsRedex ws n at) where
           short =
               rw (substituted-is ∙ q .contracted)
               (omega (arith, here .holds .limit, size-subst (q .arguments) workspaceMost (omega arith) (omega (arith, stands-short s′, here .holds .limit)) 0 (q .body), stands-short s));
+          small =
+              omega (
+                arith,
+                q .smaller,
+                redex-span,
+                end-within,
+                ap (span 1) (s .words-at .from) ∙ span-items (q .body) (s .after) refl (s .packable),
+                ap (span m) (s′ .words-at .from) ∙ span-items (q .arguments) (s′ .after) (add-zero (count (q .arguments)) ∙ q .counted) (s′ .packable),
+              );
         }
 
     -- The lengths of the parts make up that of the next term.

@@ -12,10 +12,9 @@ use lib.Seq.{drop-cons, drop-drop}
 use Rattle.calculus.specs.Words.{abstractionKind, applicationKind, constructorKind, caseKind, kindOf, payloadOf, tagOf, countOf}
 use Rattle.calculus.specs.Skip.{span}
 use Rattle.calculus.proofs.SkipLaws.{skip-drop}
-use Rattle.step.specs.declared.Found.{Found}
-use Rattle.step.specs.declared.Found.the-variants as found
-use Rattle.step.specs.declared.redex.Redex.the-variants as redex
-use Rattle.step.specs.Parts.{branchBody, withBody, caseParts, parts}
+use Rattle.step.specs.declared.rules.Found.{Found}
+use Rattle.step.specs.declared.rules.Found.the-variants as found
+use Rattle.step.specs.Parts.{Parts, nothing, parted, branchBody, withBody, caseParts, parts}
 
 pub branchBody-none : (t n i : ℕ) (ws : List ℕ) → branchBody zero t n i ws ≡ found.Nothing
 unfolding branchBody
@@ -50,10 +49,10 @@ module _ (k t n i : ℕ) (ws : List ℕ) (within : i < length ws) (left : k ≡ 
   branchBody-later p q = branchBody-step k t n i ws within left ∙ rw (ne-eqb _ _ p, q)
 
 -- The words from a position on, by the first, and by the first two.
-first-word : (i : ℕ) (ws : List ℕ) (j : ℕ) → i < length ws → j ≡ i + 1 → drop i ws ≡ getD ws i 0 ∷ drop j ws
+pub first-word : (i : ℕ) (ws : List ℕ) (j : ℕ) → i < length ws → j ≡ i + 1 → drop i ws ≡ getD ws i 0 ∷ drop j ws
 first-word i ws j h e = rw (e, add-one) (drop-cons ws i 0 h)
 
-first-two : (i : ℕ) (ws : List ℕ) → i + 1 < length ws → drop i ws ≡ getD ws i 0 ∷ getD ws (i + 1) 0 ∷ drop (i + 2) ws
+pub first-two : (i : ℕ) (ws : List ℕ) → i + 1 < length ws → drop i ws ≡ getD ws i 0 ∷ getD ws (i + 1) 0 ∷ drop (i + 2) ws
 first-two i ws h = first-word i ws (i + 1) (omega arith) refl ∙ ap (_∷_ (getD ws i 0)) (first-word (i + 1) ws (i + 2) h (omega arith))
 
 -- A case of a constructor, by what its words and the search among its branches say.
@@ -65,18 +64,18 @@ caseParts-found i w v ws e₁ e₂ e₃ e₄ e₅ e₆ =
     rw (← e₆, e₅, e₁, e₂, e₃, e₄, ← drop-drop (span 1 (drop (i + 1) ws)) (i + 1) ws, ← skip-drop 1 (drop (i + 1) ws))
 
 -- The last word has none behind it.
-pub parts-last : (i : ℕ) (ws : List ℕ) → i < length ws → length ws ≤ i + 1 → parts i (drop i ws) ≡ redex.Nothing
+pub parts-last : (i : ℕ) (ws : List ℕ) → i < length ws → length ws ≤ i + 1 → parts i (drop i ws) ≡ nothing
 unfolding parts
 parts-last i ws h l = rw (drop-cons ws i 0 h, drop-of-length-le ws {i = suc i} (omega arith))
 
 -- The two first words are those of an application of an abstraction, of a case of a constructor, or others.
 module _ (i : ℕ) (ws : List ℕ) (within : i + 1 < length ws) where
   pub parts-beta : kindOf (getD ws i 0) ≡ applicationKind → kindOf (getD ws (i + 1) 0) ≡ abstractionKind
-      → parts i (drop i ws) ≡ redex.Parts (i + 2) (i + 2 + span 1 (drop (i + 2) ws)) 1
+      → parts i (drop i ws) ≡ parted (i + 2) (i + 2 + span 1 (drop (i + 2) ws)) 1
   unfolding parts
   parts-beta p q = rw (first-two i ws within, p, q)
 
-  pub parts-applied : kindOf (getD ws i 0) ≡ applicationKind → (kindOf (getD ws (i + 1) 0) ≡ abstractionKind → ⊥) → parts i (drop i ws) ≡ redex.Nothing
+  pub parts-applied : kindOf (getD ws i 0) ≡ applicationKind → (kindOf (getD ws (i + 1) 0) ≡ abstractionKind → ⊥) → parts i (drop i ws) ≡ nothing
   unfolding parts
   parts-applied p q = rw (first-two i ws within, p, ne-eqb _ _ q)
 
@@ -85,10 +84,10 @@ module _ (i : ℕ) (ws : List ℕ) (within : i + 1 < length ws) where
   unfolding parts
   parts-case p q = rw (first-two i ws within, p, q, first-word (i + 1) ws (i + 2) within (omega arith))
 
-  pub parts-stuck : kindOf (getD ws i 0) ≡ caseKind → (kindOf (getD ws (i + 1) 0) ≡ constructorKind → ⊥) → parts i (drop i ws) ≡ redex.Nothing
+  pub parts-stuck : kindOf (getD ws i 0) ≡ caseKind → (kindOf (getD ws (i + 1) 0) ≡ constructorKind → ⊥) → parts i (drop i ws) ≡ nothing
   unfolding parts
   parts-stuck p q = rw (first-two i ws within, p, ne-eqb _ _ q)
 
-  pub parts-other : (kindOf (getD ws i 0) ≡ applicationKind → ⊥) → (kindOf (getD ws i 0) ≡ caseKind → ⊥) → parts i (drop i ws) ≡ redex.Nothing
+  pub parts-other : (kindOf (getD ws i 0) ≡ applicationKind → ⊥) → (kindOf (getD ws i 0) ≡ caseKind → ⊥) → parts i (drop i ws) ≡ nothing
   unfolding parts
   parts-other p q = rw (first-two i ws within, ne-eqb _ _ p, ne-eqb _ _ q)

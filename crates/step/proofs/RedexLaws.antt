@@ -1,13 +1,13 @@
 -- The parts found in the words are those of the tree: at the first word of a term they are there exactly where the term contracts, and then the
 -- contractum is the body found with the arguments found put in.
-use Prim.Native.Nat.{ℕ, _+_, _<_}
+use Prim.Native.Nat.{ℕ, suc, _+_, _≤_, _<_}
 use mathlib.Core.Path.{_≡_, refl, sym, _∙_, ap}
 use mathlib.Core.Bool.{Bool, true, false, cond}
 use mathlib.Core.List.{List, [], _∷_, _++_, append-assoc, append-nil}
 use mathlib.Core.Option.{Option, some, none, Option·map}
 use native.Mathlib.Omega.{arith}
 use lib.Dec.{eqb}
-use lib.ListN.{length, drop}
+use lib.ListN.{length, drop, length-append}
 use lib.Seq.{drop-drop, drop-append-seam}
 use borrow.Author.Tests.{ne-eqb}
 use Rattle.calculus.specs.Term.{Sort, Exp, Term, Terms, Branches, var, lam, app, con, case, nil, cons, end, branch, count}
@@ -20,11 +20,9 @@ use Rattle.calculus.specs.Theorems.{Packable, IndicesWithin}
 use Rattle.calculus.proofs.WordLaws.{kindOf-word, payloadOf-word, tagOf-pack, countOf-pack}
 use Rattle.calculus.proofs.SkipLaws.{skip-words, skip-zero}
 use Rattle.calculus.proofs.FirstLaws.{span-items}
-use Rattle.step.specs.declared.Found.{Found}
-use Rattle.step.specs.declared.Found.the-variants as found
-use Rattle.step.specs.declared.redex.Redex.{Redex}
-use Rattle.step.specs.declared.redex.Redex.the-variants as redex
-use Rattle.step.specs.Parts.{branchBody, withBody, caseParts, parts}
+use Rattle.step.specs.declared.rules.Found.{Found}
+use Rattle.step.specs.declared.rules.Found.the-variants as found
+use Rattle.step.specs.Parts.{Parts, nothing, parted, branchBody, withBody, caseParts, parts}
 
 -- From a position on, a workspace is these words.
 pub record From (W : List ℕ) (p : ℕ) (ws : List ℕ) : Type 0 where
@@ -53,47 +51,48 @@ stands-alone a vs f h = stands (cons a nil) vs (rw (append-nil (words a)) f) (h,
 skip-term : (t : Term) (ws : List ℕ) → Packable t → skip 1 (words t ++ ws) ≡ ws
 skip-term t ws h = skip-words t 0 ws h ∙ skip-zero ws
 
--- What the case rule selects, beside the body that was found.
-data Selected (W : List ℕ) (xs : Terms) : Option Term → Found → Type 0 where
-  nowhere : Selected W xs none found.Nothing
-  body : {p : ℕ} {b : Term} → Stands W p b → Selected W xs (some (substitution xs 0 b)) (found.At p)
+-- What the case rule selects, beside the body that was found, which has no more words than so many.
+data Selected (W : List ℕ) (xs : Terms) (most : ℕ) : Option Term → Found → Type 0 where
+  nowhere : Selected W xs most none found.Nothing
+  body : {p : ℕ} {b : Term} → Stands W p b → size b ≤ most → Selected W xs most (some (substitution xs 0 b)) (found.At p)
 
-selected-eqb : {W : List ℕ} {xs : Terms} (x y : Option Term) (q r : Found) (m n : ℕ) → Selected W xs x q → Selected W xs y r
-    → Selected W xs (cond (eqb m n) x y) (cond (eqb m n) q r)
-selected-eqb {W} {xs} x y q r m n s t = go (eqb m n)
+selected-eqb : {W : List ℕ} {xs : Terms} {most : ℕ} (x y : Option Term) (q r : Found) (m n : ℕ) → Selected W xs most x q → Selected W xs most y r
+    → Selected W xs most (cond (eqb m n) x y) (cond (eqb m n) q r)
+selected-eqb {W} {xs} {most} x y q r m n s t = go (eqb m n)
   where
-    go : (b : Bool) → Selected W xs (cond b x y) (cond b q r)
+    go : (b : Bool) → Selected W xs most (cond b x y) (cond b q r)
     go true = s
     go false = t
 
-selected : (t : ℕ) (xs : Terms) (bs : Branches) {W : List ℕ} {at : ℕ} (vs : List ℕ) → Packable bs → From W at (words bs ++ vs)
-    → Selected W xs (select t xs bs) (branchBody (count bs) t (count xs) at (words bs ++ vs))
+selected : (t : ℕ) (xs : Terms) (bs : Branches) {W : List ℕ} {at : ℕ} (vs : List ℕ) (most : ℕ) → size bs ≤ most → Packable bs → From W at (words bs ++ vs)
+    → Selected W xs most (select t xs bs) (branchBody (count bs) t (count xs) at (words bs ++ vs))
 unfolding branchBody
-selected t xs end vs h s = nowhere
-selected t xs (branch u n b bs) vs h s =
+selected t xs end vs most m h s = nowhere
+selected t xs (branch u n b bs) vs most m h s =
+    let k : suc (size b + size bs) ≤ most = omega (arith, length-append (words b) (words bs)) in
     let q = payloadOf-word branchKind (pack u n) (omega arith) in
     let s′ = rw (append-assoc (words b) (words bs) vs) at (behind-word s) in
     rw (q, tagOf-pack u n (h .0), countOf-pack u n (h .0), append-assoc (words b) (words bs) vs, span-items b (words bs ++ vs) refl (h .1), skip-term b (words bs ++ vs) (h .1))
-    (selected-eqb _ _ _ _ t u (selected-eqb _ _ _ _ (count xs) n (body (stands b (words bs ++ vs) s′ (h .1))) nowhere) (selected t xs bs vs (h .2) (behind (words b) s′)))
+    (selected-eqb _ _ _ _ t u (selected-eqb _ _ _ _ (count xs) n (body (stands b (words bs ++ vs) s′ (h .1)) (omega arith)) nowhere) (selected t xs bs vs most (omega arith) (h .2) (behind (words b) s′)))
 
 -- What contracting a term at its first word gives, beside the parts that were found there.
-pub data Root (W : List ℕ) (t : Term) : Option Term → Redex → Type 0 where
-  stuck : Root W t none redex.Nothing
+pub data Root (W : List ℕ) (t : Term) : Option Term → Parts → Type 0 where
+  stuck : Root W t none nothing
   contracts : {b a : ℕ} {e : Term} {xs : Terms} → Stands W b e → Stands W a xs → count xs < countBase
-      → ((limit : ℕ) → IndicesWithin limit t → IndicesWithin limit xs) → Root W t (some (substitution xs 0 e)) (redex.Parts b a (count xs))
+      → ((limit : ℕ) → IndicesWithin limit t → IndicesWithin limit xs) → size e + size xs ≤ size t → Root W t (some (substitution xs 0 e)) (parted b a (count xs))
 
 -- The words of other kinds start no redex.
-pub other-first : (k p at : ℕ) (ws : List ℕ) → k < kindBase → (k ≡ applicationKind → ⊥) → (k ≡ caseKind → ⊥) → parts at (word k p ∷ ws) ≡ redex.Nothing
+pub other-first : (k p at : ℕ) (ws : List ℕ) → k < kindBase → (k ≡ applicationKind → ⊥) → (k ≡ caseKind → ⊥) → parts at (word k p ∷ ws) ≡ nothing
 unfolding parts
 other-first k p at [] l a c = refl
 other-first k p at (v ∷ vs) l a c = rw (kindOf-word k p l, ne-eqb _ _ a, ne-eqb _ _ c)
 
 -- Nor do an application and a case where the wrong kind stands behind them.
-other-function : (k p at : ℕ) (ws : List ℕ) → k < kindBase → (k ≡ abstractionKind → ⊥) → parts at (word applicationKind 0 ∷ word k p ∷ ws) ≡ redex.Nothing
+other-function : (k p at : ℕ) (ws : List ℕ) → k < kindBase → (k ≡ abstractionKind → ⊥) → parts at (word applicationKind 0 ∷ word k p ∷ ws) ≡ nothing
 unfolding parts
 other-function k p at ws l a = rw (kindOf-word k p l, ne-eqb _ _ a)
 
-other-subject : (n k p at : ℕ) (ws : List ℕ) → k < kindBase → (k ≡ constructorKind → ⊥) → parts at (word caseKind n ∷ word k p ∷ ws) ≡ redex.Nothing
+other-subject : (n k p at : ℕ) (ws : List ℕ) → k < kindBase → (k ≡ constructorKind → ⊥) → parts at (word caseKind n ∷ word k p ∷ ws) ≡ nothing
 unfolding parts
 other-subject n k p at ws l a = rw (kindOf-word caseKind n (omega arith), kindOf-word k p l, ne-eqb _ _ a)
 
@@ -104,7 +103,8 @@ at-function (lam b) a {at} vs h s =
     let two : at + 1 + 1 ≡ at + 2 = omega arith in
     let s′ = rw (append-assoc (words b) (words a) vs, two) at (behind-word (behind-word s)) in
     rw (append-assoc (words b) (words a) vs, span-items b (words a ++ vs) refl (h .0))
-    (contracts (stands b (words a ++ vs) s′ (h .0)) (stands-alone a vs (behind (words b) s′) (h .1)) (omega arith) (λ limit i. (i .1, tt)))
+    (contracts (stands b (words a ++ vs) s′ (h .0)) (stands-alone a vs (behind (words b) s′) (h .1)) (omega arith) (λ limit i. (i .1, tt))
+    (omega (arith, length-append (words b) (words a), length-append (words a) [])))
 at-function (app f g) a vs h s = stuck
 at-function (con t xs) a vs h s = rw (other-function constructorKind (pack t (count xs)) _ _ (omega arith) (λ e. omega arith)) stuck
 at-function (case e bs) a vs h s = rw (other-function caseKind (count bs) _ _ (omega arith) (λ e. omega arith)) stuck
@@ -113,11 +113,11 @@ at-function (case e bs) a vs h s = rw (other-function caseKind (count bs) _ _ (o
 abbrev results : Option (Rule × Term) → Option Term
 results o = Option·map (λ c. c .1) o
 
-root-selected : {W : List ℕ} {t : Term} {xs : Terms} {a : ℕ} {o : Option Term} {r : Found} → Selected W xs o r → Stands W a xs → count xs < countBase
-    → ((limit : ℕ) → IndicesWithin limit t → IndicesWithin limit xs)
+root-selected : {W : List ℕ} {t : Term} {xs : Terms} {a most : ℕ} {o : Option Term} {r : Found} → Selected W xs most o r → Stands W a xs → count xs < countBase
+    → ((limit : ℕ) → IndicesWithin limit t → IndicesWithin limit xs) → most + size xs ≤ size t
     → Root W t (results (Option·map (λ u. (by-case, u)) o)) (withBody a (count xs) r)
-root-selected nowhere s l i = stuck
-root-selected (body b) s l i = contracts b s l i
+root-selected nowhere s l i m = stuck
+root-selected (body b k) s l i m = contracts b s l i (omega arith)
 
 parts-constructor : (n p at : ℕ) (ws : List ℕ)
     → parts at (word caseKind n ∷ word constructorKind p ∷ ws) ≡ caseParts at (word caseKind n) (word constructorKind p) (word constructorKind p ∷ ws)
@@ -147,7 +147,8 @@ at-subject (con t xs) bs {at} vs h s =
     let two : at + 1 + 1 ≡ at + 2 = omega arith in
     let s′ = rw (append-assoc (words (con t xs)) (words bs) vs) at (behind-word s) in
     rw (append-assoc (words (con t xs)) (words bs) vs, parts-constructor (count bs) (pack t (count xs)) at (words xs ++ (words bs ++ vs)), caseParts-words (count bs) t xs at (words bs ++ vs) (h .1))
-    (root-selected (selected t xs bs vs (h .2) (behind (words (con t xs)) s′)) (stands xs (words bs ++ vs) (rw two at (behind-word s′)) (h .1 .1)) (h .1 .0) (λ limit i. i .1 .1))
+    (root-selected (selected t xs bs vs (size bs) (omega arith) (h .2) (behind (words (con t xs)) s′)) (stands xs (words bs ++ vs) (rw two at (behind-word s′)) (h .1 .1)) (h .1 .0) (λ limit i. i .1 .1)
+    (omega (arith, length-append (words (con t xs)) (words bs))))
 at-subject (case e cs) bs vs h s = rw (other-subject (count bs) caseKind (count cs) _ _ (omega arith) (λ e. omega arith)) stuck
 
 root-words : {W : List ℕ} (t : Term) {at : ℕ} (vs : List ℕ) → Packable t → From W at (words t ++ vs) → Root W t (contractAt 0 t) (parts at (words t ++ vs))

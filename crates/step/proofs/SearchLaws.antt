@@ -13,44 +13,42 @@ use Rattle.calculus.specs.Term.{Sort, Exp, Term, var, lam, app, con, case, nil,
 use Rattle.calculus.specs.Words.{branchKind, pack, words, size}
 use Rattle.calculus.specs.Position.{through, stepAt, contractAt, redexAt}
 use Rattle.calculus.specs.Theorems.{Packable}
-use Rattle.step.specs.declared.redex.Redex.{Redex}
-use Rattle.step.specs.declared.redex.Redex.the-variants as redex
 use Rattle.step.specs.Held.{held, Holds}
 use Rattle.step.specs.Search.{Searched}
-use Rattle.step.specs.Parts.{parts}
-use Rattle.calculus.proofs.PositionLaws.{redex-first, redex-absent}
+use Rattle.step.specs.Parts.{Parts, nothing, parted, parts}
+use Rattle.calculus.proofs.PositionLaws.{redex-absent}
 use Rattle.calculus.proofs.WordLaws.{accepted-packable}
 use Rattle.step.proofs.HeldLaws.{termAt-start}
 use Rattle.step.proofs.RedexLaws.{From, behind-word, behind, Root, stuck, contracts, root, stands, other-first}
 
 -- A contraction and its parts are both there, or neither is.
-pub data Agrees {A : Type 0} : Option A → Redex → Type 0 where
-  neither : Agrees none redex.Nothing
-  both : {a : A} {b x n : ℕ} → Agrees (some a) (redex.Parts b x n)
+pub data Agrees {A : Type 0} : Option A → Parts → Type 0 where
+  neither : Agrees none nothing
+  both : {a : A} {b x n : ℕ} → Agrees (some a) (parted b x n)
 
-agrees-map : {A B : Type 0} (f : A → B) {o : Option A} {r : Redex} → Agrees o r → Agrees (Option·map f o) r
+agrees-map : {A B : Type 0} (f : A → B) {o : Option A} {r : Parts} → Agrees o r → Agrees (Option·map f o) r
 agrees-map f neither = neither
 agrees-map f both = both
 
-agrees-back : {A B : Type 0} (f : A → B) (o : Option A) {r : Redex} → Agrees (Option·map f o) r → Agrees o r
+agrees-back : {A B : Type 0} (f : A → B) (o : Option A) {r : Parts} → Agrees (Option·map f o) r → Agrees o r
 agrees-back f none neither = neither
 agrees-back f (some a) both = both
 
-agrees-ltb : {A : Type 0} (m n : ℕ) {x y : Option A} {r : Redex} → (m < n → Agrees x r) → (n ≤ m → Agrees y r) → Agrees (cond (ltb m n) x y) r
+agrees-ltb : {A : Type 0} (m n : ℕ) {x y : Option A} {r : Parts} → (m < n → Agrees x r) → (n ≤ m → Agrees y r) → Agrees (cond (ltb m n) x y) r
 agrees-ltb m n {x} {y} {r} f g = go (ltb m n) refl
   where
     go : (b : Bool) → ltb m n ≡ b → Agrees (cond b x y) r
     go true e = f (ltb-true m n e)
     go false e = g (ltb-false m n e)
 
-agrees-root : {W : List ℕ} {t : Term} {o : Option Term} {r : Redex} → Root W t o r → Agrees o r
+agrees-root : {W : List ℕ} {t : Term} {o : Option Term} {r : Parts} → Root W t o r → Agrees o r
 agrees-root stuck = neither
-agrees-root (contracts b a l i) = both
+agrees-root (contracts b a l i m) = both
 
-agrees-some : {A : Type 0} {o : Option A} {b x n : ℕ} → Agrees o (redex.Parts b x n) → (a : A) × (o ≡ some a)
+agrees-some : {A : Type 0} {o : Option A} {b x n : ℕ} → Agrees o (parted b x n) → (a : A) × (o ≡ some a)
 agrees-some (both {a = a}) = (a, refl)
 
-agrees-none : {A : Type 0} {o : Option A} → Agrees o redex.Nothing → o ≡ none
+agrees-none : {A : Type 0} {o : Option A} → Agrees o nothing → o ≡ none
 agrees-none neither = refl
 
 -- The contractions at p of an expression, beside the parts found at the position q of a workspace.
@@ -104,11 +102,11 @@ module _ {ws : List ℕ} {n : ℕ} (holds : Holds ws n) {p : ℕ} (within : p < 
       found-at (held ws n) 0 p (drop n ws) (accepted-packable 0 (held ws n) (h .accepted)) (record { from = sym (h .start) })
       (omega arith) (omega arith)
 
-  redex-here : {b x m : ℕ} → parts p (drop p ws) ≡ redex.Parts b x m → (u : Term) × (contractAt p (held ws n) ≡ some u)
+  pub redex-here : {b x m : ℕ} → parts p (drop p ws) ≡ parted b x m → (u : Term) × (contractAt p (held ws n) ≡ some u)
   unfolding contractAt
   redex-here e = agrees-some (agrees-map (λ c. c .1) (rw e at found-here))
 
-  pub no-redex-here : parts p (drop p ws) ≡ redex.Nothing → contractAt p (held ws n) ≡ none
+  pub no-redex-here : parts p (drop p ws) ≡ nothing → contractAt p (held ws n) ≡ none
   unfolding contractAt
   no-redex-here e = agrees-none (agrees-map (λ c. c .1) (rw e at found-here))
 
@@ -117,10 +115,7 @@ module _ {ws : List ℕ} {n i : ℕ} (searched : Searched ws n i) where
   pub search-within : n ≤ length ws
   search-within = termAt-start ws n (held ws n) (searched .holds .term) .within
 
-  pub search-stops : i < n → {b x m : ℕ} → parts i (drop i ws) ≡ redex.Parts b x m → redexAt (held ws n) ≡ some i
-  search-stops l e = redex-first (held ws n) i .1 (redex-here (searched .holds) l e, searched .before)
-
-  pub search-goes-on : i < n → parts i (drop i ws) ≡ redex.Nothing → Searched ws n (i + 1)
+  pub search-goes-on : i < n → parts i (drop i ws) ≡ nothing → Searched ws n (i + 1)
   search-goes-on l e =
       record {
         holds = searched .holds;

@@ -3,3 +3,4 @@ pub mod Held
 pub mod Parts
 pub mod Search
 pub mod Next
+pub mod Plan

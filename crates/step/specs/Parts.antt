@@ -9,10 +9,13 @@ use mathlib.Core.List.{List, [], _∷_}
 use lib.Dec.{eqb}
 use Rattle.calculus.specs.Words.{abstractionKind, applicationKind, constructorKind, caseKind, kindOf, payloadOf, tagOf, countOf}
 use Rattle.calculus.specs.Skip.{skip, span}
-use Rattle.step.specs.declared.Found.{Found}
-use Rattle.step.specs.declared.Found.the-variants as found
-use Rattle.step.specs.declared.redex.Redex.{Redex}
-use Rattle.step.specs.declared.redex.Redex.the-variants as redex
+use Rattle.step.specs.declared.rules.Found.{Found}
+use Rattle.step.specs.declared.rules.Found.the-variants as found
+
+-- Where the parts stand, or that there are none.
+pub data Parts : Type 0 where
+  nothing : Parts
+  parted : (body args count : ℕ) → Parts
 
 -- The body of the first of k branches that has the tag, if it binds n variables.
 unfoldable pub branchBody : (k tag n at : ℕ) → List ℕ → Found
@@ -24,21 +27,21 @@ branchBody (suc k) t n at (w ∷ ws) =
     (branchBody k t n (at + 1 + span 1 ws) (skip 1 ws))
 
 -- The parts by the body that a search among the branches found.
-abbrev pub withBody : (args n : ℕ) → Found → Redex
-withBody args n found.Nothing = redex.Nothing
-withBody args n (found.At body) = redex.Parts body args n
+abbrev pub withBody : (args n : ℕ) → Found → Parts
+withBody args n found.Nothing = nothing
+withBody args n (found.At body) = parted body args n
 
 -- The parts of a case of a constructor, by its word, the constructor's word and the words from there on.
-unfoldable pub caseParts : (at w v : ℕ) → List ℕ → Redex
+unfoldable pub caseParts : (at w v : ℕ) → List ℕ → Parts
 caseParts at w v vs =
     withBody (at + 2) (countOf (payloadOf v))
     (branchBody (payloadOf w) (tagOf (payloadOf v)) (countOf (payloadOf v)) (at + 1 + span 1 vs) (skip 1 vs))
 
 -- The parts by the first two words.
-unfoldable pub parts : ℕ → List ℕ → Redex
-parts at [] = redex.Nothing
-parts at (w ∷ []) = redex.Nothing
+unfoldable pub parts : ℕ → List ℕ → Parts
+parts at [] = nothing
+parts at (w ∷ []) = nothing
 parts at (w ∷ v ∷ vs) =
     cond (eqb (kindOf w) applicationKind)
-    (cond (eqb (kindOf v) abstractionKind) (redex.Parts (at + 2) (at + 2 + span 1 vs) 1) redex.Nothing)
-    (cond (eqb (kindOf w) caseKind) (cond (eqb (kindOf v) constructorKind) (caseParts at w v (v ∷ vs)) redex.Nothing) redex.Nothing)
+    (cond (eqb (kindOf v) abstractionKind) (parted (at + 2) (at + 2 + span 1 vs) 1) nothing)
+    (cond (eqb (kindOf w) caseKind) (cond (eqb (kindOf v) constructorKind) (caseParts at w v (v ∷ vs)) nothing) nothing)

@@ -2,16 +2,9 @@
 use Prim.Native.Nat.{ℕ, _<_}
 use mathlib.Core.Path.{_≡_}
 use mathlib.Core.List.{List}
-use mathlib.Core.Option.{Option, some, none}
+use mathlib.Core.Option.{none}
 use Rattle.calculus.specs.Position.{contractAt}
 use Rattle.step.specs.Held.{held, Holds}
-use Rattle.step.specs.declared.Found.{Found}
-use Rattle.step.specs.declared.Found.the-variants.{At, Nothing}
-
--- A position, or that there is none, as the answer of a call.
-abbrev pub found : Option ℕ → Found
-found none = Nothing
-found (some p) = At p
 
 -- The search may start at `from`: no redex of the held term starts before.
 pub record Searched (ws : List ℕ) (n from : ℕ) : Type 0 where

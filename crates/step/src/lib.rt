@@ -1,79 +1,76 @@
-// One contraction of the term in a workspace: the leftmost redex, the length of the next term, and the contraction itself, through a scratch.
-mod redex;
+// One contraction of the term in a workspace: the plan of the leftmost redex's contraction, with the length of the next term, and the contraction.
+mod rules;
+mod tail;
 
-use redex::Redex;
-use redex::parts;
+use rules::plan_at;
 use substitution::substitute;
-use substitution::substituted_length;
-use words::extent;
+use tail::move_words;
 use words::slices::copy;
-ghost use mathlib.Core.Path.{_≡_};
-ghost use Rattle.calculus.specs.Words.{size};
-ghost use Rattle.calculus.specs.Position.{redexAt};
-ghost use Rattle.words.specs.Placed.{Placed};
-ghost use Rattle.step.specs.Held.{held};
-ghost use Rattle.step.specs.Search.{found, Searched};
-ghost use Rattle.step.specs.Next.{next, nextFrom, HoldsRedex, Gathers, HasRoom, Contracted};
+ghost use Prim.Native.Nat.{_≤_};
+ghost use lib.ListN.{length};
+ghost use Rattle.step.specs.Search.{Searched};
+ghost use Rattle.step.specs.Plan.{Planned, HasRoom, Contracted};
 
-// A position, or that there is none.
-pub enum Found {
-    At(usize),
-    Nothing,
+// A redex found once: where it starts, the rule's body and the word that its rewriting stops at, the arguments up to `after` and their number,
+// where the words start that stay behind the contractum, and the length of the next term.
+pub struct Redex {
+    pub at: usize,
+    pub body: usize,
+    pub stop: usize,
+    pub args: usize,
+    pub after: usize,
+    pub count: usize,
+    pub end: usize,
+    pub length: usize,
 }
 
-// The leftmost redex at or after a position before which none starts.
-pub fn find(ws: &[u32], n: usize, from: usize) -> Found
-    requires { ⌜ Searched (now ws) n from ⌝ }
-    ensures { λ r. ⌜ r ≡ found (redexAt (held (now (ws .entry)) n)) ⌝ }
+// What a term does next: nothing where it is normal, or the contraction of its leftmost redex.
+pub enum Plan {
+    Normal,
+    Contract(Redex),
+}
+
+// The plan for the term, which has no redex before `from`. Nothing is written but the scratch, which is the room of the walks: its words mean
+// nothing afterwards.
+pub fn find(ws: &[u32], n: usize, from: usize, scratch: &mut [u32]) -> Plan
+    requires { ⌜ Searched (now ws) n from × (n ≤ length (now scratch)) ⌝ }
+    ensures { λ r. ⌜ Planned (now (ws .entry)) n r ⌝ }
 {
     let mut i = from;
     while i < n {
-        match parts(ws, i) {
-            Redex::Parts {
-                body: _,
-                args: _,
-                count: _,
-            } => return Found::At(i),
-            Redex::Nothing => i += 1,
+        match plan_at(ws, n, i, scratch) {
+            Plan::Contract(redex) => return Plan::Contract(redex),
+            Plan::Normal => i += 1,
         }
     }
-    Found::Nothing
+    Plan::Normal
 }
 
-// The length of the term after the contraction of the redex at a position. Nothing is changed.
-pub fn next_length(ws: &[u32], n: usize, at: usize) -> usize
-    requires { ⌜ HoldsRedex (now ws) n at ⌝ }
-    ensures { λ r. ⌜ r ≡ size (next (now (ws .entry)) n at) ⌝ }
+// Contracts a planned redex in place, and returns the length of the term then: its contractum is put together in the scratch, the words behind the
+// redex move if the length changes, and the contractum takes its place. The room keeps the scopes of the walk.
+pub fn contract(
+    ws: &mut [u32],
+    n: usize,
+    redex: Redex,
+    scratch: &mut [u32],
+    room: &mut [u32],
+) -> usize
+    requires { ⌜ HasRoom (now ws) n redex (now scratch) (now room) ⌝ }
+    ensures { λ r. ⌜ Contracted (now (ws .entry)) n redex (now (scratch .entry)) r (now (ws .exit)) (now (scratch .exit)) ⌝ }
 {
-    match parts(ws, at) {
-        Redex::Parts { body, args, count } => {
-            let end = extent(ws, at);
-            at + substituted_length(ws, body, args, count) + (n - end)
-        }
-        Redex::Nothing => n,
-    }
-}
-
-// Puts the contractum of the redex at a position and the words behind the redex at the start of the scratch, and returns how many words these are.
-fn gather(ws: &[u32], n: usize, at: usize, scratch: &mut [u32]) -> usize
-    requires { ⌜ Gathers (now ws) n at (now scratch) ⌝ }
-    ensures { λ r. ⌜ Placed (now (scratch .entry)) 0 (nextFrom (now (ws .entry)) n at) (now (scratch .exit)) r ⌝ }
-{
-    match parts(ws, at) {
-        Redex::Parts { body, args, count } => {
-            let end = extent(ws, at);
-            let middle = substitute(ws, body, args, count, scratch, 0);
-            copy(ws, end, n, scratch, middle)
-        }
-        Redex::Nothing => 0,
-    }
-}
-
-// Contracts the redex at a position, through the scratch, and returns the length of the term then. The words before the redex are not touched.
-pub fn contract(ws: &mut [u32], n: usize, at: usize, scratch: &mut [u32]) -> usize
-    requires { ⌜ HasRoom (now ws) n at (now scratch) ⌝ }
-    ensures { λ r. ⌜ Contracted (now (ws .entry)) n at (now (scratch .entry)) r (now (ws .exit)) (now (scratch .exit)) ⌝ }
-{
-    let written = gather(ws, n, at, scratch);
-    copy(scratch, 0, written, ws, at)
+    let at = redex.at;
+    let put = substitute(
+        ws,
+        redex.body,
+        redex.stop,
+        redex.args,
+        redex.after,
+        redex.count,
+        scratch,
+        0,
+        room,
+    );
+    move_words(ws, redex.end, n, at + put);
+    copy(scratch, 0, put, ws, at);
+    redex.length
 }

@@ -90,3 +90,16 @@ module _ {ws : List ℕ} {body args n : ℕ} (h : Substitutable ws body args n) 
   pub chosen-short : getD starts (j + 1) 0 - getD starts j 0 ≤ workspaceMost
   chosen-short =
       omega (arith, chosen-end, span-bounded 1 (drop (getD starts j 0) ws), length-drop (getD starts j 0) ws, h .short)
+
+  -- It is a part of the arguments' words.
+  pub chosen-part : span 1 (drop (getD starts j 0) ws) ≤ span n (drop args ws)
+  chosen-part =
+      let e : j + 1 + (n - (j + 1)) ≡ n = omega arith in
+      omega (
+        arith,
+        chosen-end,
+        start-is,
+        p .placed (j + 1) (omega arith),
+        span-add (drop args ws) (j + 1) (n - (j + 1)),
+        ap (λ m. span m (drop args ws)) e,
+      )

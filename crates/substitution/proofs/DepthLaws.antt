@@ -16,7 +16,7 @@ pub depths-done : (ws : List ℕ) → depths [] ws ≡ []
 depths-done [] = refl
 depths-done (w ∷ ws) = refl
 
-length-items : (w d : ℕ) (ds : List ℕ) → length (replicate (arity w) (d + binders w) ++ ds) ≡ arity w + length ds
+pub length-items : (w d : ℕ) (ds : List ℕ) → length (replicate (arity w) (d + binders w) ++ ds) ≡ arity w + length ds
 length-items w d ds = length-append (replicate (arity w) (d + binders w)) ds ∙ (rw (length-replicate (arity w) (d + binders w)))
 
 pub length-depths : (ws ds : List ℕ) → length (depths ds ws) ≤ length ws

@@ -2,6 +2,7 @@
 use Prim.Native.Nat.{ℕ, _≤_}
 use mathlib.Core.Path.{_≡_, sym, _∙_, ap, ap₂}
 use mathlib.Core.List.{List, [], _∷_, _++_}
+use native.Mathlib.Nat.{add-zero}
 use lib.IntN.{ℤ}
 use lib.ListN.{length, drop, take-append-drop}
 use lib.Seq.{take-append-seam}
@@ -12,7 +13,8 @@ use Rattle.calculus.specs.First.{firstTerm, firstTerms}
 use Rattle.calculus.specs.Shift.{shift}
 use Rattle.calculus.specs.Substitution.{subst}
 use Rattle.calculus.specs.Theorems.{Packable, IndicesWithin}
-use Rattle.calculus.proofs.FirstLaws.{firstTerm-words, firstTerms-words}
+use Rattle.calculus.specs.Skip.{span}
+use Rattle.calculus.proofs.FirstLaws.{span-items, firstTerm-words, firstTerms-words}
 use Rattle.substitution.specs.Moves.{Movable}
 use Rattle.substitution.specs.Depths.{depths}
 use Rattle.substitution.specs.Rewritten.{shifting, substituting}
@@ -39,6 +41,13 @@ module _ (t : Term) (ws : List ℕ) (h : Starts ws t) where
 
   pub subst-starts : (xs : Terms) → flat (substituting xs) (marked (depths (0 ∷ []) ws) ws) ≡ words (subst xs 0 t)
   subst-starts xs = ap (flat (substituting xs)) marked-starts ∙ flat-subst xs t
+
+-- The arguments end where as many items end.
+pub arguments-size : {ws : List ℕ} {body args n : ℕ} → Substitutable ws body args n → span n (drop args ws) ≡ size (firstTerms n (drop args ws))
+arguments-size {ws} {args = args} {n} h =
+    let xs = firstTerms n (drop args ws) in
+    ap (span n) (starts-split xs (drop args ws) (h .args-start))
+    ∙ span-items xs (drop (size xs) (drop args ws)) (add-zero (count xs) ∙ h .args-count) (h .args-start .packable)
 
 -- A term t at position `at`.
 module _ (ws : List ℕ) (at : ℕ) (t : Term) (vs : List ℕ) (stands : drop at ws ≡ words t ++ vs) (packable : Packable t) where

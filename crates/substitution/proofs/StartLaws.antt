@@ -43,3 +43,15 @@ placed-next src args starts j end room p q =
 
     before : (i : ℕ) → i < j + 1 → getD (set starts (j + 1) end) i 0 ≡ args + span i (drop args src)
     before i l = getD-set-other starts (j + 1) i end 0 (omega arith) ∙ p .placed i (omega arith)
+
+-- The end of the last item, which is known, behind the starts.
+pub placed-last : (src : List ℕ) (args : ℕ) (starts : List ℕ) (j n after : ℕ) → n < length starts → n ≤ j + 1 → Placed src args starts j
+    → after ≡ args + span n (drop args src) → Placed src args (set starts n after) n
+placed-last src args starts j n after room l p q =
+    record { placed = λ i h. ⊎-elim (here i) (before i) (eq-or-lt-of-le h) }
+  where
+    here : (i : ℕ) → i ≡ n → getD (set starts n after) i 0 ≡ args + span i (drop args src)
+    here i e = rw e (getD-set-same starts n after 0 room ∙ q)
+
+    before : (i : ℕ) → i < n → getD (set starts n after) i 0 ≡ args + span i (drop args src)
+    before i m = getD-set-other starts n i after 0 (λ e. omega arith) ∙ p .placed i (omega arith)

@@ -1,187 +1,118 @@
--- The walk of the code's `depths`. The binders around the items still to come stand at the end of the room, the next item first; a word takes the
--- first of them and puts those of the items after it there.
+-- A walk that keeps its scopes in a room: the binders around the items still to come are those of the pending items and of the scopes at the end
+-- of the room.
 use Prim.Native.Nat.{ℕ, zero, suc, _+_, _*_, _-_, _≤_, _<_}
 use mathlib.Core.Path.{_≡_, refl, sym, _∙_, ap}
-use mathlib.Core.List.{List, [], _∷_, _++_, append-nil}
-use native.Mathlib.Numerals.{add-one}
+use mathlib.Core.List.{List, [], _∷_}
 use native.Mathlib.Omega.{arith}
-use lib.ListN.{length, getD, take, drop, set, replicate, length-set, length-drop, length-append, length-replicate, drop-of-length-le}
-use lib.Seq.{drop-cons, getD-set-same, take-suc-set, drop-set-lt, append-snoc, take-append-le, drop-at, take-take, length-take-le, take-all}
-use borrow.Rule.Slice.PartMut.{midOf, putMid, post-is, mid-len, same-len-mid}
-use Rattle.calculus.specs.Term.{Term}
-use Rattle.calculus.specs.Words.{countBase, words, size}
+use lib.ListN.{length, getD, drop, replicate, length-append, length-replicate, drop-of-length-le}
+use Rattle.calculus.specs.Words.{workspaceMost}
 use Rattle.calculus.specs.Skip.{arity, span}
 use Rattle.calculus.specs.First.{firstTerm}
-use Rattle.calculus.specs.Theorems.{Packable}
-use Rattle.calculus.proofs.WordLaws.{size-positive}
-use Rattle.calculus.proofs.SkipLaws.{span-zero}
-use Rattle.calculus.proofs.FirstLaws.{span-items}
 use Rattle.substitution.specs.Depths.{depths}
-use Rattle.substitution.specs.Results.{Whole}
-use Rattle.words.specs.Bound.{bound as binders}
-use Rattle.substitution.proofs.DepthLaws.{Bounded, bounded-word}
+use Rattle.substitution.specs.Results.{Starts}
+use Rattle.substitution.specs.Scopes.{scopeBase, expanded, toCome, Stands, Enters, Entered}
+use Rattle.substitution.proofs.ScopeLaws.{come-first}
+use Rattle.substitution.proofs.WalkLaws.{Walk, walk-start, walk-word, walk-few, walk-done, depth-bounded, depth-is, walk-inside}
 
--- The first j items end within the words.
-abbrev Complete : List ℕ → (j : ℕ) → Type 0
-Complete [] j = j ≡ 0
-Complete (w ∷ ws) zero = Unit {0}
-Complete (w ∷ ws) (suc j) = Complete ws (arity w + j)
+pub record Walking (src : List ℕ) (body : ℕ) (room₀ room : List ℕ) (i pending depth top : ℕ) : Type 0 where
+  pub walk : Walk src body i (toCome pending depth (drop top room))
+  pub stands : Stands (i - body) pending top room
+  pub short : length src ≤ workspaceMost
+  pub enough : span 1 (drop body src) ≤ 2 * length room₀
+  pub same-length : length room ≡ length room₀
 
--- An item has a word at least.
-complete-span : (ws : List ℕ) (j : ℕ) → Complete ws j → j ≤ span j ws
-complete-span [] j q = omega arith
-complete-span (w ∷ ws) zero q = omega arith
-complete-span (w ∷ ws) (suc j) q = omega (arith, complete-span ws (arity w + j) q)
-
--- Items end within the words if one more word makes them no longer.
-complete-short : (ws : List ℕ) (j : ℕ) → span j (ws ++ 0 ∷ []) ≡ span j ws → Complete ws j
-complete-short [] zero q = refl
-complete-short [] (suc j) q = absurd (omega arith)
-complete-short (w ∷ ws) zero q = tt
-complete-short (w ∷ ws) (suc j) q = complete-short ws (arity w + j) (omega arith)
-
-span-term : (t : Term) → Packable t → span 1 (words t) ≡ size t
-span-term t h = ap (span 1) (sym (append-nil (words t))) ∙ span-items t [] refl h
-
-complete-term : (t : Term) → Packable t → Complete (words t) 1
-complete-term t h = complete-short (words t) 1 (span-items t (0 ∷ []) refl h ∙ sym (span-term t h))
-
-span-some : (j : ℕ) (ws : List ℕ) → 0 < span j ws → 0 < j
-span-some zero ws h = absurd (omega (arith, span-zero ws))
-span-some (suc j) ws h = omega arith
-
-pub whole-some : {item : List ℕ} → Whole item → 1 ≤ length item
-whole-some {item} h = omega (arith, size-positive (firstTerm item), ap length (h .all))
-
--- The walk stands at word i; the items still to come are those from place `next` on.
-pub record Walking (item depth : List ℕ) (next i : ℕ) : Type 0 where
-  pub same-length : length depth ≡ length item
-  pub before : i ≤ length item
-  pub within : next ≤ length depth
-  pub complete : Complete (drop i item) (length (drop next depth))
-  pub all : span (length (drop next depth)) (drop i item) ≡ length item - i
-  pub bounded : Bounded (countBase * i) (drop next depth)
-  pub work : take i depth ++ depths (drop next depth) (drop i item) ≡ depths (0 ∷ []) item
-
-pub walking-start : (item depth : List ℕ) (next : ℕ) → Whole item → length depth ≡ length item → next ≡ length depth - 1
-    → Walking item (set depth next 0) next 0
-walking-start item depth next h same last =
-    let some = whole-some h in
-    let e : drop next (set depth next 0) ≡ 0 ∷ [] =
-    drop-cons (set depth next 0) next 0 (omega (arith, length-set depth next 0))
-    ∙ (rw (getD-set-same depth next 0 0 (omega arith), drop-of-length-le (set depth next 0) {i = suc next} (omega (arith, length-set depth next 0)))) in
+pub walking-start : {src room : List ℕ} {body : ℕ} → length src ≤ workspaceMost → Starts (drop body src) (firstTerm (drop body src))
+    → span 1 (drop body src) ≤ 2 * length room → Walking src body room room body 1 0 (length room)
+walking-start {src} {room} {body} short h enough =
+    let none : drop (length room) room ≡ [] = drop-of-length-le room {i = length room} (omega arith) in
     record {
-      same-length = length-set depth next 0 ∙ same;
-      before = omega arith;
-      within = omega (arith, length-set depth next 0);
-      complete = rw e (rw (h .all) at (complete-term (firstTerm item) (h .packable)));
-      all = rw e (omega (arith, rw (h .all) at (span-term (firstTerm item) (h .packable))));
-      bounded = rw e (omega arith, tt);
-      work = rw e;
+      walk = rw none (walk-start src body h);
+      stands =
+          record { within = omega arith; opened = rw none tt; some = λ q. refl; scopes = omega arith; more = λ q. absurd (omega arith) };
+      short = short;
+      enough = enough;
+      same-length = refl;
     }
 
-module _ {item depth : List ℕ} {next i : ℕ} (v : Walking item depth next i) where
-  -- The word at i is the first of the items still to come.
-  module _ (more : i < length item) where
-    abbrev w : ℕ
-    w = getD item i 0
+module _ {src : List ℕ} {body : ℕ} {room₀ room : List ℕ} {i pending depth top : ℕ} (v : Walking src body room₀ room i pending depth top) where
+  pub nothing-left : pending ≡ 0 → toCome pending depth (drop top room) ≡ []
+  nothing-left z = rw (z, drop-of-length-le room {i = top} (omega (arith, v .stands .some z)))
 
-    abbrev d : ℕ
-    d = getD depth next 0
+  pub walking-done : pending ≤ 0 → i ≡ body + span 1 (drop body src)
+  walking-done none = walk-done (v .walk) (nothing-left (omega arith))
 
-    pub some-left : next < length depth
-    some-left = omega (arith, span-some (length (drop next depth)) (drop i item) (omega (arith, v .all)), length-drop next depth)
+  -- Before the end an item is to come.
+  pub walking-some : i < body + span 1 (drop body src) → 0 < pending
+  walking-some l = go pending refl
+    where
+      go : (p : ℕ) → p ≡ pending → 0 < pending
+      go zero e = absurd (omega (arith, walking-done (omega arith)))
+      go (suc p) e = omega arith
 
-    items : drop next depth ≡ d ∷ drop (suc next) depth
-    items = drop-cons depth next 0 some-left
+  length-left : pending ≤ length (toCome pending depth (drop top room))
+  length-left = omega (arith, length-append (replicate pending depth) (expanded (drop top room)), length-replicate pending depth)
 
-    words-left : drop i item ≡ w ∷ drop (suc i) item
-    words-left = drop-cons item i 0 more
+  module _ (some : 0 < pending) where
+    pub walking-within : (i < length src) × (length src ≤ workspaceMost) × (body ≤ i)
+    walking-within = omega (arith, walk-few (v .walk), length-left, v .short, v .walk .from)
 
-    pub within-written : next + 1 ≤ length (set depth i d)
-    within-written = omega (arith, some-left, length-set depth i d)
+    -- The item to come, and those behind it.
+    abbrev pub others : List ℕ
+    others = toCome (pending - 1) depth (drop top room)
 
-    pub binders-bounded : d ≤ countBase * i
-    binders-bounded = (rw items at (v .bounded)) .0
+    next-walk : Walk src body i (depth ∷ others)
+    next-walk = rw (come-first pending depth (drop top room) (omega arith)) at (v .walk)
 
-    -- It has a items after it.
-    module _ (a : ℕ) (arity-is : a ≡ arity w) where
-      complete-next : Complete (drop (suc i) item) (a + length (drop (suc next) depth))
-      complete-next = rw arity-is (rw (items, words-left) at (v .complete))
+    pub walking-depth : depth < scopeBase
+    walking-depth = omega (arith, depth-bounded next-walk (walking-within .0), walking-within)
 
-      all-next : span (a + length (drop (suc next) depth)) (drop (suc i) item) ≡ length item - suc i
-      all-next = rw arity-is (omega (arith, rw (items, words-left) at (v .all)))
+    pub walking-inside : i < body + span 1 (drop body src)
+    walking-inside = walk-inside next-walk (walking-within .0)
 
-      -- They stay clear of the places written.
-      pub clear : i + a ≤ next
-      clear =
-          omega (
-            arith,
-            complete-span (drop (suc i) item) (a + length (drop (suc next) depth)) complete-next,
-            all-next,
-            length-drop (suc next) depth,
-            v .same-length,
-            some-left,
-          )
+    pub walking-number : getD (depths (0 ∷ []) (drop body src)) (i - body) 0 ≡ depth
+    walking-number = depth-is next-walk (walking-within .0)
 
-      abbrev from : ℕ
-      from = next + 1 - a
+    -- What a nested walk may use of the room.
+    pub walking-free : 2 * length room₀ ≤ 2 * top + span 1 (drop body src)
+    walking-free = omega (arith, v .stands .scopes, v .stands .within, v .same-length, walking-inside, v .walk .from)
 
-      abbrev written : List ℕ
-      written = set depth i d
+    pub walking-enters : Enters pending depth top room
+    walking-enters =
+        record {
+          pends = omega arith;
+          few = omega (arith, walk-few (v .walk), length-left, v .short);
+          shallow = walking-depth;
+          within = v .stands .within;
+          free = λ l. omega (arith, v .stands .more l, walking-inside, v .enough, v .same-length, v .walk .from);
+        }
 
-      abbrev part : List ℕ
-      part = midOf from (next + 1 - from) written
+    pub walking-next : {pending′ depth′ top′ : ℕ} {room′ : List ℕ} → Entered (getD src i 0) pending depth top room pending′ depth′ top′ room′
+        → length room′ ≡ length room → Walking src body room₀ room′ (i + 1) pending′ depth′ top′
+    walking-next entered kept =
+        let shift : i + 1 - body ≡ i - body + 1 = omega (arith, v .walk .from) in
+        record {
+          walk = rw (entered .items) (walk-word next-walk (walking-within .0));
+          stands = rw shift (entered .stands (i - body) (v .stands));
+          short = v .short;
+          enough = v .enough;
+          same-length = kept ∙ v .same-length;
+        }
 
-      length-part : length part ≡ a
-      length-part = mid-len from (next + 1) written within-written ∙ (omega (arith, clear))
-
-      -- It puts b binders around them.
-      module _ (b : ℕ) (binders-is : b ≡ binders w) {filled : List ℕ} (filled-is : filled ≡ replicate (length part) (d + b)) where
-        abbrev depth′ : List ℕ
-        depth′ = putMid from (next + 1 - from) written filled
-
-        from-within : from ≤ length written
-        from-within = omega (arith, within-written)
-
-        items-next : drop from depth′ ≡ replicate a (d + b) ++ drop (suc next) depth
-        items-next =
-            drop-at (take from written) _ from (length-take-le from written from-within)
-            ∙ (rw (filled-is, length-part, post-is from (next + 1) written (omega arith), add-one next, drop-set-lt (suc next) depth i d (omega (arith, clear))))
-
-        length-next : length (drop from depth′) ≡ a + length (drop (suc next) depth)
-        length-next = ap length items-next ∙ length-append (replicate a (d + b)) _ ∙ (rw (length-replicate a (d + b)))
-
-        written-next : take (suc i) depth′ ≡ take i depth ++ (d ∷ [])
-        written-next =
-            take-append-le (suc i) (take from written) _ (omega (arith, clear, length-take-le from written from-within))
-            ∙ take-take (suc i) from written (omega (arith, clear))
-            ∙ take-suc-set depth i d (omega (arith, v .same-length))
-
-        same-length-next : length depth′ ≡ length item
-        same-length-next =
-            same-len-mid from (next + 1 - from) written filled (ap length filled-is ∙ length-replicate (length part) (d + b))
-            ∙ length-set depth i d
-            ∙ v .same-length
-
-        pub walking-word : Walking item depth′ from (i + 1)
-        walking-word =
-            record {
-              same-length = same-length-next;
-              before = omega arith;
-              within = omega (arith, same-length-next, v .same-length, some-left);
-              complete = rw (add-one i, length-next) complete-next;
-              all = rw (add-one i, length-next) all-next;
-              bounded =
-                  rw (add-one i, items-next, arity-is, binders-is)
-                  (bounded-word (countBase * i) (countBase * suc i) w d _ (rw items at (v .bounded)) (omega arith));
-              work =
-                  rw (add-one i, written-next, items-next, arity-is, binders-is)
-                  (append-snoc (take i depth) d _ ∙ (rw (items, words-left) at (v .work)));
-            }
-
-  pub walking-done : length item ≤ i → depth ≡ depths (0 ∷ []) item
-  walking-done past =
-      sym (take-all i depth (omega (arith, v .same-length)))
-      ∙ sym (append-nil (take i depth))
-      ∙ (rw (drop-of-length-le item past) at (v .work))
+-- A nested walk may write before `top`.
+pub walking-lent : {src : List ℕ} {body : ℕ} {room₀ room room′ : List ℕ} {i pending depth top : ℕ} → Walking src body room₀ room i pending depth top
+    → length room′ ≡ length room → drop top room′ ≡ drop top room → Walking src body room₀ room′ i pending depth top
+walking-lent {room = room} {room′} {top = top} v kept same =
+    record {
+      walk = rw same (v .walk);
+      stands =
+          record {
+            within = omega (arith, v .stands .within);
+            opened = rw same (v .stands .opened);
+            some = λ z. v .stands .some z ∙ sym kept;
+            scopes = rw kept (v .stands .scopes);
+            more = λ l. rw kept (v .stands .more l);
+          };
+      short = v .short;
+      enough = v .enough;
+      same-length = kept ∙ v .same-length;
+    }

@@ -3,3 +3,5 @@ pub mod Moves
 pub mod Depths
 pub mod Rewritten
 pub mod Results
+pub mod Measure
+pub mod Scopes

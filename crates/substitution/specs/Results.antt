@@ -1,7 +1,7 @@
 -- What shift and substitution make of terms that stand in a workspace, and what they ask of these terms.
-use Prim.Native.Nat.{ℕ, _+_, _-_, _≤_}
+use Prim.Native.Nat.{ℕ, _+_, _*_, _≤_}
 use mathlib.Core.Path.{_≡_}
-use mathlib.Core.List.{List, [], _∷_, _++_}
+use mathlib.Core.List.{List}
 use lib.IntN.{ℤ}
 use lib.ListN.{length, take, drop}
 use Rattle.calculus.specs.Term.{Sort, Exp, Term, count}
@@ -13,27 +13,11 @@ use Rattle.calculus.specs.Shift.{shift}
 use Rattle.calculus.specs.Substitution.{subst}
 use Rattle.calculus.specs.Theorems.{Packable, IndicesWithin}
 use Rattle.substitution.specs.Moves.{Movable}
-use Rattle.substitution.specs.Depths.{depths}
 
 -- The words start with those of e.
 pub record Starts {s : Sort} (ws : List ℕ) (e : Exp s) : Type 0 where
   pub first : take (size e) ws ≡ words e
   pub packable : Packable e
-
--- The words are those of one term.
-pub record Whole (ws : List ℕ) : Type 0 where
-  pub short : length ws ≤ workspaceMost
-  pub all : words (firstTerm ws) ≡ ws
-  pub packable : Packable (firstTerm ws)
-
--- The item at a position ends at another, and the room has a place for each of its words.
-pub record HasRoom (ws : List ℕ) (at end : ℕ) (room : List ℕ) : Type 0 where
-  pub end-is : end ≡ at + span 1 (drop at ws)
-  pub enough : end - at ≤ length room
-
--- The room with the numbers of binders around these words at its start.
-abbrev pub numbered : List ℕ → (at end : ℕ) → List ℕ → List ℕ
-numbered ws at end room = depths (0 ∷ []) (take (end - at) (drop at ws)) ++ drop (end - at) room
 
 -- The term at a position with its free indices moved.
 unfoldable pub shifted : List ℕ → (at : ℕ) → ℤ → Term
@@ -57,3 +41,11 @@ pub record Substitutable (ws : List ℕ) (body args n : ℕ) : Type 0 where
   pub args-start : Starts (drop args ws) (firstTerms n (drop args ws))
   pub args-count : count (firstTerms n (drop args ws)) ≡ n
   pub args-indices : IndicesWithin indexLimit (firstTerms n (drop args ws))
+
+-- The words before `stop` are words of the body, the arguments end at `after`, and the room has a word for every two words of both.
+pub record Substitutes (ws : List ℕ) (body stop args after n : ℕ) (room : List ℕ) : Type 0 where
+  pub substitutable : Substitutable ws body args n
+  pub from : body ≤ stop
+  pub to : stop ≤ body + span 1 (drop body ws)
+  pub after-is : after ≡ args + span n (drop args ws)
+  pub enough : span 1 (drop body ws) + span n (drop args ws) ≤ 2 * length room

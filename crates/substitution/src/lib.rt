@@ -1,177 +1,153 @@
-// Shift and simultaneous substitution over lent words ("Contraction").
-mod depths;
+// Simultaneous substitution over lent words, and the one shift of free indices that it is made of ("Contraction").
 mod index;
-mod whole;
+pub mod measure;
+mod scope;
 
-use depths::depths;
 use index::argument;
 use index::down;
 use index::shift_word;
 use index::up;
-use whole::shift_whole;
+use scope::Scope;
+use scope::enter;
 use words::Word;
 use words::extent;
+use words::slices::copy;
 ghost use mathlib.Core.Path.{_≡_};
-ghost use Prim.Native.Nat.{ℕ, _+_, _≤_};
+ghost use mathlib.Core.List.{[], _∷_};
+ghost use Prim.Native.Nat.{ℕ, _+_, _-_, _*_, _≤_, _<_};
+ghost use lib.IntN.{pos};
 ghost use lib.ListN.{length, drop, getD};
 ghost use Rattle.calculus.specs.Words.{words, size, workspaceMost};
 ghost use Rattle.calculus.specs.Accepted.{argumentLimit};
 ghost use Rattle.calculus.specs.Skip.{span};
+ghost use Rattle.calculus.specs.First.{firstTerms};
 ghost use Rattle.words.specs.Placed.{Placed};
-ghost use Rattle.substitution.specs.Results.{HasRoom, numbered, Shiftable, shifted, Substitutable, substituted};
+ghost use Rattle.substitution.specs.Moves.{distanceBound};
+ghost use Rattle.substitution.specs.Rewritten.{substituting, standing};
+ghost use Rattle.substitution.specs.Results.{Shiftable, shifted, Substitutable, Substitutes};
 
-// Bodies up to this length get a small room for their numbers of binders: for a short body most of the time would go to setting up the large one.
-const SMALL: usize = 128;
+// A place for each argument of a redex, and one more.
+const PLACES: usize = Word::ARGUMENTS_MOST as usize + 1;
 
-// Room for the starts of the arguments and the end of the last.
-const STARTS: usize = Word::ARGUMENTS_MOST as usize + 1;
-
-// The positions at which n consecutive items start, and after them the end of the last.
-fn starts(src: &[u32], args: usize, n: usize) -> [usize; STARTS]
+// The positions at which n consecutive items start, and after them the end of the last, which the caller knows.
+fn starts(src: &[u32], args: usize, after: usize, n: usize) -> [usize; PLACES]
     requires { ⌜ (length (now src) ≤ workspaceMost) × (n ≤ argumentLimit) ⌝ }
+    requires { ⌜ after ≡ args + span n (drop args (now src)) ⌝ }
     ensures { λ r. ⌜ ((j : ℕ) → j ≤ n → getD r j 0 ≡ args + span j (drop args (now (src .entry)))) ⌝ }
 {
-    let mut starts = [0usize; STARTS];
+    let mut starts = [0usize; PLACES];
     starts[0] = args;
     let mut j: usize = 0;
-    while j < n {
+    while j + 1 < n {
         starts[j + 1] = extent(src, starts[j]);
         j += 1;
     }
+    starts[n] = after;
     starts
 }
 
-// `shift` for a term up to its end.
-fn shift_item(
+// Copies the term from `at` up to `end` with its free indices moved by a signed distance, and returns the position after the copy.
+fn shift(
     src: &[u32],
     at: usize,
     end: usize,
     distance: i32,
     dst: &mut [u32],
     out: usize,
+    room: &mut [u32],
 ) -> usize
     requires { ⌜ Shiftable (now src) at distance × (end ≡ at + span 1 (drop at (now src))) ⌝ }
     requires { ⌜ out + size (shifted (now src) at distance) ≤ length (now dst) ⌝ }
+    requires { ⌜ span 1 (drop at (now src)) ≤ 2 * length (now room) ⌝ }
     ensures { λ r. ⌜ Placed (now (dst .entry)) out (words (shifted (now (src .entry)) at distance)) (now (dst .exit)) r ⌝ }
 {
-    let after = out + (end - at);
-    shift_whole(&src[at..end], distance, &mut dst[out..after]);
-    after
-}
-
-// Copies the term that starts at a position, with its free indices moved by a signed distance, and returns the position after the copy.
-pub fn shift(src: &[u32], at: usize, distance: i32, dst: &mut [u32], out: usize) -> usize
-    requires { ⌜ Shiftable (now src) at distance ⌝ }
-    requires { ⌜ out + size (shifted (now src) at distance) ≤ length (now dst) ⌝ }
-    ensures { λ r. ⌜ Placed (now (dst .entry)) out (words (shifted (now (src .entry)) at distance)) (now (dst .exit)) r ⌝ }
-{
-    let end = extent(src, at);
-    shift_item(src, at, end, distance, dst, out)
-}
-
-// `substitute` for a body up to its end, with room for its numbers of binders.
-fn substitute_within(
-    src: &[u32],
-    body: usize,
-    end: usize,
-    args: usize,
-    n: usize,
-    dst: &mut [u32],
-    out: usize,
-    room: &mut [u32],
-) -> usize
-    requires { ⌜ Substitutable (now src) body args n ⌝ }
-    requires { ⌜ out + size (substituted (now src) body args n) ≤ length (now dst) ⌝ }
-    requires { ⌜ HasRoom (now src) body end (now room) ⌝ }
-    ensures { λ r. ⌜ Placed (now (dst .entry)) out (words (substituted (now (src .entry)) body args n)) (now (dst .exit)) r ⌝ }
-    ensures { λ r. ⌜ now (room .exit) ≡ numbered (now (src .entry)) body end (now (room .entry)) ⌝ }
-{
-    let count = end - body;
-    depths(&src[body..end], &mut room[..count]);
-    let starts = starts(src, args, n);
+    let mut i = at;
     let mut o = out;
-    let mut k: usize = 0;
-    while k < count {
-        let w = src[body + k];
-        let d = room[k];
-        let j = argument(w, d, n);
-        if j < n {
-            o = shift_item(src, starts[j], starts[j + 1], up(d), dst, o);
-            k += 1;
-        } else {
-            dst[o] = shift_word(w, d, down(n as u32));
-            o += 1;
-            k += 1;
-        }
+    let mut scope = Scope {
+        pending: 1,
+        depth: 0,
+        top: room.len(),
+    };
+    while i < end {
+        let w = src[i];
+        dst[o] = shift_word(w, scope.depth, distance);
+        scope = enter(w, scope, room);
+        i += 1;
+        o += 1;
     }
     o
 }
 
-// Writes the body that starts at a position with the n arguments that start at another put for its first n indices, the last argument for
-// index 0, and returns the position after it.
+// Copies the term from `at` up to `end`, an argument, to a place under so many binders, and returns the position after the copy.
+fn raise(
+    src: &[u32],
+    at: usize,
+    end: usize,
+    binders: u32,
+    dst: &mut [u32],
+    out: usize,
+    room: &mut [u32],
+) -> usize
+    requires { ⌜ Shiftable (now src) at (pos binders) × (end ≡ at + span 1 (drop at (now src))) ⌝ }
+    requires { ⌜ out + size (shifted (now src) at (pos binders)) ≤ length (now dst) ⌝ }
+    requires { ⌜ (span 1 (drop at (now src)) ≤ 2 * length (now room)) × (binders < distanceBound) ⌝ }
+    ensures { λ r. ⌜ Placed (now (dst .entry)) out (words (shifted (now (src .entry)) at (pos binders))) (now (dst .exit)) r ⌝ }
+{
+    if binders > 0 {
+        return shift(src, at, end, up(binders), dst, out, room);
+    }
+    copy(src, at, end, dst, out)
+}
+
+// Writes what stands for the words of a body before `stop`, where its n arguments are put for its first n indices, the last argument for index 0,
+// and returns the position after it. The room keeps the scopes of the walk.
 pub fn substitute(
     src: &[u32],
     body: usize,
+    stop: usize,
     args: usize,
+    after: usize,
     n: usize,
     dst: &mut [u32],
     out: usize,
-) -> usize
-    requires { ⌜ Substitutable (now src) body args n ⌝ }
-    requires { ⌜ out + size (substituted (now src) body args n) ≤ length (now dst) ⌝ }
-    ensures { λ r. ⌜ Placed (now (dst .entry)) out (words (substituted (now (src .entry)) body args n)) (now (dst .exit)) r ⌝ }
-{
-    let end = extent(src, body);
-    if end - body <= SMALL {
-        let mut room = [0u32; SMALL];
-        return substitute_within(src, body, end, args, n, dst, out, &mut room);
-    }
-    let mut room = [0u32; Word::WORKSPACE_MOST];
-    substitute_within(src, body, end, args, n, dst, out, &mut room)
-}
-
-// `substituted_length` for a body up to its end, with room for its numbers of binders.
-fn length_within(
-    src: &[u32],
-    body: usize,
-    end: usize,
-    args: usize,
-    n: usize,
     room: &mut [u32],
 ) -> usize
-    requires { ⌜ Substitutable (now src) body args n ⌝ }
-    requires { ⌜ HasRoom (now src) body end (now room) ⌝ }
-    ensures { λ r. ⌜ r ≡ size (substituted (now (src .entry)) body args n) ⌝ }
-    ensures { λ r. ⌜ now (room .exit) ≡ numbered (now (src .entry)) body end (now (room .entry)) ⌝ }
+    requires { ⌜ Substitutes (now src) body stop args after n (now room) ⌝ }
+    requires { ⌜ out + length (standing (substituting (firstTerms n (drop args (now src)))) (stop - body) (0 ∷ []) (drop body (now src))) ≤ length (now dst) ⌝ }
+    ensures { λ r. ⌜ Placed (now (dst .entry)) out (standing (substituting (firstTerms n (drop args (now (src .entry))))) (stop - body) (0 ∷ []) (drop body (now (src .entry)))) (now (dst .exit)) r ⌝ }
 {
-    let count = end - body;
-    depths(&src[body..end], &mut room[..count]);
-    let starts = starts(src, args, n);
-    let mut total: usize = 0;
-    let mut k: usize = 0;
-    while k < count {
-        let j = argument(src[body + k], room[k], n);
+    let starts = starts(src, args, after, n);
+    let lowered = down(n as u32);
+    let mut o = out;
+    let mut i = body;
+    let mut at = Scope {
+        pending: 1,
+        depth: 0,
+        top: room.len(),
+    };
+    while i < stop {
+        let w = src[i];
+        let depth = at.depth;
+        let top = at.top;
+        let j = argument(w, depth, n);
         if j < n {
-            total += starts[j + 1] - starts[j];
-            k += 1;
+            o = raise(
+                src,
+                starts[j],
+                starts[j + 1],
+                depth,
+                dst,
+                o,
+                &mut room[..top],
+            );
+            at = enter(w, at, room);
+            i += 1;
         } else {
-            total += 1;
-            k += 1;
+            dst[o] = shift_word(w, depth, lowered);
+            at = enter(w, at, room);
+            i += 1;
+            o += 1;
         }
     }
-    total
-}
-
-// The length in words of what `substitute` writes.
-pub fn substituted_length(src: &[u32], body: usize, args: usize, n: usize) -> usize
-    requires { ⌜ Substitutable (now src) body args n ⌝ }
-    ensures { λ r. ⌜ r ≡ size (substituted (now (src .entry)) body args n) ⌝ }
-{
-    let end = extent(src, body);
-    if end - body <= SMALL {
-        let mut room = [0u32; SMALL];
-        return length_within(src, body, end, args, n, &mut room);
-    }
-    let mut room = [0u32; Word::WORKSPACE_MOST];
-    length_within(src, body, end, args, n, &mut room)
+    o
 }

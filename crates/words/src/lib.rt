@@ -117,13 +117,21 @@ impl Word {
     }
 }
 
-// The end of the item that starts at a position: where the walk over the words stops.
+// The end of the item that starts at a position.
 pub fn extent(ws: &[u32], at: usize) -> usize
     requires { ⌜ length (now ws) ≤ workspaceMost ⌝ }
     ensures { λ r. ⌜ r ≡ at + span 1 (drop at (now (ws .entry))) ⌝ }
 {
+    skip(ws, at, 1)
+}
+
+// The end of so many items that start at a position: where the walk over the words stops.
+pub fn skip(ws: &[u32], at: usize, items: usize) -> usize
+    requires { ⌜ (length (now ws) ≤ workspaceMost) × (items ≤ payloadBound) ⌝ }
+    ensures { λ r. ⌜ r ≡ at + span items (drop at (now (ws .entry))) ⌝ }
+{
     let mut i = at;
-    let mut pending: usize = 1;
+    let mut pending = items;
     while i < ws.len() {
         if pending == 0 {
             return i;

@@ -1,25 +1,28 @@
--- `starts` meets its contract. The invariant: the positions up to j are written.
+-- `starts` meets its contract. The invariant: the starts of the items up to the j-th are written.
 use Prim.Native.Nat.{suc, _-_, _≤_}
 use mathlib.Core.Path.{_≡_, refl}
 use native.Mathlib.Omega.{arith}
 use borrow.Author.Needs.{needs}
 use lib.ListN.{length, length-set}
 use Rattle.calculus.specs.Accepted.{argumentLimit}
-use Rattle.substitution.proofs.StartLaws.{Placed, placed-first, placed-next}
+use Rattle.substitution.proofs.StartLaws.{Placed, placed-first, placed-next, placed-last}
 use Rattle.substitution.proofs.starts.Statement.{statement}
 use Rattle.substitution.proofs.starts.Tie as tie
 
 abbrev Inv-loop : tie.InvT-loop
-Inv-loop src args n starts₀ j₀ starts j = (length starts ≡ suc argumentLimit) × (j ≤ n) × Placed src args starts j
+Inv-loop src args after n starts₀ j₀ starts j = (length starts ≡ suc argumentLimit) × (j ≤ n) × Placed src args starts j
 
 abbrev μ-loop : tie.MeasureT-loop
-μ-loop src args n starts₀ j₀ starts j = n - j
+μ-loop src args after n starts₀ j₀ starts j = n - j
 
 array-write-starts : tie.Need-array-write-starts Inv-loop μ-loop
 array-write-starts c = omega arith
 
 loop-holds : tie.Need-loop-holds Inv-loop μ-loop
 loop-holds c = (refl, omega arith, placed-first (c .before .args .src .now) (c .before .args .args) _ refl)
+
+add-loop : tie.Need-add-loop Inv-loop μ-loop
+add-loop c = omega arith
 
 mul-extent : tie.Need-mul-extent Inv-loop μ-loop
 mul-extent c = search needs
@@ -54,8 +57,17 @@ loop-again c =
       placed-next (s .args .src .now) (s .args .args) (l .starts) (l .j) (c .extent .result) (omega arith) (l .inv .2) (c .extent .ensures),
     )
 
+mul-starts-2 : tie.Need-mul-starts-2 Inv-loop μ-loop
+mul-starts-2 c = search needs
+
+array-write-starts-3 : tie.Need-array-write-starts-3 Inv-loop μ-loop
+array-write-starts-3 c = omega arith
+
 returns : tie.Need-returns Inv-loop μ-loop
-returns c j h = c .before .loop .inv .2 .placed j (omega arith)
+returns c =
+    let l = c .before .loop in
+    let s = c .before .before .before in
+    placed-last (s .args .src .now) (s .args .args) (l .starts) (l .j) (s .args .n) (s .args .after) (omega arith) (omega arith) (l .inv .2) (s .pre .1) .placed
 
 pub starts-spec : {M : Type 1} → statement M
 starts-spec =
@@ -65,6 +77,7 @@ starts-spec =
     μ-loop
     array-write-starts
     loop-holds
+    add-loop
     mul-extent
     array-read-extent
     extent-requires
@@ -74,4 +87,6 @@ starts-spec =
     add-j
     loop-less
     loop-again
+    mul-starts-2
+    array-write-starts-3
     returns)

@@ -1,53 +1,272 @@
--- `substitute` meets its contract: either room has a place for each word of the body.
-use mathlib.Core.Path.{refl}
+-- `substitute` meets its contract. The invariant: the words of the body still to be rewritten lead to the whole result.
+use Prim.Native.Nat.{ℕ, _+_, _*_, _-_, _≤_, _<_}
+use mathlib.Core.Path.{_≡_, refl, sym, _∙_, ap}
+use mathlib.Core.List.{List, [], _∷_, _++_}
+use native.Mathlib.Omega.{arith}
 use borrow.Author.Needs.{needs}
-use Rattle.substitution.proofs.ItemLaws.{room-most}
+use lib.IntN.{pos, negℤ}
+use lib.ListN.{length, getD, take, drop}
+use lib.Seq.{length-take-le, length-front, drop-at}
+use mir.Syntax.{w32}
+use mir.Val.{toZ, ofZ}
+use mir.ValLaws.{toZ-ofZ}
+use Rattle.calculus.specs.Term.{Terms}
+use Rattle.calculus.specs.Words.{workspaceMost, countBase, words}
+use Rattle.calculus.specs.Accepted.{argumentLimit}
+use Rattle.calculus.specs.First.{firstTerms}
+use Rattle.substitution.specs.Rewritten.{shifting, substituting, rewritten, place}
+use Rattle.substitution.specs.Results.{shifted}
+use Rattle.substitution.proofs.Walking.{walking-depth, walking-enters, walking-free}
+use Rattle.substitution.proofs.RewritingLaws.{placed-as, Rewriting, rewriting-start, rewriting-some, rewriting-within, rewriting-room, rewriting-lent, rewriting-next, rewriting-done}
+use Rattle.substitution.proofs.StartLaws.{Placed}
+use Rattle.substitution.proofs.ArgumentLaws.{rewritten-body, movable-body}
+use Rattle.substitution.proofs.Chosen.{chosen-shiftable, chosen-words, chosen-end, chosen-part}
 use Rattle.substitution.proofs.substitute.Statement.{statement}
 use Rattle.substitution.proofs.substitute.Tie as tie
 
-extent-requires : tie.Need-extent-requires
-extent-requires c κs = search needs
+abbrev Inv-loop : tie.InvT-loop
+Inv-loop src body stop args after n dst₀ out room₀ starts lowered o₀ i₀ at₀ dst room o i at =
+    Rewriting (substituting (firstTerms n (drop args src))) src body stop dst₀ out room₀ dst room o i (at .pending) (at .depth) (at .top)
 
-sub-if1 : tie.Need-sub-if1
-sub-if1 c = search needs
+abbrev μ-loop : tie.MeasureT-loop
+μ-loop src body stop args after n dst₀ out room₀ starts lowered o₀ i₀ at₀ dst room o i at = stop - i
 
-slice-aggregate-substitute-within : tie.Need-slice-aggregate-substitute-within
-slice-aggregate-substitute-within c = search needs
+starts-requires : tie.Need-starts-requires Inv-loop μ-loop
+starts-requires c κs = let p = c .before .before .before .pre .0 in ((p .substitutable .short, p .substitutable .few), p .after-is)
 
-substitute-within-requires : tie.Need-substitute-within-requires
-substitute-within-requires c κs = search needs
+cast-down : tie.Need-cast-down Inv-loop μ-loop
+cast-down c = omega (arith, c .before .before .before .before .pre .0 .substitutable .few)
 
-same-length : tie.Need-same-length
-same-length c = search needs
+down-requires : tie.Need-down-requires Inv-loop μ-loop
+down-requires c κs = omega (arith, c .before .before .before .before .pre .0 .substitutable .few)
 
-returns : tie.Need-returns
-returns c = search needs
+loop-holds : tie.Need-loop-holds Inv-loop μ-loop
+loop-holds c =
+    let p = c .before .before .before .before .before .pre .0 in
+    rewriting-start _ _ (p .substitutable .short) (p .substitutable .body-starts) (omega (arith, p .enough)) (p .from) (p .to)
 
-slice-aggregate-substitute-within-2 : tie.Need-slice-aggregate-substitute-within-2
-slice-aggregate-substitute-within-2 c = search needs
+-- A turn.
+module _ (c : tie.In-loop Inv-loop μ-loop) where
+  abbrev start : tie.Start Inv-loop μ-loop
+  start = c .before .before .before .before .before .before .before
 
-substitute-within-requires-2 : tie.Need-substitute-within-requires-2
-substitute-within-requires-2 c κs =
-    let s = c .before .before .before .before .before .before in
-    (s .pre .0, (s .pre .1, room-most (s .pre .0 .short) (c .before .before .before .extent .ensures) refl))
+  abbrev src : List ℕ
+  src = start .args .src .now
 
-same-length-2 : tie.Need-same-length-2
-same-length-2 c = search needs
+  abbrev xs : Terms
+  xs = firstTerms (start .args .n) (drop (start .args .args) src)
 
-returns-2 : tie.Need-returns-2
-returns-2 c = search needs
+  placed : Placed src (start .args .args) (c .before .before .before .starts .result) (start .args .n)
+  placed = record { placed = c .before .before .before .starts .ensures }
+
+  abbrev depth : ℕ
+  depth = c .before .loop .at .depth
+
+  abbrev word : ℕ
+  word = getD src (c .before .loop .i) 0
+
+  some : 0 < c .before .loop .at .pending
+  some = rewriting-some (c .before .loop .inv) (c .loop-test .taken)
+
+  inside : (c .before .loop .i < length src) × (length src ≤ workspaceMost) × (start .args .body ≤ c .before .loop .i)
+  inside = rewriting-within (c .before .loop .inv) (c .loop-test .taken)
+
+  few-binders : depth ≤ countBase * workspaceMost
+  few-binders = omega (arith, walking-depth (c .before .loop .inv .walking) some)
+
+  room-left : c .before .loop .o + length (rewritten (substituting xs) depth word) ≤ length (c .before .loop .dst)
+  room-left = omega (arith, rewriting-room (c .before .loop .inv) (c .loop-test .taken), start .pre .1, c .before .loop .inv .kept)
+
+mul-w : tie.Need-mul-w Inv-loop μ-loop
+mul-w c = omega (arith, inside c)
+
+shared-slice-read-w : tie.Need-shared-slice-read-w Inv-loop μ-loop
+shared-slice-read-w c = inside (c .before) .0
+
+argument-requires : tie.Need-argument-requires Inv-loop μ-loop
+argument-requires c κs = omega (arith, few-binders (c .before))
+
+few-arguments : (c : tie.Then1 Inv-loop μ-loop) → c .before .argument .result < argumentLimit
+few-arguments c = omega (arith, start (c .before .before .before) .pre .0 .substitutable .few, c .if1 .taken)
+
+argument-words : (c : tie.Then1 Inv-loop μ-loop)
+    → words (shifted (src (c .before .before .before)) (getD (c .before .before .before .before .before .before .starts .result) (c .before .argument .result) 0) (pos (depth (c .before .before .before))))
+    ≡ rewritten (substituting (xs (c .before .before .before))) (depth (c .before .before .before)) (word (c .before .before .before))
+argument-words c =
+    let t = c .before .before .before in
+    sym (chosen-words (start t .pre .0 .substitutable) (placed t) (depth t) (word t) (few-binders t) (c .before .argument .ensures) (c .if1 .taken))
+
+mul-raise : tie.Need-mul-raise Inv-loop μ-loop
+mul-raise c = omega (arith, few-arguments c)
+
+array-read-raise : tie.Need-array-read-raise Inv-loop μ-loop
+array-read-raise c = omega (arith, few-arguments c)
+
+add-raise : tie.Need-add-raise Inv-loop μ-loop
+add-raise c = omega (arith, few-arguments c)
+
+mul-raise-2 : tie.Need-mul-raise-2 Inv-loop μ-loop
+mul-raise-2 c = omega (arith, few-arguments c)
+
+array-read-raise-2 : tie.Need-array-read-raise-2 Inv-loop μ-loop
+array-read-raise-2 c = omega (arith, few-arguments c)
+
+slice-relend-prefix-raise : tie.Need-slice-relend-prefix-raise Inv-loop μ-loop
+slice-relend-prefix-raise c = c .before .before .before .before .before .loop .inv .walking .stands .within
+
+slice-aggregate-raise : tie.Need-slice-aggregate-raise Inv-loop μ-loop
+slice-aggregate-raise c = sym (length-take-le _ _ (c .before .before .before .before .before .before .loop .inv .walking .stands .within))
+
+raise-requires : tie.Need-raise-requires Inv-loop μ-loop
+raise-requires c κs =
+    let t = c .before .before .before .before .before in
+    let p = start t .pre .0 in
+    let j = c .before .before .before .argument .ensures in
+    let l = c .before .before .if1 .taken in (
+      (
+        chosen-shiftable (p .substitutable) (placed t) (depth t) (word t) (few-binders t) j l,
+        chosen-end (p .substitutable) (placed t) (depth t) (word t) (few-binders t) j l,
+      ),
+      (
+        omega (arith, ap length (argument-words (c .before .before)), room-left t),
+        (
+          omega (
+            arith,
+            length-take-le (t .before .loop .at .top) (t .before .loop .room) (t .before .loop .inv .walking .stands .within),
+            chosen-part (p .substitutable) (placed t) (depth t) (word t) (few-binders t) j l,
+            walking-free (c .before .before .before .before .before .before .loop .inv .walking) (some t),
+            p .enough,
+          ),
+          omega (arith, few-binders t),
+        ),
+      ),
+    )
+
+-- The room that `raise` leaves: the scopes of this walk are as they were.
+module _ (c : tie.After-raise Inv-loop μ-loop) where
+  abbrev turn : tie.In-loop Inv-loop μ-loop
+  turn = c .before .before .before .before .before .before
+
+  abbrev top : ℕ
+  top = turn .before .loop .at .top
+
+  abbrev raised : List ℕ
+  raised = c .raise .last .1 .1 .1 .1 .1 .1 .0
+
+  raised-length : length raised ≡ top
+  raised-length = c .raise .kept .1 .1 .1 .1 .1 .1 .0 ∙ length-take-le top (turn .before .loop .room) (turn .before .loop .inv .walking .stands .within)
+
+  lent : Rewriting (substituting (xs turn)) (src turn) (start turn .args .body) (start turn .args .stop) (start turn .args .dst .now) (start turn .args .out) (start turn .args .room .now) (turn .before .loop .dst) (raised ++ drop top (turn .before .loop .room)) (turn .before .loop .o) (turn .before .loop .i) (turn .before .loop .at .pending) (depth turn) top
+  lent =
+      rewriting-lent (turn .before .loop .inv) (length-front (turn .before .loop .room) raised top (c .raise .kept .1 .1 .1 .1 .1 .1 .0))
+      (drop-at raised (drop top (turn .before .loop .room)) top raised-length)
+
+enter-requires : tie.Need-enter-requires Inv-loop μ-loop
+enter-requires c κs = walking-enters (lent (c .before .before .before .before .before) .walking) (some (c .before .before .before .before .before .before .before .before .before .before .before))
+
+add-i : tie.Need-add-i Inv-loop μ-loop
+add-i c = omega arith
+
+loop-less : tie.Need-loop-less Inv-loop μ-loop
+loop-less c = omega arith
+
+loop-again : tie.Need-loop-again Inv-loop μ-loop
+loop-again c =
+    rewriting-next (lent (c .before .before .before .before .before .before .before .before)) (c .before .before .before .before .before .before .before .before .before .before .before .before .before .before .loop-test .taken) (placed-as (argument-words (c .before .before .before .before .before .before .before .before .before .before .before)) (c .before .before .before .before .before .before .before .before .raise .ensures)) (c .before .before .enter .ensures) (c .before .before .enter .kept .1 .1 .0)
+
+-- No argument stands for the word.
+module _ (c : tie.Else1 Inv-loop μ-loop) where
+  abbrev t : tie.In-loop Inv-loop μ-loop
+  t = c .before .before .before
+
+  distance : toZ w32 (ofZ w32 (c .before .before .before .before .before .down .result)) ≡ negℤ (pos (start t .args .n))
+  distance = toZ-ofZ w32 (c .before .before .before .before .before .down .result) (record { sfits = c .before .before .before .before .before .down .ok }) ∙ c .before .before .before .before .before .down .ensures
+
+  none-stands : start t .args .n ≤ place (start t .args .n) (depth t) (word t)
+  none-stands = omega (arith, c .before .argument .ensures, c .if1 .left)
+
+shift-word-requires : tie.Need-shift-word-requires Inv-loop μ-loop
+shift-word-requires c κs =
+    rw (distance c)
+    (movable-body (start (t c) .args .n) (depth (t c)) (word (t c)) (none-stands c) (c .before .before .shared-slice-known2 .given (c .before .before .before .before .loop .i) .fits))
+
+module _ (c : tie.After-shift-word Inv-loop μ-loop) where
+  abbrev u : tie.In-loop Inv-loop μ-loop
+  u = t (c .before)
+
+  one-word : rewritten (substituting (xs u)) (depth u) (word u) ≡ c .shift-word .result ∷ []
+  one-word =
+      rewritten-body (start u .args .n) (depth u) (word u) (none-stands (c .before)) (xs u) (start u .pre .0 .substitutable .args-count)
+      ∙ ap (λ z. rewritten (shifting z) (depth u) (word u)) (sym (distance (c .before)))
+      ∙ c .shift-word .ensures
+
+  room-here : u .before .loop .o < length (u .before .loop .dst)
+  room-here = omega (arith, room-left u, ap length one-word)
+
+mul-dst : tie.Need-mul-dst Inv-loop μ-loop
+mul-dst c = omega (arith, room-here c, u c .before .loop .inv .kept, start (u c) .good .1 .1 .1 .1 .1 .1 .0 .1)
+
+slice-write-dst : tie.Need-slice-write-dst Inv-loop μ-loop
+slice-write-dst c = room-here c
+
+enter-requires-2 : tie.Need-enter-requires-2 Inv-loop μ-loop
+enter-requires-2 c κs = walking-enters (c .before .before .before .before .before .before .loop .inv .walking) (some (c .before .before .before .before .before))
+
+add-i-2 : tie.Need-add-i-2 Inv-loop μ-loop
+add-i-2 c = omega arith
+
+add-o : tie.Need-add-o Inv-loop μ-loop
+add-o c = omega (arith, room-here (c .before .before .before .before), u (c .before .before .before .before) .before .loop .inv .kept, start (u (c .before .before .before .before)) .good .1 .1 .1 .1 .1 .1 .0 .1)
+
+loop-less-2 : tie.Need-loop-less-2 Inv-loop μ-loop
+loop-less-2 c = omega arith
+
+loop-again-2 : tie.Need-loop-again-2 Inv-loop μ-loop
+loop-again-2 c =
+    rewriting-next (c .before .before .before .before .before .before .before .before .before .loop .inv) (c .before .before .before .before .before .before .before .before .loop-test .taken) (placed-as (sym (one-word (c .before .before .before .before))) (record { slice = refl; position = refl })) (c .before .before .enter2 .ensures) (c .before .before .enter2 .kept .1 .1 .0)
+
+same-length : tie.Need-same-length Inv-loop μ-loop
+same-length c = c .before .loop .inv .kept
+
+same-length-2 : tie.Need-same-length-2 Inv-loop μ-loop
+same-length-2 c = c .before .loop .inv .walking .same-length
+
+returns : tie.Need-returns Inv-loop μ-loop
+returns c = rewriting-done (c .before .loop .inv) (c .loop-test .left)
 
 pub substitute-spec : {M : Type 1} → statement M
 substitute-spec =
     tie.close
     (tie.spec
-    extent-requires
-    sub-if1
-    slice-aggregate-substitute-within
-    substitute-within-requires
+    Inv-loop
+    μ-loop
+    starts-requires
+    cast-down
+    down-requires
+    loop-holds
+    mul-w
+    shared-slice-read-w
+    argument-requires
+    mul-raise
+    array-read-raise
+    add-raise
+    mul-raise-2
+    array-read-raise-2
+    slice-relend-prefix-raise
+    slice-aggregate-raise
+    raise-requires
+    enter-requires
+    add-i
+    loop-less
+    loop-again
+    shift-word-requires
+    mul-dst
+    slice-write-dst
+    enter-requires-2
+    add-i-2
+    add-o
+    loop-less-2
+    loop-again-2
     same-length
-    returns
-    slice-aggregate-substitute-within-2
-    substitute-within-requires-2
     same-length-2
-    returns-2)
+    returns)

@@ -10,31 +10,32 @@ use Rattle.step.specs.Held.{held}
 use Rattle.rounds.specs.Compare.{common}
 use Rattle.rounds.specs.Turn.{planned}
 use Rattle.rounds.specs.Types.{planOf, roundOf}
-use Rattle.rounds.proofs.RunLoop.{Going, going-first, compares, judged, agreeing, ran, spends, left-advances, right-advances, going-on}
+use Rattle.rounds.proofs.RunCode.{plan-is}
+use Rattle.rounds.proofs.RunLoop.{Going, going-first, left-room, right-room, compares, judged, agreeing, ran, spends, left-advances, right-advances, going-on}
 use Rattle.rounds.proofs.run.run.Statement.{statement}
 use Rattle.rounds.proofs.run.run.Tie as tie
 
 abbrev Inv-loop : tie.InvT-loop
-Inv-loop left₀ right₀ scratch₀ l r budget a₀ b₀ agree₀ spent₀ left right scratch a b agree spent =
-    Going left₀ right₀ scratch₀ l r budget left right scratch (a .length) (a .from) (b .length) (b .from) agree spent
+Inv-loop left₀ right₀ scratch₀ l r budget a₀ b₀ room₀ agree₀ spent₀ left right scratch a b room agree spent =
+    Going left₀ right₀ scratch₀ l r budget left right scratch room (a .length) (a .from) (b .length) (b .from) agree spent
 
 abbrev μ-loop : tie.MeasureT-loop
-μ-loop left₀ right₀ scratch₀ l r budget a₀ b₀ agree₀ spent₀ left right scratch a b agree spent = budget - spent
+μ-loop left₀ right₀ scratch₀ l r budget a₀ b₀ room₀ agree₀ spent₀ left right scratch a b room agree spent = budget - spent
 
 loop-holds : tie.Need-loop-holds Inv-loop μ-loop
-loop-holds c = going-first (c .before .before .before .args .budget) (c .before .before .before .pre)
+loop-holds c = going-first (c .before .before .before .args .budget) (c .before .before .before .pre) (omega arith)
 
 agreeing-requires : tie.Need-agreeing-requires Inv-loop μ-loop
 agreeing-requires c κs = compares (c .before .before .loop .inv)
 
-plan-for-requires : tie.Need-plan-for-requires Inv-loop μ-loop
-plan-for-requires c κs = c .before .before .before .before .loop .inv .left-searched
+find-requires : tie.Need-find-requires Inv-loop μ-loop
+find-requires c κs = (c .before .before .before .before .before .loop .inv .left-searched, left-room (c .before .before .before .before .before .loop .inv))
 
-plan-for-requires-2 : tie.Need-plan-for-requires-2 Inv-loop μ-loop
-plan-for-requires-2 c κs = c .before .before .before .before .before .before .loop .inv .right-searched
+find-requires-2 : tie.Need-find-requires-2 Inv-loop μ-loop
+find-requires-2 c κs = (c .before .before .before .before .before .before .before .before .before .before .loop .inv .right-searched, right-room (c .before .before .before .before .before .before .before .before .before .before .loop .inv) (c .before .before .before .before .find .last .1 .1 .1 .0) (c .before .before .before .before .find .kept .1 .1 .1 .0))
 
 sub-judge : tie.Need-sub-judge Inv-loop μ-loop
-sub-judge c = c .before .before .before .before .before .before .before .before .loop .inv .within
+sub-judge c = c .before .before .before .before .before .before .before .before .before .before .before .before .before .before .loop .inv .within
 
 judge-requires : tie.Need-judge-requires Inv-loop μ-loop
 judge-requires c κs = search needs
@@ -43,31 +44,35 @@ enum-known-verdict : tie.Need-enum-known-verdict Inv-loop μ-loop
 enum-known-verdict c = search needs
 
 -- The turn in which a judgement is made, and the call that it belongs to.
-abbrev turn : tie.After-judge Inv-loop μ-loop → tie.At-loop Inv-loop μ-loop
-turn c = c .before .before .before .before .before .before .before .before .before
+module _ (c : tie.After-judge Inv-loop μ-loop) where
+  abbrev turn : tie.At-loop Inv-loop μ-loop
+  turn = c .before .before .before .before .before .before .before .before .before .before .before .before .before .before .before
 
-abbrev call : tie.After-judge Inv-loop μ-loop → tie.Start Inv-loop μ-loop
-call c = turn c .before .before .before .before
+  abbrev call : tie.Start Inv-loop μ-loop
+  call = c .before .before .before .before .before .before .before .before .before .before .before .before .before .before .before .before .before .before .before
 
-shares : (c : tie.After-judge Inv-loop μ-loop)
-    → c .before .before .before .before .before .before .agreeing .result
-    ≡ common (take (turn c .loop .a .length) (turn c .loop .left)) (take (turn c .loop .b .length) (turn c .loop .right))
-shares c = c .before .before .before .before .before .before .agreeing .ensures
+  shares : c .before .before .before .before .before .before .before .before .before .before .before .before .agreeing .result
+      ≡ common (take (turn .loop .a .length) (turn .loop .left)) (take (turn .loop .b .length) (turn .loop .right))
+  shares = c .before .before .before .before .before .before .before .before .before .before .before .before .agreeing .ensures
 
-left-plan : (c : tie.After-judge Inv-loop μ-loop) → planOf (c .before .before .before .before .plan-for .result) ≡ planned (held (turn c .loop .left) (turn c .loop .a .length))
-left-plan c = c .before .before .before .before .plan-for .ensures
+  left-plan : planOf (c .before .before .before .before .before .before .before .before .before .find .result) ≡ planned (held (turn .loop .left) (turn .loop .a .length))
+  left-plan = plan-is (turn .loop .left) (turn .loop .a .length) (c .before .before .before .before .before .before .before .before .before .find .result) (c .before .before .before .before .before .before .before .before .before .find .ensures)
 
-right-plan : (c : tie.After-judge Inv-loop μ-loop) → planOf (c .before .before .plan-for2 .result) ≡ planned (held (turn c .loop .right) (turn c .loop .b .length))
-right-plan c = c .before .before .plan-for2 .ensures
+  right-plan : planOf (c .before .before .before .before .find2 .result) ≡ planned (held (turn .loop .right) (turn .loop .b .length))
+  right-plan = plan-is (turn .loop .right) (turn .loop .b .length) (c .before .before .before .before .find2 .result) (c .before .before .before .before .find2 .ensures)
 
--- The judged round of the rounds' definition.
-abbrev Judged : tie.After-judge Inv-loop μ-loop → Round → Type 0
-Judged c x =
-    roundBy same (length (call c .args .left .now)) (call c .args .budget - turn c .loop .spent) (held (turn c .loop .left) (turn c .loop .a .length))
-    (held (turn c .loop .right) (turn c .loop .b .length)) ≡ x
+  -- The searches keep the scratch's length.
+  scratch-same : length (c .before .before .before .before .find2 .last .1 .1 .1 .0) ≡ length (turn .loop .scratch)
+  scratch-same = c .before .before .before .before .find2 .kept .1 .1 .1 .0 ∙ c .before .before .before .before .before .before .before .before .before .find .kept .1 .1 .1 .0
 
-the-round : (c : tie.After-judge Inv-loop μ-loop) → {x : Round} → roundOf (c .judge .result) ≡ x → Judged c x
-the-round c e = judged (turn c .loop .inv) (shares c) (left-plan c) (right-plan c) (sym e ∙ c .judge .ensures)
+  -- The judged round of the rounds' definition.
+  abbrev Judged : Round → Type 0
+  Judged x =
+      roundBy same (length (call .args .left .now)) (call .args .budget - turn .loop .spent) (held (turn .loop .left) (turn .loop .a .length))
+      (held (turn .loop .right) (turn .loop .b .length)) ≡ x
+
+  the-round : {x : Round} → roundOf (c .judge .result) ≡ x → Judged x
+  the-round e = judged (turn .loop .inv) shares left-plan right-plan (sym e ∙ c .judge .ensures)
 
 same-length : tie.Need-same-length Inv-loop μ-loop
 same-length c = turn (c .before .before .before) .loop .inv .left-kept
@@ -76,10 +81,10 @@ same-length-2 : tie.Need-same-length-2 Inv-loop μ-loop
 same-length-2 c = turn (c .before .before .before) .loop .inv .right-kept
 
 same-length-3 : tie.Need-same-length-3 Inv-loop μ-loop
-same-length-3 c = turn (c .before .before .before) .loop .inv .scratch-kept
+same-length-3 c = scratch-same (c .before .before .before) ∙ turn (c .before .before .before) .loop .inv .scratch-kept
 
 returns : tie.Need-returns Inv-loop μ-loop
-returns c = ran (turn (c .before .before .before) .loop .inv) (the-round (c .before .before .before) (ap roundOf (c .before .verdict .given .1)))
+returns c = ran (turn (c .before .before .before) .loop .inv) (scratch-same (c .before .before .before)) (the-round (c .before .before .before) (ap roundOf (c .before .verdict .given .1)))
 
 enum-known-count : tie.Need-enum-known-count Inv-loop μ-loop
 enum-known-count c = search needs
@@ -88,43 +93,44 @@ goes-on : (c : tie.After-count Inv-loop μ-loop) → Judged (c .before .before) 
 goes-on c = the-round (c .before .before) (ap roundOf (c .count .given .1))
 
 agreed-requires : tie.Need-agreed-requires Inv-loop μ-loop
-agreed-requires c κs =
-    let j = c .before .before .before .before in
-    agreeing (turn j .loop .inv) (shares j) (left-plan j) (right-plan j)
+agreed-requires c κs = let j = c .before .before .before .before in agreeing (turn j .loop .inv) (shares j) (left-plan j) (right-plan j)
+
+slice-aggregate-advance : tie.Need-slice-aggregate-advance Inv-loop μ-loop
+slice-aggregate-advance c = omega (arith, c .before .before .before .before .before .before .before .before .before .before .before .before .before .before .before .before .before .before .before .before .before .before .before .loop .inv .room-length)
 
 advance-requires : tie.Need-advance-requires Inv-loop μ-loop
-advance-requires c κs =
-    let k = c .before .before .before .before .before in
-    left-advances (turn (k .before .before) .loop .inv) (goes-on k) (left-plan (k .before .before))
+advance-requires c κs = let j = c .before .before .before .before .before .before .before .before in left-advances (turn j .loop .inv) (goes-on (c .before .before .before .before .before .before)) (scratch-same j) (j .before .before .before .before .before .before .before .before .before .find .ensures)
+
+slice-aggregate-advance-2 : tie.Need-slice-aggregate-advance-2 Inv-loop μ-loop
+slice-aggregate-advance-2 c = omega (arith, c .before .before .before .before .before .before .before .before .advance .kept .1 .1 .1 .1 .0, c .before .before .before .before .before .before .before .before .before .before .before .before .before .before .before .before .before .before .before .before .before .before .before .before .before .before .before .before .before .before .before .before .loop .inv .room-length)
 
 advance-requires-2 : tie.Need-advance-requires-2 Inv-loop μ-loop
 advance-requires-2 c κs =
-    let k = c .before .before .before .before .before .before .before .before .before .before .before .before in
-    let a = c .before .before .before .before .before .before .advance in
-    right-advances (turn (k .before .before) .loop .inv) (goes-on k) (a .kept .0) (a .kept .1 .1 .1 .0) (a .ensures) (right-plan (k .before .before))
-
-abbrev counted : tie.After-slice-known7 Inv-loop μ-loop → tie.After-count Inv-loop μ-loop
-counted c = c .before .before .before .before .before .before .before .before .before .before .before .before .before .before .before .before .before
+    let j = c .before .before .before .before .before .before .before .before .before .before .before .before .before .before .before .before .before in
+    let a = c .before .before .before .before .before .before .before .before .advance in
+    right-advances (turn j .loop .inv) (goes-on (c .before .before .before .before .before .before .before .before .before .before .before .before .before .before .before)) (a .kept .0) (a .kept .1 .1 .1 .0 ∙ scratch-same j) (a .ensures)
+    (omega (arith, a .kept .1 .1 .1 .1 .0, turn j .loop .inv .room-length)) (j .before .before .before .before .find2 .ensures)
 
 add-spent : tie.Need-add-spent Inv-loop μ-loop
 add-spent c =
-    let j = counted c .before .before in
-    let s = spends (turn j .loop .inv) (goes-on (counted c)) in
+    let j = c .before .before .before .before .before .before .before .before .before .before .before .before .before .before .before .before .before .before .before .before .before .before .before in
+    let s = spends (turn j .loop .inv) (goes-on (c .before .before .before .before .before .before .before .before .before .before .before .before .before .before .before .before .before .before .before .before .before)) in
     omega (arith, s .0, s .1, turn j .loop .inv .within, call j .fits .budget)
 
 loop-less : tie.Need-loop-less Inv-loop μ-loop
 loop-less c =
-    let j = counted c .before .before in
-    let s = spends (turn j .loop .inv) (goes-on (counted c)) in
+    let j = c .before .before .before .before .before .before .before .before .before .before .before .before .before .before .before .before .before .before .before .before .before .before .before in
+    let s = spends (turn j .loop .inv) (goes-on (c .before .before .before .before .before .before .before .before .before .before .before .before .before .before .before .before .before .before .before .before .before)) in
     omega (arith, s .0, s .1, turn j .loop .inv .within, call j .fits .budget)
 
 loop-again : tie.Need-loop-again Inv-loop μ-loop
 loop-again c =
-    let j = counted c .before .before in
-    let a = c .before .before .before .before .before .before .before .before .before .before .before .advance in
-    let b = c .before .before .before .before .advance2 in
-    going-on (turn j .loop .inv) (goes-on (counted c)) (a .kept .0) (a .kept .1 .1 .1 .0) (a .ensures) (b .kept .0) (b .kept .1 .1 .1 .0) (b .ensures)
-    (shares j) (left-plan j) (right-plan j) (c .before .before .before .before .before .before .before .before .before .before .before .before .before .before .agreed .ensures)
+    let j = c .before .before .before .before .before .before .before .before .before .before .before .before .before .before .before .before .before .before .before .before .before .before .before in
+    let a = c .before .before .before .before .before .before .before .before .before .before .before .before .before .before .advance in
+    let b = c .before .before .before .before .before .advance2 in
+    going-on (turn j .loop .inv) (goes-on (c .before .before .before .before .before .before .before .before .before .before .before .before .before .before .before .before .before .before .before .before .before)) (a .kept .0) (a .kept .1 .1 .1 .0 ∙ scratch-same j) (a .ensures) (b .kept .0) (b .kept .1 .1 .1 .0) (b .ensures)
+    (omega (arith, a .kept .1 .1 .1 .1 .0, b .kept .1 .1 .1 .1 .0, turn j .loop .inv .room-length))
+    (shares j) (left-plan j) (right-plan j) (c .before .before .before .before .before .before .before .before .before .before .before .before .before .before .before .before .before .before .agreed .ensures)
 
 pub run-spec : {M : Type 1} → statement M
 run-spec =
@@ -134,8 +140,8 @@ run-spec =
     μ-loop
     loop-holds
     agreeing-requires
-    plan-for-requires
-    plan-for-requires-2
+    find-requires
+    find-requires-2
     sub-judge
     judge-requires
     enum-known-verdict
@@ -145,7 +151,9 @@ run-spec =
     returns
     enum-known-count
     agreed-requires
+    slice-aggregate-advance
     advance-requires
+    slice-aggregate-advance-2
     advance-requires-2
     add-spent
     loop-less

@@ -1,6 +1,4 @@
 -- `advance` meets its contract, by the plan. Assumes nothing.
-use mathlib.Core.Path.{ap}
-use Rattle.rounds.specs.Types.{planOf}
 use Rattle.rounds.proofs.RunCode.{advance-normal, advance-room, advance-contracted}
 use borrow.Author.Needs.{needs}
 use Rattle.rounds.proofs.turn.advance.Statement.{statement}
@@ -13,15 +11,13 @@ enum-known-todo : tie.Need-enum-known-todo
 enum-known-todo c = search needs
 
 contract-requires : tie.Need-contract-requires
-contract-requires c κs =
-    let t = c .before .before .before in
-    advance-room (t .before .before .before .before .pre) (ap planOf (t .todo .given .1))
+contract-requires c κs = advance-room (c .before .before .before .before .before .before .before .before .before .pre) (c .before .before .before .before .todo .given .1)
 
 before-requires : tie.Need-before-requires
 before-requires c κs = search needs
 
 returns : tie.Need-returns
-returns c = advance-normal (c .before .before .before .before .pre) (ap planOf (c .enum-told .given .1))
+returns c = advance-normal (c .before .before .before .before .before .pre) (c .enum-told .given .1)
 
 same-length : tie.Need-same-length
 same-length c = search needs
@@ -29,11 +25,11 @@ same-length c = search needs
 same-length-2 : tie.Need-same-length-2
 same-length-2 c = search needs
 
+same-length-3 : tie.Need-same-length-3
+same-length-3 c = search needs
+
 returns-2 : tie.Need-returns-2
-returns-2 c =
-    let d = c .before .before .before .before .before in
-    let t = d .before .before .before .before in
-    advance-contracted (t .before .before .before .before .pre) (ap planOf (t .todo .given .1)) (d .contract .ensures) (c .before2 .ensures)
+returns-2 c = advance-contracted (c .before .before .before .before .before .before .before .before .before .before .before .before .before .before .before .before .before .pre) (c .before .before .before .before .before .before .before .before .before .before .before .before .todo .given .1) (c .before .before .before .before .before .before .before .contract .ensures) (c .before2 .ensures)
 
 pub advance-spec : {M : Type 1} → statement M
 advance-spec =
@@ -46,4 +42,5 @@ advance-spec =
     returns
     same-length
     same-length-2
+    same-length-3
     returns-2)

@@ -1,0 +1,199 @@
+-- The plan of a contraction, from what was found at the redex: the words that stand for the body, and those behind it.
+use Prim.Native.Nat.{ℕ, zero, suc, _+_, _-_, _*_, _≤_, _<_}
+use mathlib.Core.Path.{_≡_, refl, sym, _∙_, ap, ap₂}
+use mathlib.Core.List.{List, [], _∷_, _++_, append-assoc}
+use mathlib.Core.Option.{some}
+use native.Mathlib.Nat.{add-zero}
+use native.Mathlib.Omega.{arith}
+use lib.ListN.{length, getD, take, drop, take-append-drop, length-drop}
+use lib.Seq.{slice, length-take-le, take-take, drop-append-le, drop-drop, getD-drop}
+use Rattle.calculus.specs.Term.{Terms, count}
+use Rattle.calculus.specs.Words.{abstractionKind, applicationKind, constructorKind, caseKind, kindOf, payloadOf, countOf, workspaceMost, words, size}
+use Rattle.calculus.specs.Skip.{following, arity, span}
+use Rattle.calculus.specs.First.{firstTerms}
+use Rattle.calculus.proofs.SkipLaws.{span-bounded}
+use Rattle.substitution.specs.Depths.{depths}
+use Rattle.substitution.specs.Rewritten.{substituting, rewritten, standing}
+use Rattle.substitution.specs.Results.{Substitutable, substituted}
+use Rattle.substitution.specs.Measure.{Measurable, Measures}
+use Rattle.substitution.proofs.DepthLaws.{span-depths}
+use Rattle.substitution.proofs.ItemLaws.{slice-taken}
+use Rattle.substitution.proofs.ResultLaws.{arguments-size}
+use Rattle.substitution.proofs.RewritingLaws.{standing-more, rewritten-alone, standing-substituted}
+use Rattle.substitution.proofs.StartLaws.{span-add}
+use Rattle.calculus.specs.Position.{redexAt}
+use Rattle.calculus.proofs.PositionLaws.{redex-first}
+use Rattle.step.specs.declared.Redex.{Redex}
+use Rattle.step.specs.Held.{held}
+use Rattle.step.specs.Search.{Searched}
+use Rattle.step.specs.Parts.{parted, parts}
+use Rattle.step.specs.Next.{next, nextFrom, HoldsRedex}
+use Rattle.step.specs.Plan.{Plans, At, Parted, Applied, Inspected, Selected}
+use Rattle.step.proofs.HeldLaws.{next-term}
+use Rattle.step.proofs.PartsTurns.{first-word, first-two, parts-beta}
+use Rattle.step.proofs.SearchLaws.{redex-here}
+use Rattle.step.proofs.NextLaws.{endAt, start, length-short, redex-within, next-size, Contraction, contraction, rest-length}
+
+-- Words from a position to an end, parted between.
+slice-split : (l : List ℕ) (a e n : ℕ) → a ≤ e → e ≤ n → n ≤ length l → slice a n l ≡ slice a e l ++ slice e n l
+slice-split l a e n h k m =
+    let t = take n l in
+    let s = length-take-le n l m in
+    let r = length-take-le e t (omega arith) in
+    ap (drop a) (sym (take-append-drop e t))
+    ∙ drop-append-le a (take e t) (drop e t) (omega arith)
+    ∙ ap (λ xs. drop a xs ++ drop e t) (take-take e n l k)
+
+-- A redex starts where its parts are found.
+pub redex-found : {ws room : List ℕ} {n at b a m : ℕ} → At ws n at room → parts at (drop at ws) ≡ parted b a m → HoldsRedex ws n at
+redex-found {ws} {n = n} {at} h e =
+    let u = redex-here (h .holds) (h .within) e in
+    record { holds = h .holds; redex = u .1 ∙ ap some (sym (next-term ws n at (u .0) (u .1))) }
+
+module _ {ws room : List ℕ} {n at b a m : ℕ} (h : At ws n at room) (found : parts at (drop at ws) ≡ parted b a m) where
+  here : HoldsRedex ws n at
+  here = redex-found h found
+
+  pub contracts : Contraction ws n at b a m
+  contracts = contraction here found
+
+  pub measurable : Measurable ws b m room
+  measurable =
+      record {
+        short = h .holds .limit;
+        few = contracts .substitutable .few;
+        starts = contracts .substitutable .body-starts;
+        enough = omega (arith, contracts .small, h .room-fits);
+      }
+
+  -- The whole body is rewritten, and what is behind the redex stays.
+  module _ {stop after end len : ℕ} (stop-is : stop ≡ b + span 1 (drop b ws)) (after-is : after ≡ a + span m (drop a ws)) (end-is : end ≡ endAt ws at)
+      (length-is : len ≡ at + size (substituted ws b a m) + (n - end)) where
+    pub plans : Plans ws n (record { at = at; body = b; stop = stop; args = a; after = after; count = m; end = end; length = len })
+    plans =
+        record {
+          redex = here;
+          substitutable = contracts .substitutable;
+          from = omega arith;
+          to = omega arith;
+          after-is = after-is;
+          small = omega (arith, contracts .small, length-short here);
+          ends = omega (arith, contracts .ends);
+          rest = rw (standing-substituted (contracts .substitutable) stop-is, end-is) (contracts .rest);
+          length-is = omega (arith, next-size here, rest-length here found);
+        }
+
+-- The only argument stays where it is: it stands for the last word of the body, under no binder.
+module _ {ws room : List ℕ} {n at b a : ℕ} (h : At ws n at room) (found : parts at (drop at ws) ≡ parted b a 1)
+    {stop after len : ℕ} (stop-is : stop + 1 ≡ b + span 1 (drop b ws)) (after-is : after ≡ a + span 1 (drop a ws)) (end-is : after ≡ endAt ws at)
+    (length-is : len ≡ at + size (substituted ws b a 1) + (n - after)) (some : b ≤ stop)
+    (bare : getD (depths (0 ∷ []) (drop b ws)) (stop - b) 0 ≡ 0) (index : getD ws stop 0 ≡ 0) where
+  abbrev here′ : HoldsRedex ws n at
+  here′ = redex-found h found
+
+  abbrev c : Contraction ws n at b a 1
+  c = contracts h found
+
+  abbrev xs : Terms
+  xs = firstTerms 1 (drop a ws)
+
+  last-word : getD (drop b ws) (stop - b) 0 ≡ 0
+  last-word =
+      let e : b + (stop - b) ≡ stop = omega arith in
+      getD-drop b ws (stop - b) 0 ∙ ap (λ k. getD ws k 0) e ∙ index
+
+  -- What stands for the words before the last.
+  abbrev front : List ℕ
+  front = standing (substituting xs) (stop - b) (0 ∷ []) (drop b ws)
+
+  body-words : words (substituted ws b a 1) ≡ front ++ words xs
+  body-words =
+      let e : stop + 1 - b ≡ suc (stop - b) = omega arith in
+      sym (standing-substituted (c .substitutable) stop-is)
+      ∙ ap (λ k. standing (substituting xs) k (0 ∷ []) (drop b ws)) e
+      ∙ standing-more (substituting xs) (stop - b) (drop b ws) (0 ∷ []) (omega (arith, span-depths (drop b ws) (0 ∷ [])))
+      ∙ ap (λ vs. front ++ vs) (rw (bare, last-word) (rewritten-alone xs (c .substitutable .args-count)))
+
+  argument-words : slice a after ws ≡ words xs
+  argument-words =
+      let e : after ≡ a + size xs = omega (arith, arguments-size (c .substitutable)) in
+      rw e (slice-taken a (size xs) ws ∙ c .substitutable .args-start .first)
+
+  stays : words xs ++ slice (endAt ws at) n ws ≡ slice a n ws
+  stays =
+      rw (← argument-words, ← end-is)
+      (sym (slice-split ws a after n (omega arith) (omega (arith, c .ends)) (start here′ .within)))
+
+  pub plans-left : Plans ws n (record { at = at; body = b; stop = stop; args = a; after = after; count = 1; end = a; length = len })
+  plans-left =
+      record {
+        redex = here′;
+        substitutable = c .substitutable;
+        from = some;
+        to = omega arith;
+        after-is = after-is;
+        small = omega (arith, c .small, length-short here′);
+        ends = omega (arith, c .ends, end-is);
+        rest =
+            c .rest
+            ∙ ap (λ vs. vs ++ slice (endAt ws at) n ws) body-words
+            ∙ append-assoc front (words xs) (slice (endAt ws at) n ws)
+            ∙ ap (λ vs. front ++ vs) stays;
+        length-is = omega (arith, next-size here′, rest-length here′ found, end-is);
+      }
+
+-- The search stops at the first redex that it finds.
+pub planned-here : {ws : List ℕ} {n i : ℕ} {r : Redex} → Searched ws n i → Plans ws n r × (r .at ≡ i) → (redexAt (held ws n) ≡ some (r .at)) × Plans ws n r
+planned-here {ws} {n} {i} {r} s p =
+    let e = p .1 in
+    (redex-first (held ws n) (r .at) .1 ((next ws n (r .at), p .0 .redex .redex), rw e (s .before)), p .0)
+
+-- Where an application of an abstraction ends.
+module _ {ws room : List ℕ} {n at : ℕ} (h : Applied ws n at room) where
+  abbrev pub argumentAt : ℕ
+  argumentAt = at + 2 + span 1 (drop (at + 2) ws)
+
+  pub applied-parts : parts at (drop at ws) ≡ parted (at + 2) argumentAt 1
+  applied-parts = parts-beta at ws (h .further) (h .application) (h .abstraction)
+
+  pub applied-end : {after : ℕ} → after ≡ argumentAt + span 1 (drop argumentAt ws) → after ≡ endAt ws at
+  unfolding following
+  applied-end e =
+      let vs = drop (at + 2) ws in
+      let s : span 1 (drop at ws) ≡ suc (suc (span 2 vs)) =
+      ap (span 1) (first-two at ws (h .further)) ∙ rw (h .application, h .abstraction) in
+      omega (
+        arith,
+        e,
+        s,
+        span-add vs 1 1,
+        ap (span 1) (drop-drop (span 1 vs) (at + 2) ws),
+      )
+
+-- Where the parts of a case of a constructor end.
+module _ {ws room : List ℕ} {n at w v : ℕ} (h : Inspected ws n at w v room) where
+  pub inspected-after : {count after : ℕ} → count ≡ countOf (payloadOf v) → after ≡ at + 2 + span count (drop (at + 2) ws) → after ≡ at + 1 + span 1 (drop (at + 1) ws)
+  unfolding following
+  inspected-after {count} e f =
+      let vs = drop (at + 2) ws in
+      let s : span 1 (drop (at + 1) ws) ≡ suc (span count vs) =
+      ap (span 1) (first-word (at + 1) ws (at + 2) (h .further) (omega arith)) ∙ rw (← h .constructor-is, h .constructor, add-zero, ← e) in
+      omega arith
+
+  pub inspected-end : {count branches after : ℕ} → count ≡ countOf (payloadOf v) → branches ≡ payloadOf w → after ≡ at + 2 + span count (drop (at + 2) ws)
+      → at + span 1 (drop at ws) ≡ after + span branches (drop after ws)
+  unfolding following
+  inspected-end {count} {branches} {after} e f g =
+      let vs = drop (at + 1) ws in
+      let one : suc branches ≡ 1 + branches = omega arith in
+      let from : after ≡ at + 1 + span 1 vs = inspected-after e g in
+      let s : span 1 (drop at ws) ≡ suc (span (suc branches) vs) =
+      ap (span 1) (first-word at ws (at + 1) (omega (arith, h .further)) refl) ∙ rw (← h .case-is, h .case, add-zero, ← f) in
+      omega (
+        arith,
+        s,
+        ap (λ k. span k vs) one,
+        span-add vs 1 branches,
+        ap (span branches) (drop-drop (span 1 vs) (at + 1) ws),
+        ap (λ k. span branches (drop k ws)) from,
+      )

@@ -1,0 +1,61 @@
+-- `selected` meets its contract: the counts give the length, and the branches end where the redex does.
+use Prim.Native.Nat.{_+_, _-_, _≤_}
+use mathlib.Core.Path.{_≡_, refl, sym, _∙_, ap}
+use native.Mathlib.Omega.{arith}
+use borrow.Author.Needs.{needs}
+use lib.ListN.{drop}
+use Rattle.calculus.specs.Words.{workspaceMost}
+use Rattle.step.proofs.NextLaws.{length-short, Contraction}
+use Rattle.step.proofs.PlanLaws.{redex-found, contracts, measurable, plans}
+use Rattle.step.proofs.rules.selected.Statement.{statement}
+use Rattle.step.proofs.rules.selected.Tie as tie
+
+add-args : tie.Need-add-args
+add-args c = search needs
+
+measure-requires : tie.Need-measure-requires
+measure-requires c κs = let p = c .before .before .before .pre .parted-is in measurable (p .place) (p .parts-are)
+
+skip-requires : tie.Need-skip-requires
+skip-requires c κs = (c .before .before .before .before .before .before .pre .parted-is .place .holds .limit, c .before .before .before .before .before .before .pre .few)
+
+contraction : (s : tie.Start) → Contraction (s .args .ws .now) (s .args .n) (s .args .at) (s .args .body) (s .args .at + 2) (s .args .count)
+contraction s = contracts (s .pre .parted-is .place) (s .pre .parted-is .parts-are)
+
+short : (s : tie.Start) → s .args .n ≤ workspaceMost
+short s = length-short (redex-found (s .pre .parted-is .place) (s .pre .parted-is .parts-are))
+
+substituted-length-requires : tie.Need-substituted-length-requires
+substituted-length-requires c κs = ((contraction (c .before .before .before .before .before .before .before) .substitutable, c .before .before .before .before .before .before .before .pre .after-is), c .before .before .before .measure .ensures)
+
+add-length : tie.Need-add-length
+add-length c = omega (arith, contraction (c .before .before .before .before .before .before .before .before) .short, c .substituted-length .ensures, c .before .before .before .before .before .before .before .before .pre .parted-is .place .within, short (c .before .before .before .before .before .before .before .before))
+
+sub-length : tie.Need-sub-length
+sub-length c = omega (arith, contraction (c .before .before .before .before .before .before .before .before) .ends, c .before .skip .ensures, c .before .before .before .before .before .before .before .before .pre .end-is)
+
+add-length-2 : tie.Need-add-length-2
+add-length-2 c = omega (arith, contraction (c .before .before .before .before .before .before .before .before) .short, c .substituted-length .ensures, c .before .before .before .before .before .before .before .before .pre .parted-is .place .within, short (c .before .before .before .before .before .before .before .before))
+
+same-length : tie.Need-same-length
+same-length c = search needs
+
+returns : tie.Need-returns
+returns c =
+    let s = c .before .before .before .before .before .before .before .before in
+    let p = s .pre .parted-is in
+    (plans (p .place) (p .parts-are) (c .before .before .before .before .measure .ensures .ends) (s .pre .after-is) (c .before .skip .ensures ∙ sym (s .pre .end-is)) (rw (c .substituted-length .ensures)), refl)
+
+pub selected-spec : {M : Type 1} → statement M
+selected-spec =
+    tie.close
+    (tie.spec
+    add-args
+    measure-requires
+    skip-requires
+    substituted-length-requires
+    add-length
+    sub-length
+    add-length-2
+    same-length
+    returns)

@@ -1,0 +1,47 @@
+use mathlib.Core.Path.{_≡_, sym, _∙_, ap}
+use native.Mathlib.Omega.{arith}
+use borrow.Author.Needs.{needs}
+use lib.Seq.{sets, slice}
+use Rattle.step.proofs.TailLaws.{sets-same}
+use Rattle.step.proofs.tail.move_words.Statement.{statement}
+use Rattle.step.proofs.tail.move_words.Tie as tie
+use Rattle.step.proofs.tail.move_words.Reads as reads
+use Rattle.step.proofs.tail.move_words.Lts as lts
+use Rattle.step.proofs.tail.lower.Reads as lower-reads
+use Rattle.step.proofs.tail.raise.Reads as raise-reads
+
+-- src/tail.rt:40:9
+lower-requires : tie.Need-lower-requires
+lower-requires c κs = search needs
+
+-- src/tail.rt:42:9
+raise-requires : tie.Need-raise-requires
+raise-requires c κs = search needs
+
+-- src/tail.rt:35:1
+same-length : tie.Need-same-length
+same-length c = search needs
+
+-- src/tail.rt:35:1
+returns : tie.Need-returns
+returns c = search needs
+
+-- src/tail.rt:35:1
+same-length-2 : tie.Need-same-length-2
+same-length-2 c = search needs
+
+-- src/tail.rt:35:1
+returns-2 : tie.Need-returns-2
+returns-2 c = search needs
+
+-- src/tail.rt:35:1
+returns-3 : tie.Need-returns-3
+returns-3 c =
+    let s = c .before .before .before in
+    let e : s .args .out ≡ s .args .from = omega arith in
+    sym (ap (λ o. sets (s .args .ws .now) o (slice (s .args .from) (s .args .to) (s .args .ws .now))) e ∙ sets-same (s .args .ws .now) (s .args .from) (s .args .to) (s .pre .ordered) (s .pre .within))
+
+pub move-words-spec : {M : Type 1} → statement M
+move-words-spec =
+    tie.close
+    (tie.spec lower-requires raise-requires same-length returns same-length-2 returns-2 returns-3)

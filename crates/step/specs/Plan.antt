@@ -1,0 +1,96 @@
+-- The plan of a contraction: a record of positions in the workspace, found once by the search and tied to the next term by one law (`rest`).
+--
+-- The next term's words are those before the redex, those that stand for the words of the rule's body before `stop`, and the words of the workspace
+-- from `end` on. Where the body ends with its argument's index, under no binder, the argument is among the last and `stop` is before that index.
+use Prim.Native.Nat.{ℕ, _+_, _-_, _*_, _≤_, _<_}
+use mathlib.Core.Path.{_≡_}
+use mathlib.Core.List.{List, [], _∷_, _++_}
+use mathlib.Core.Option.{some, none}
+use lib.ListN.{length, getD, drop}
+use lib.Seq.{sets, slice}
+use Rattle.calculus.specs.Words.{abstractionKind, applicationKind, constructorKind, caseKind, kindOf, workspaceMost, words, size}
+use Rattle.calculus.specs.Skip.{span}
+use Rattle.calculus.specs.First.{firstTerms}
+use Rattle.calculus.specs.Position.{redexAt}
+use Rattle.words.specs.Limits.{payloadBound}
+use Rattle.substitution.specs.Rewritten.{substituting, standing}
+use Rattle.substitution.specs.Results.{Substitutable}
+use Rattle.step.specs.declared.Redex.{Redex}
+use Rattle.step.specs.declared.Plan.{Plan}
+use Rattle.step.specs.declared.Plan.the-variants.{Normal, Contract}
+use Rattle.step.specs.Held.{held, Holds}
+use Rattle.step.specs.Parts.{nothing, parted, parts}
+use Rattle.step.specs.Next.{next, nextFrom, HoldsRedex}
+
+-- The words that stand for those of the body before `stop`.
+abbrev pub contractum : List ℕ → Redex → List ℕ
+contractum ws r = standing (substituting (firstTerms (r .count) (drop (r .args) ws))) (r .stop - r .body) (0 ∷ []) (drop (r .body) ws)
+
+pub record Plans (ws : List ℕ) (n : ℕ) (r : Redex) : Type 0 where
+  pub redex : HoldsRedex ws n (r .at)
+  pub substitutable : Substitutable ws (r .body) (r .args) (r .count)
+  pub from : r .body ≤ r .stop
+  pub to : r .stop ≤ r .body + span 1 (drop (r .body) ws)
+  pub after-is : r .after ≡ r .args + span (r .count) (drop (r .args) ws)
+  pub small : span 1 (drop (r .body) ws) + span (r .count) (drop (r .args) ws) ≤ workspaceMost
+  pub ends : r .end ≤ n
+  pub rest : nextFrom ws n (r .at) ≡ contractum ws r ++ slice (r .end) n ws
+  pub length-is : r .length ≡ size (next ws n (r .at))
+
+-- What the search finds: the leftmost redex, or none.
+abbrev pub Planned : List ℕ → ℕ → Plan → Type 0
+Planned ws n Normal = redexAt (held ws n) ≡ none
+Planned ws n (Contract r) = (redexAt (held ws n) ≡ some (r .at)) × Plans ws n r
+
+-- What is found at one position.
+abbrev pub PlannedAt : List ℕ → (n at : ℕ) → Plan → Type 0
+PlannedAt ws n at Normal = parts at (drop at ws) ≡ nothing
+PlannedAt ws n at (Contract r) = Plans ws n r × (r .at ≡ at)
+
+-- A word of the held term stands at the position, and the room serves a walk over the term.
+pub record At (ws : List ℕ) (n at : ℕ) (room : List ℕ) : Type 0 where
+  pub holds : Holds ws n
+  pub within : at < n
+  pub room-fits : n ≤ length room
+
+-- The parts of a redex stand there.
+pub record Parted (ws : List ℕ) (n at body args count : ℕ) (room : List ℕ) : Type 0 where
+  pub place : At ws n at room
+  pub parts-are : parts at (drop at ws) ≡ parted body args count
+
+-- An application of an abstraction stands there.
+pub record Applied (ws : List ℕ) (n at : ℕ) (room : List ℕ) : Type 0 where
+  pub place : At ws n at room
+  pub further : at + 1 < length ws
+  pub application : kindOf (getD ws at 0) ≡ applicationKind
+  pub abstraction : kindOf (getD ws (at + 1) 0) ≡ abstractionKind
+
+-- A case of a constructor stands there, w and v are their words.
+pub record Inspected (ws : List ℕ) (n at w v : ℕ) (room : List ℕ) : Type 0 where
+  pub place : At ws n at room
+  pub further : at + 1 < length ws
+  pub case-is : w ≡ getD ws at 0
+  pub constructor-is : v ≡ getD ws (at + 1) 0
+  pub case : kindOf w ≡ caseKind
+  pub constructor : kindOf v ≡ constructorKind
+
+-- One of its branches was selected: its body, the arguments' end, which is where the branches start.
+pub record Selected (ws : List ℕ) (n at branches body after count : ℕ) (room : List ℕ) : Type 0 where
+  pub parted-is : Parted ws n at body (at + 2) count room
+  pub after-is : after ≡ at + 2 + span count (drop (at + 2) ws)
+  pub end-is : at + span 1 (drop at ws) ≡ after + span branches (drop after ws)
+  pub few : branches ≤ payloadBound
+
+-- The next term fits the workspace, what stands before its last words the scratch, and the room the scopes of a walk.
+pub record HasRoom (ws : List ℕ) (n : ℕ) (r : Redex) (scratch room : List ℕ) : Type 0 where
+  pub plan : Plans ws n r
+  pub fits : r .length ≤ length ws
+  pub scratch-fits : r .length ≤ length scratch
+  pub room-fits : workspaceMost ≤ 2 * length room
+
+-- After the contraction: the answer m is the next term's length, the workspace ws′ holds the next term and after it its old words, and the scratch
+-- holds at its start the words that were put from the redex on.
+pub record Contracted (ws : List ℕ) (n : ℕ) (r : Redex) (scratch : List ℕ) (m : ℕ) (ws′ scratch′ : List ℕ) : Type 0 where
+  pub returned : m ≡ size (next ws n (r .at))
+  pub workspace : ws′ ≡ words (next ws n (r .at)) ++ drop (size (next ws n (r .at))) ws
+  pub written : scratch′ ≡ sets scratch 0 (contractum ws r)

@@ -1,0 +1,165 @@
+// The redex that starts at a position, found from the words alone, and the plan of its contraction.
+use crate::Plan;
+use crate::Redex;
+use substitution::measure::measure;
+use substitution::measure::substituted_length;
+use words::Word;
+use words::extent;
+use words::skip;
+ghost use mathlib.Core.Path.{_≡_};
+ghost use Prim.Native.Nat.{_≤_};
+ghost use lib.ListN.{length, drop};
+ghost use Rattle.calculus.specs.Words.{workspaceMost};
+ghost use Rattle.step.specs.Parts.{branchBody};
+ghost use Rattle.step.specs.Plan.{At, PlannedAt, Plans, Applied, Inspected, Selected};
+
+// A position, or that there is none.
+pub enum Found {
+    At(usize),
+    Nothing,
+}
+
+// The body of the first of the branches at a position that has the tag, if it binds so many variables.
+fn branch_body(ws: &[u32], branches: u32, tag: u32, count: u32, at: usize) -> Found
+    requires { ⌜ length (now ws) ≤ workspaceMost ⌝ }
+    ensures { λ r. ⌜ r ≡ branchBody branches tag count at (drop at (now (ws .entry))) ⌝ }
+{
+    let mut left = branches;
+    let mut i = at;
+    while i < ws.len() {
+        if left == 0 {
+            return Found::Nothing;
+        }
+        let w = Word(ws[i]);
+        if tag == w.tag() {
+            if count == w.count() {
+                return Found::At(i + 1);
+            }
+            return Found::Nothing;
+        }
+        left -= 1;
+        i = extent(ws, i + 1);
+    }
+    Found::Nothing
+}
+
+// The plan for an application of an abstraction. An argument that stands for the last word of the body, under no binder, stays where it is: the
+// contractum ends with it.
+fn beta(ws: &[u32], n: usize, at: usize, room: &mut [u32]) -> Redex
+    requires { ⌜ Applied (now ws) n at (now room) ⌝ }
+    ensures { λ r. ⌜ Plans (now (ws .entry)) n r × (r .at ≡ at) ⌝ }
+{
+    let body = at + 2;
+    let found = measure(ws, body, 1, room);
+    let occurs = found.occurs;
+    let times = occurs[0];
+    let args = found.end;
+    let after = extent(ws, args);
+    let length = at + (args - body - times + times * (after - args)) + (n - after);
+    if found.last == 0 {
+        let stop = args - 1;
+        if ws[stop] == Word::VARIABLE {
+            return Redex {
+                at,
+                body,
+                stop,
+                args,
+                after,
+                count: 1,
+                end: args,
+                length,
+            };
+        }
+    }
+    Redex {
+        at,
+        body,
+        stop: args,
+        args,
+        after,
+        count: 1,
+        end: after,
+        length,
+    }
+}
+
+// The plan for a case whose branch was selected: its body, the constructor's arguments up to `after`, where the branches start.
+fn selected(
+    ws: &[u32],
+    n: usize,
+    at: usize,
+    branches: usize,
+    body: usize,
+    after: usize,
+    count: usize,
+    room: &mut [u32],
+) -> Redex
+    requires { ⌜ Selected (now ws) n at branches body after count (now room) ⌝ }
+    ensures { λ r. ⌜ Plans (now (ws .entry)) n r × (r .at ≡ at) ⌝ }
+{
+    let args = at + 2;
+    let found = measure(ws, body, count, room);
+    let stop = found.end;
+    let end = skip(ws, after, branches);
+    let length = at + substituted_length(ws, body, args, after, count, found) + (n - end);
+    Redex {
+        at,
+        body,
+        stop,
+        args,
+        after,
+        count,
+        end,
+        length,
+    }
+}
+
+// The plan for a case of a constructor: `case` is its word, `constructor` the constructor's.
+fn inspect(ws: &[u32], n: usize, at: usize, case: Word, constructor: Word, room: &mut [u32]) -> Plan
+    requires { ⌜ Inspected (now ws) n at (case .0) (constructor .0) (now room) ⌝ }
+    ensures { λ r. ⌜ PlannedAt (now (ws .entry)) n at r ⌝ }
+{
+    let count = constructor.count();
+    let branches = case.payload();
+    let after = skip(ws, at + 2, count as usize);
+    match branch_body(ws, branches, constructor.tag(), count, after) {
+        Found::At(body) => Plan::Contract(selected(
+            ws,
+            n,
+            at,
+            branches as usize,
+            body,
+            after,
+            count as usize,
+            room,
+        )),
+        Found::Nothing => Plan::Normal,
+    }
+}
+
+// The plan for the redex that starts at a position, if one does.
+pub fn plan_at(ws: &[u32], n: usize, at: usize, room: &mut [u32]) -> Plan
+    requires { ⌜ At (now ws) n at (now room) ⌝ }
+    ensures { λ r. ⌜ PlannedAt (now (ws .entry)) n at r ⌝ }
+{
+    if ws.len() <= at + 1 {
+        return Plan::Normal;
+    }
+    let first = Word(ws[at]);
+    let second = Word(ws[at + 1]);
+    match first.kind() {
+        Word::APPLICATION => {
+            if second.kind() == Word::ABSTRACTION {
+                return Plan::Contract(beta(ws, n, at, room));
+            }
+            Plan::Normal
+        }
+        Word::CASE => {
+            if second.kind() == Word::CONSTRUCTOR {
+                return inspect(ws, n, at, first, second, room);
+            }
+            Plan::Normal
+        }
+        _ => Plan::Normal,
+    }
+}

@@ -1,0 +1,120 @@
+-- The turns of `measure`: what was counted and the occurrences to come are all occurrences.
+use Prim.Native.Nat.{ℕ, zero, suc, _+_, _*_, _-_, _≤_, _<_}
+use mathlib.Core.Path.{_≡_, refl, sym, _∙_, ap}
+use mathlib.Core.Bool.{Bool, true, false, cond}
+use mathlib.Core.List.{List, [], _∷_}
+use native.Mathlib.Decide.{ℕ-discrete}
+use native.Mathlib.Numerals.{add-one}
+use native.Mathlib.Omega.{arith}
+use borrow.Author.Tests.{eq-eqb, ne-eqb}
+use lib.Dec.{eqb, ltb}
+use lib.ListN.{length, getD, drop, set, replicate, length-set, drop-of-length-le}
+use lib.Seq.{drop-cons, getD-set-same, getD-set-other}
+use Rattle.calculus.specs.Words.{variableKind, kindOf, payloadOf}
+use Rattle.calculus.specs.Accepted.{argumentLimit}
+use Rattle.calculus.specs.Skip.{span}
+use Rattle.substitution.specs.Depths.{depths}
+use Rattle.substitution.specs.Rewritten.{place}
+use Rattle.substitution.specs.Measure.{occurrences, Measurable, Measures}
+use Rattle.substitution.specs.Scopes.{toCome, Entered}
+use Rattle.substitution.proofs.ScopeLaws.{come-first}
+use Rattle.substitution.proofs.WalkLaws.{starts-some}
+use Rattle.substitution.proofs.Walking.{Walking, walking-start, walking-done, walking-within, walking-number, walking-next, nothing-left}
+
+-- A place is below n or n.
+pub place-most : (n d w : ℕ) → place n d w ≤ n
+unfolding place
+place-most n d w = go (eqb (kindOf w) variableKind) (ltb (payloadOf w) d) (ltb (payloadOf w - d) n)
+  where
+    go : (x y z : Bool) → cond x (cond y n (cond z (n - 1 - (payloadOf w - d)) n)) n ≤ n
+    go true true z = omega arith
+    go true false true = omega arith
+    go true false false = omega arith
+    go false y z = omega arith
+
+-- One more for a place.
+told-set : (occurs : List ℕ) (k j : ℕ) → k < length occurs → getD (set occurs k (getD occurs k 0 + 1)) j 0 ≡ getD occurs j 0 + cond (eqb k j) 1 0
+told-set occurs k j h = go (ℕ-discrete k j)
+  where
+    go : Dec (k ≡ j) → getD (set occurs k (getD occurs k 0 + 1)) j 0 ≡ getD occurs j 0 + cond (eqb k j) 1 0
+    go (yes e) = rw (eq-eqb k j e) (rw (← e) (getD-set-same occurs k (getD occurs k 0 + 1) 0 h))
+    go (no e) = rw (ne-eqb k j e) (getD-set-other occurs k j (getD occurs k 0 + 1) 0 (λ q. e (sym q)) ∙ omega arith)
+
+one : (b : Bool) → cond b 1 0 ≤ 1
+one true = omega arith
+one false = omega arith
+
+zeros-at : (m j : ℕ) → _≡_ {A = ℕ} (getD (replicate m 0) j 0) 0
+zeros-at zero j = refl
+zeros-at (suc m) zero = refl
+zeros-at (suc m) (suc j) = zeros-at m j
+
+occurrences-done : (n j : ℕ) (ws : List ℕ) → occurrences n j [] ws ≡ 0
+occurrences-done n j [] = refl
+occurrences-done n j (w ∷ ws) = refl
+
+-- The walk has counted the words up to i, and stood under `last` binders at the one before.
+pub record Counting (src : List ℕ) (body n : ℕ) (room₀ room occurs : List ℕ) (i pending depth top last : ℕ) : Type 0 where
+  pub walking : Walking src body room₀ room i pending depth top
+  pub some : 0 < span 1 (drop body src)
+  pub few : n ≤ argumentLimit
+  pub places : length occurs ≡ suc argumentLimit
+  pub small : (j : ℕ) → getD occurs j 0 ≤ i - body
+  pub counted : (j : ℕ) → j < n
+      → getD occurs j 0 + occurrences n j (toCome pending depth (drop top room)) (drop i src) ≡ occurrences n j (0 ∷ []) (drop body src)
+  pub passed : 0 < i - body → last ≡ getD (depths (0 ∷ []) (drop body src)) (i - body - 1) 0
+
+pub counting-start : {src room occurs : List ℕ} {body n : ℕ} → Measurable src body n room → occurs ≡ replicate (suc argumentLimit) 0
+    → Counting src body n room room occurs body 1 0 (length room) 0
+counting-start {src} {room} {occurs} {body} {n} h z =
+    let zeros : (j : ℕ) → getD occurs j 0 ≡ 0 = λ j. rw z (zeros-at (suc argumentLimit) j) in
+    let w = walking-start (h .short) (h .starts) (h .enough) in
+    record {
+      walking = w;
+      some = starts-some (h .starts);
+      few = h .few;
+      places = ap length z;
+      small = λ j. omega (arith, zeros j);
+      counted = λ j l. rw (zeros j, drop-of-length-le room {i = length room} (omega arith)) (omega arith);
+      passed = λ q. absurd (omega arith);
+    }
+
+module _ {src : List ℕ} {body n : ℕ} {room₀ room occurs : List ℕ} {i pending depth top last : ℕ}
+    (v : Counting src body n room₀ room occurs i pending depth top last) where
+  pub counting-done : pending ≤ 0 → Measures src body n i last occurs
+  counting-done none =
+      let e = walking-done (v .walking) none in
+      let z : pending ≡ 0 = omega arith in
+      record {
+        ends = e;
+        occur = λ j l. omega (arith, rw (nothing-left (v .walking) z) at (v .counted j l), occurrences-done n j (drop i src));
+        last-is = v .passed (omega (arith, e, v .some));
+      }
+
+  module _ (some : 0 < pending) where
+    pub counting-place : {k : ℕ} → k ≡ place n depth (getD src i 0) → k < suc argumentLimit
+    counting-place e = omega (arith, place-most n depth (getD src i 0), v .few)
+
+    pub counting-next : {k pending′ depth′ top′ : ℕ} {room′ : List ℕ} → k ≡ place n depth (getD src i 0)
+        → Entered (getD src i 0) pending depth top room pending′ depth′ top′ room′ → length room′ ≡ length room
+        → Counting src body n room₀ room′ (set occurs k (getD occurs k 0 + 1)) (i + 1) pending′ depth′ top′ depth
+    counting-next {k} e entered kept =
+        let w = v .walking in
+        let more = walking-within w some in
+        let l : k < length occurs = omega (arith, counting-place e, v .places) in
+        let shift : i + 1 - body - 1 ≡ i - body = omega (arith, more) in
+        record {
+          walking = walking-next w some entered kept;
+          some = v .some;
+          few = v .few;
+          places = length-set occurs k _ ∙ v .places;
+          small = λ j. omega (arith, told-set occurs k j l, one (eqb k j), v .small j, more);
+          counted = λ j h.
+              rw (entered .items, add-one i)
+              (omega (
+                arith,
+                told-set occurs k j l ∙ ap (λ q. getD occurs j 0 + cond (eqb q j) 1 0) e,
+                rw (come-first pending depth (drop top room) (omega arith), drop-cons src i 0 (more .0)) at (v .counted j h),
+              ));
+          passed = λ q. sym (walking-number w some) ∙ ap (λ m. getD (depths (0 ∷ []) (drop body src)) m 0) (sym shift);
+        }

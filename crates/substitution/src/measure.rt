@@ -1,0 +1,73 @@
+// What one walk over a body tells, and the length of the body with its arguments put in.
+use crate::PLACES;
+use crate::index::argument;
+use crate::scope::Scope;
+use crate::scope::enter;
+use crate::starts;
+ghost use mathlib.Core.Path.{_≡_};
+ghost use Prim.Native.Nat.{_+_};
+ghost use lib.ListN.{drop};
+ghost use Rattle.calculus.specs.Words.{size};
+ghost use Rattle.calculus.specs.Skip.{span};
+ghost use Rattle.substitution.specs.Measure.{Measurable, Measures};
+ghost use Rattle.substitution.specs.Results.{Substitutable, substituted};
+
+// The end of a body, how often each argument stands for a word of it, and the binders around its last word.
+pub struct Measured {
+    pub end: usize,
+    pub occurs: [usize; PLACES],
+    pub last: u32,
+}
+
+// One walk over the body at a position that has n arguments. A word that none stands for counts at the place n.
+pub fn measure(src: &[u32], body: usize, n: usize, room: &mut [u32]) -> Measured
+    requires { ⌜ Measurable (now src) body n (now room) ⌝ }
+    ensures { λ r. ⌜ Measures (now (src .entry)) body n (r .end) (r .last) (r .occurs) ⌝ }
+{
+    let mut occurs = [0usize; PLACES];
+    let mut i = body;
+    let mut last: u32 = 0;
+    let mut at = Scope {
+        pending: 1,
+        depth: 0,
+        top: room.len(),
+    };
+    while at.pending > 0 {
+        let w = src[i];
+        last = at.depth;
+        let j = argument(w, last, n);
+        occurs[j] += 1;
+        at = enter(w, at, room);
+        i += 1;
+    }
+    Measured {
+        end: i,
+        occurs,
+        last,
+    }
+}
+
+// The length in words of a measured body with its n arguments put in, from how often each occurs: nothing is written to find it.
+pub fn substituted_length(
+    src: &[u32],
+    body: usize,
+    args: usize,
+    after: usize,
+    n: usize,
+    found: Measured,
+) -> usize
+    requires { ⌜ Substitutable (now src) body args n × (after ≡ args + span n (drop args (now src))) ⌝ }
+    requires { ⌜ Measures (now src) body n (found .end) (found .last) (found .occurs) ⌝ }
+    ensures { λ r. ⌜ r ≡ size (substituted (now (src .entry)) body args n) ⌝ }
+{
+    let occurs = found.occurs;
+    let starts = starts(src, args, after, n);
+    let mut total = found.end - body;
+    let mut j: usize = 0;
+    while j < n {
+        let o = occurs[j];
+        total = total - o + o * (starts[j + 1] - starts[j]);
+        j += 1;
+    }
+    total
+}

@@ -1,0 +1,56 @@
+// The scopes of a walk over words.
+use words::Word;
+ghost use Rattle.substitution.specs.Scopes.{Enters, Entered};
+
+// Where a walk stands: how many items come next, under how many binders, and from where on its room holds the scopes that were left with items.
+pub struct Scope {
+    pub pending: usize,
+    pub depth: u32,
+    pub top: usize,
+}
+
+// A scope in the room is items × 32768 + binders.
+const SCOPE: u32 = 32768;
+
+// Where the walk stands after a word.
+pub fn enter(w: u32, at: Scope, room: &mut [u32]) -> Scope
+    requires { ⌜ Enters (at .pending) (at .depth) (at .top) (now room) ⌝ }
+    ensures { λ r. ⌜ Entered w (at .pending) (at .depth) (at .top) (now (room .entry)) (r .pending) (r .depth) (r .top) (now (room .exit)) ⌝ }
+{
+    let pending = at.pending;
+    let depth = at.depth;
+    let top = at.top;
+    let bound = Word(w).bound();
+    if bound == 0 {
+        let left = Word(w).arity() + (pending - 1);
+        if left == 0 {
+            if top < room.len() {
+                let scope = room[top];
+                return Scope {
+                    pending: (scope / SCOPE) as usize,
+                    depth: scope % SCOPE,
+                    top: top + 1,
+                };
+            }
+        }
+        return Scope {
+            pending: left,
+            depth,
+            top,
+        };
+    }
+    if pending > 1 {
+        let free = top - 1;
+        room[free] = (pending - 1) as u32 * SCOPE + depth;
+        return Scope {
+            pending: 1,
+            depth: depth + bound,
+            top: free,
+        };
+    }
+    Scope {
+        pending: 1,
+        depth: depth + bound,
+        top,
+    }
+}
