@@ -1,11 +1,11 @@
 -- Laws of words: a word holds its kind and its payload, a payload its tag and its count, and each is made of its two parts. Every term has a
 -- word, and every accepted expression can be packed.
-use Prim.Native.Nat.{ℕ, _≤_, _<_}
-use mathlib.Core.Path.{_≡_}
+use Prim.Native.Nat.{ℕ, suc, _+_, _≤_, _<_}
+use mathlib.Core.Path.{_≡_, refl, ap}
 use native.Mathlib.Omega.{arith}
 use Rattle.calculus.specs.Term.{Sort, Exp, Term, var, lam, app, con, case}
 use Rattle.calculus.specs.Words.{kindBase, word, kindOf, payloadOf, countBase, pack, tagOf, countOf, size}
-use Rattle.calculus.specs.Accepted.{acceptance, Accepted}
+use Rattle.calculus.specs.Accepted.{scope, Scoped, acceptance, Accepted}
 use Rattle.calculus.specs.Theorems.{counted, Packable}
 use Rattle.calculus.proofs.EverywhereLaws.{everywhere-implies}
 
@@ -33,6 +33,14 @@ size-positive (lam b) = omega arith
 size-positive (app f a) = omega arith
 size-positive (con t xs) = omega arith
 size-positive (case e bs) = omega arith
+
+pub accepted-scoped : {s : Sort} (d : ℕ) (e : Exp s) → Accepted d e → Scoped d e
+accepted-scoped d e h =
+    everywhere-implies {P = acceptance} {Q = scope} {R = λ d d′ c. d ≡ d′}
+    (record { constructors = λ t n h. tt; cases = λ bs cs same h. tt; branches = λ t n h. tt })
+    (record { abstractions = λ d d′ c r. ap suc r; bodies = λ d d′ c n r. ap (λ d. d + n) r })
+    (λ d d′ c i r h. omega arith)
+    d d refl e h
 
 pub accepted-packable : {s : Sort} (d : ℕ) (e : Exp s) → Accepted d e → Packable e
 accepted-packable d e h =

@@ -4,7 +4,7 @@
 -- `Accepted d e` says it of e under d binders: an index below d is bound; any other has the free number index minus d.
 use Prim.Native.Nat.{ℕ, _+_, _≤_, _<_}
 use Rattle.calculus.specs.Term.{Sort, Exp, end, branch, Branches, count}
-use Rattle.calculus.specs.Everywhere.{binders, Asked, Everywhere}
+use Rattle.calculus.specs.Everywhere.{binders, Asked, variables, Everywhere}
 
 -- The largest tag.
 abbrev pub tagLimit : ℕ
@@ -46,6 +46,13 @@ Tagged t n = IsTag t × (n ≤ argumentLimit)
 -- Under d binders the index is bound, or its free number is in range.
 abbrev pub InScope : (d i : ℕ) → Type 0
 InScope d i = i ≤ d + freeLimit
+
+-- Free numbers alone.
+abbrev pub scope : Asked ℕ
+scope = variables binders InScope
+
+abbrev pub Scoped : {s : Sort} → ℕ → Exp s → Type 0
+Scoped d e = Everywhere scope d e
 
 abbrev pub acceptance : Asked ℕ
 acceptance =

@@ -5,7 +5,7 @@ use mathlib.Core.Logic.{Dec·and}
 use native.Mathlib.Decide.{decLe, decLt}
 use Rattle.calculus.specs.Term.{Sort, Exp, var, lam, app, con, case, nil, cons, end, branch, Branches, count}
 use Rattle.calculus.specs.Everywhere.{Asked, Everywhere}
-use Rattle.calculus.specs.Accepted.{tagLimit, argumentLimit, branchLimit, freeLimit, IsTag, StartsAbove, Rising, Tagged, acceptance, Accepted}
+use Rattle.calculus.specs.Accepted.{tagLimit, argumentLimit, branchLimit, freeLimit, IsTag, StartsAbove, Rising, Tagged, scope, Scoped, acceptance, Accepted}
 
 unfoldable pub both₃ : {A B C : Type 0} → Dec A → Dec B → Dec C → Dec (A × B × C)
 both₃ (yes a) (yes b) (yes c) = yes (a, b, c)
@@ -45,6 +45,17 @@ everywhere? {P = P} D d (branch t n b bs) = both₃ (D .of-branch? t n) (everywh
 
 unfoldable pub tagged? : (t n : ℕ) → Dec (Tagged t n)
 tagged? t n = Dec·and (isTag? t) (decLe n argumentLimit)
+
+unfoldable pub scoped? : {s : Sort} (d : ℕ) (e : Exp s) → Dec (Scoped d e)
+scoped? d e =
+    everywhere? {P = scope}
+    (record {
+      of-variable? = λ d i. decLe i (d + freeLimit);
+      of-constructor? = λ t n. yes tt;
+      of-case? = λ bs. yes tt;
+      of-branch? = λ t n. yes tt;
+    })
+    d e
 
 unfoldable pub accepted? : {s : Sort} (d : ℕ) (e : Exp s) → Dec (Accepted d e)
 accepted? d e =

@@ -8,7 +8,7 @@ use mathlib.Core.Option.{bind}
 use lib.ListN.{replicate}
 use native.Mathlib.Decide.{decLe, decLt}
 use native.Mathlib.Omega.{arith}
-use Rattle.calculus.specs.Decide.{both₃, isTag?, startsAbove?, rising?, everywhere?, tagged?, accepted?}
+use Rattle.calculus.specs.Decide.{both₃, isTag?, startsAbove?, rising?, everywhere?, tagged?, scoped?, accepted?}
 use Rattle.calculus.specs.Read.{takeTerm, takeTerms, takeBranches, readLam, readApp, readCon, readCase, readBranch, item, items, oneTerm, read}
 use Rattle.calculus.specs.Refusal.{number}
 use Rattle.calculus.specs.Workspace.{termAt}
@@ -124,7 +124,7 @@ record Tried : Type 0 where
   in-order : InPrefixOrder (view (inForm1 (table identity)))
 
 tried : Tried
-unfolding loadStored write termAt meaning meant meantTerm meantTerms meantBranch meantBranches termOf wrongLength wrongHeader valueFits wrongValue namings wrongLink childrenFit wrongChildren bind read items item takeTerm takeTerms takeBranches readLam readApp readCon readCase readBranch oneTerm accepted? everywhere? tagged? both₃ isTag? startsAbove? rising? Dec·and decLe decLt
+unfolding loadStored write termAt meaning meant meantTerm meantTerms meantBranch meantBranches termOf wrongLength wrongHeader valueFits wrongValue namings wrongLink childrenFit wrongChildren bind read items item takeTerm takeTerms takeBranches readLam readApp readCon readCase readBranch oneTerm accepted? scoped? everywhere? tagged? both₃ isTag? startsAbove? rising? Dec·and decLe decLt
 tried =
     record {
       identity-loads = refl;

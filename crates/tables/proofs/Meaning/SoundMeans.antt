@@ -1,8 +1,11 @@
 -- A table that meets no refusal means a term, which is accepted and has as many words as the table has records.
 use mathlib.Core.Path.{_≡_, ap, _∙_}
+use mathlib.Core.Bool.{true, false, false≢true}
+use mathlib.Core.Logic.{ite}
 use mathlib.Core.Option.{some}
 use native.Mathlib.Omega.{arith}
 use borrow.Author.Tests.{not-false}
+use Rattle.calculus.specs.Decide.{scoped?}
 use Rattle.tables.specs.Meaning.{meaning}
 use Rattle.tables.specs.FreeNumbers.{freeFits}
 use Rattle.tables.specs.Theorems.{Sound-means}
@@ -13,6 +16,10 @@ use Rattle.tables.proofs.Meaning.Extent.{extent, extent-zero, root-exte
 use Rattle.tables.proofs.Refusal.Fits.{valued, fitted}
 use Rattle.tables.proofs.Meaning.Exists.{record-means}
 use Rattle.tables.proofs.Meaning.Accepts.{means-accepted}
+
+in-scope : {A : Type 0} (d : Dec A) → ite d true false ≡ true → A
+in-scope (yes a) q = a
+in-scope (no n) q = absurd (false≢true q)
 
 pub sound-means : Sound-means
 sound-means T sound =
@@ -26,6 +33,6 @@ sound-means T sound =
     record {
       meant = root .0;
       means = root .1;
-      accepted = means-accepted T links values fits (root .1) 0 (not-false (freeFits 0 (root .0)) (rw computed at (sound .free-numbers)));
+      accepted = means-accepted T links values fits (root .1) 0 (in-scope (scoped? 0 (root .0)) (not-false (freeFits (root .0)) (rw computed at (sound .free-numbers))));
       length-is = omega (arith, means-sized T links (root .1), last, root-extent T links (inside .0) (inside .1));
     }

@@ -1,15 +1,17 @@
 -- The table of an accepted term is in prefix order, means the term and meets no refusal.
 use Prim.Native.Nat.{ℕ, suc, _+_, _*_, _≤_}
 use mathlib.Core.Path.{_≡_, refl, ap}
-use mathlib.Core.Bool.{false}
+use mathlib.Core.Bool.{true, false}
+use mathlib.Core.Logic.{if-pos}
 use mathlib.Core.List.{_∷_}
 use native.Mathlib.Omega.{arith}
 use lib.ListN.{length}
 use borrow.Author.Tests.{le-leb, le-ltb, eq-eqb}
 use Rattle.calculus.specs.Term.{term, Term}
+use Rattle.calculus.specs.Decide.{scoped?}
 use Rattle.calculus.specs.Words.{size, workspaceMost}
 use Rattle.calculus.specs.Accepted.{Accepted}
-use Rattle.calculus.proofs.WordLaws.{size-positive, accepted-packable}
+use Rattle.calculus.proofs.WordLaws.{accepted-scoped, size-positive, accepted-packable}
 use Rattle.calculus.proofs.Indices.{indices-bounded}
 use Rattle.tables.specs.Records.{form1, recordAt, inForm1, view}
 use Rattle.tables.specs.Meaning.{Means}
@@ -20,7 +22,6 @@ use Rattle.tables.specs.PrefixOrder.{nothing, InPrefixOrder}
 use Rattle.tables.specs.Write.{entry, records, tableOf}
 use Rattle.tables.proofs.Refusal.Tests.{record-isRecord}
 use Rattle.tables.proofs.Refusal.LinkRules.{linked-passes}
-use Rattle.tables.proofs.Meaning.Accepts.{accepted-free}
 use Rattle.tables.proofs.Meaning.MeaningLaws.{meaning-complete}
 use Rattle.tables.proofs.Meaning.ChainMeaning.{term-not-branch}
 use Rattle.tables.proofs.Refusal.Fits.{Valued, valued-passes, Fitted, fitted-passes}
@@ -83,7 +84,7 @@ module _ (t : Term) where
     written-links = linked-passes (view (inForm1 (tableOf t))) (prefix-linked (view (inForm1 (tableOf t))) written-in-order)
 
     written-free : wrongFree (view (inForm1 (tableOf t))) ≡ false
-    written-free = rw (meaning-complete (view (inForm1 (tableOf t))) t written-links written-means, accepted-free t 0 accepted)
+    written-free = rw (meaning-complete (view (inForm1 (tableOf t))) t written-links written-means, if-pos (scoped? 0 t) (accepted-scoped 0 t accepted) true false)
 
     pub written-passes : (C : ℕ) → wrongWorkspace C ≡ false → size t ≤ C → Passes (inForm1 (tableOf t)) C
     written-passes C h u =
