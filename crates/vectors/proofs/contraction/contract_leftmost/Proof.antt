@@ -12,7 +12,7 @@ use Rattle.words.specs.IsTerm.{isTerm}
 use Rattle.words.proofs.IsTerm.{isTerm-some}
 use Rattle.step.specs.Held.{Holds}
 use Rattle.step.specs.Plan.{HasRoom}
-use Rattle.step.proofs.HeldLaws.{held-term, holds-term, termAt-start}
+use Rattle.step.proofs.HeldLaws.{holds-term, termAt-start}
 use Rattle.step.proofs.ContractLaws.{lengths}
 use Rattle.rounds.proofs.RunCode.{searched}
 use Rattle.vectors.proofs.contraction.contract_leftmost.Statement.{statement}
