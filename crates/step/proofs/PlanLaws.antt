@@ -1,21 +1,20 @@
 -- The plan of a contraction, from what was found at the redex: the words that stand for the body, and those behind it.
-use Prim.Native.Nat.{ℕ, zero, suc, _+_, _-_, _*_, _≤_, _<_}
-use mathlib.Core.Path.{_≡_, refl, sym, _∙_, ap, ap₂}
+use Prim.Native.Nat.{ℕ, suc, _+_, _-_, _≤_}
+use mathlib.Core.Path.{_≡_, refl, sym, _∙_, ap}
 use mathlib.Core.List.{List, [], _∷_, _++_, append-assoc}
 use mathlib.Core.Option.{some}
 use native.Mathlib.Nat.{add-zero}
 use native.Mathlib.Omega.{arith}
-use lib.ListN.{length, getD, take, drop, take-append-drop, length-drop}
+use lib.ListN.{length, getD, take, drop, take-append-drop}
 use lib.Seq.{slice, length-take-le, take-take, drop-append-le, drop-drop, getD-drop}
 use Rattle.calculus.specs.Term.{Terms, count}
-use Rattle.calculus.specs.Words.{abstractionKind, applicationKind, constructorKind, caseKind, kindOf, payloadOf, countOf, workspaceMost, words, size}
-use Rattle.calculus.specs.Skip.{following, arity, span}
+use Rattle.calculus.specs.Words.{payloadOf, countOf, words, size}
+use Rattle.calculus.specs.Skip.{following, span}
 use Rattle.calculus.specs.First.{firstTerms}
-use Rattle.calculus.proofs.SkipLaws.{span-bounded}
 use Rattle.substitution.specs.Depths.{depths}
 use Rattle.substitution.specs.Rewritten.{substituting, rewritten, standing}
-use Rattle.substitution.specs.Results.{Substitutable, substituted}
-use Rattle.substitution.specs.Measure.{Measurable, Measures}
+use Rattle.substitution.specs.Results.{substituted}
+use Rattle.substitution.specs.Measure.{Measurable}
 use Rattle.substitution.proofs.DepthLaws.{span-depths}
 use Rattle.substitution.proofs.ItemLaws.{slice-taken}
 use Rattle.substitution.proofs.ResultLaws.{arguments-size}
@@ -27,12 +26,12 @@ use Rattle.step.specs.declared.Redex.{Redex}
 use Rattle.step.specs.Held.{held}
 use Rattle.step.specs.Search.{Searched}
 use Rattle.step.specs.Parts.{parted, parts}
-use Rattle.step.specs.Next.{next, nextFrom, HoldsRedex}
-use Rattle.step.specs.Plan.{Plans, At, Parted, Applied, Inspected, Selected}
+use Rattle.step.specs.Next.{next, HoldsRedex}
+use Rattle.step.specs.Plan.{Plans, At, Applied, Inspected}
 use Rattle.step.proofs.HeldLaws.{next-term}
 use Rattle.step.proofs.PartsTurns.{first-word, first-two, parts-beta}
 use Rattle.step.proofs.SearchLaws.{redex-here}
-use Rattle.step.proofs.NextLaws.{endAt, start, length-short, redex-within, next-size, Contraction, contraction, rest-length}
+use Rattle.step.proofs.NextLaws.{endAt, start, length-short, next-size, Contraction, contraction, rest-length}
 
 -- Words from a position to an end, parted between.
 slice-split : (l : List ℕ) (a e n : ℕ) → a ≤ e → e ≤ n → n ≤ length l → slice a n l ≡ slice a e l ++ slice e n l

@@ -3,12 +3,11 @@ use Prim.Native.Nat.{ℕ, suc, _+_, _-_, _≤_, _<_}
 use mathlib.Core.Path.{_≡_, refl, sym, _∙_, ap}
 use mathlib.Core.List.{List, [], _∷_, _++_}
 use native.Mathlib.Nat.{add-zero}
-use native.Mathlib.Numerals.{add-one}
 use native.Mathlib.Omega.{arith}
-use lib.ListN.{length, getD, set, take, drop, length-set, take-append-drop}
+use lib.ListN.{length, getD, set, take, drop, take-append-drop}
 use lib.Seq.{sets, sets-eq, length-sets, slice, length-slice, slice-empty, slice-cons, set-comm, getD-drop, getD-take, drop-drop, drop-set-lt, take-set-le, take-take}
 use Rattle.words.specs.Placed.{Copies}
-use Rattle.words.proofs.PlacedLaws.{Copying, copying-starts, copying-turn, copying-ends}
+use Rattle.words.proofs.PlacedLaws.{Copying, copying-starts, copying-turn}
 
 -- Down: from i on the slice is still as it was.
 pub record Lowering (ws : List ℕ) (from to out : ℕ) (now : List ℕ) (i o : ℕ) : Type 0 where

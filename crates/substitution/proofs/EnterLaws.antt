@@ -1,8 +1,8 @@
 -- The arms of `enter`.
-use Prim.Native.Nat.{ℕ, zero, suc, _+_, _*_, _-_, _/_, _%_, _≤_, _<_}
+use Prim.Native.Nat.{ℕ, suc, _+_, _*_, _-_, _/_, _%_, _≤_, _<_}
 use mathlib.Core.Path.{_≡_, refl, sym, _∙_, ap}
-use mathlib.Core.Bool.{Bool, true, false, cond}
-use mathlib.Core.List.{List, [], _∷_, _++_}
+use mathlib.Core.Bool.{Bool, true, false}
+use mathlib.Core.List.{List, _++_}
 use native.Mathlib.Numerals.{add-one}
 use native.Mathlib.Omega.{arith}
 use borrow.Author.Tests.{eqb-true}
@@ -12,7 +12,7 @@ use lib.Seq.{drop-cons}
 use Rattle.calculus.specs.Words.{abstractionKind, branchKind, kindOf, payloadOf}
 use Rattle.calculus.specs.Skip.{following, arity}
 use Rattle.words.specs.Bound.{binding, bound}
-use Rattle.substitution.specs.Scopes.{scopeBase, toCome, Opened, Stands, Enters, Entered}
+use Rattle.substitution.specs.Scopes.{scopeBase, toCome, Enters, Entered}
 use Rattle.substitution.proofs.ScopeLaws.{come-plain, come-kept, come-last, come-back, room-kept}
 
 -- A binder has one item behind it.

@@ -1,5 +1,5 @@
 -- An item of a workspace as a part of it: the words from a position up to the end that the code finds are those of one term.
-use Prim.Native.Nat.{ℕ, zero, suc, _+_, _-_, _≤_, _<_}
+use Prim.Native.Nat.{ℕ, zero, suc, _+_, _≤_, _<_}
 use mathlib.Core.Path.{_≡_, refl, sym, _∙_, ap}
 use mathlib.Core.List.{List, [], _∷_}
 use native.Mathlib.Nat.{zero-add, suc-add}
@@ -7,7 +7,7 @@ use native.Mathlib.Omega.{arith}
 use lib.ListN.{length, take, drop, length-take, length-drop}
 use lib.Seq.{slice, take-nil}
 use Rattle.calculus.specs.Term.{Term}
-use Rattle.calculus.specs.Words.{workspaceMost, words, size}
+use Rattle.calculus.specs.Words.{words, size}
 use Rattle.calculus.specs.Skip.{span}
 use Rattle.calculus.specs.First.{firstTerm}
 use Rattle.calculus.proofs.WordLaws.{size-positive}

@@ -1,9 +1,9 @@
 -- The binders around the items still to come, in their short form: what a word makes of them.
 use Prim.Native.Nat.{ℕ, zero, suc, _+_, _*_, _-_, _/_, _%_, _≤_, _<_}
-use mathlib.Core.Path.{_≡_, refl, sym, _∙_, ap}
-use mathlib.Core.List.{List, [], _∷_, _++_, append-assoc}
+use mathlib.Core.Path.{_≡_, sym, _∙_, ap}
+use mathlib.Core.List.{List, _∷_, _++_, append-assoc}
 use native.Mathlib.Omega.{arith}
-use lib.ListN.{length, getD, drop, set, replicate, length-set, replicate-append-replicate}
+use lib.ListN.{length, drop, set, replicate, length-set, replicate-append-replicate}
 use lib.Seq.{drop-cons, getD-set-same, drop-set-lt}
 use Rattle.substitution.specs.Scopes.{scopeBase, expanded, toCome}
 

@@ -1,12 +1,12 @@
 -- A walk that keeps its scopes in a room: the binders around the items still to come are those of the pending items and of the scopes at the end
 -- of the room.
 use Prim.Native.Nat.{ℕ, zero, suc, _+_, _*_, _-_, _≤_, _<_}
-use mathlib.Core.Path.{_≡_, refl, sym, _∙_, ap}
+use mathlib.Core.Path.{_≡_, refl, sym, _∙_}
 use mathlib.Core.List.{List, [], _∷_}
 use native.Mathlib.Omega.{arith}
 use lib.ListN.{length, getD, drop, replicate, length-append, length-replicate, drop-of-length-le}
 use Rattle.calculus.specs.Words.{workspaceMost}
-use Rattle.calculus.specs.Skip.{arity, span}
+use Rattle.calculus.specs.Skip.{span}
 use Rattle.calculus.specs.First.{firstTerm}
 use Rattle.substitution.specs.Depths.{depths}
 use Rattle.substitution.specs.Results.{Starts}

@@ -1,12 +1,10 @@
 -- What becomes of a single word where terms are put for variables, and what a function that writes words leaves behind.
 use Prim.Native.Nat.{ℕ, zero, suc, _+_, _-_}
-use mathlib.Core.Path.{_≡_}
 use mathlib.Core.Bool.{cond}
 use mathlib.Core.List.{List, [], _∷_, _++_}
 use lib.Dec.{ltb, eqb}
 use lib.IntN.{ℤ}
-use lib.ListN.{length, replicate}
-use lib.Seq.{sets}
+use lib.ListN.{replicate}
 use Rattle.calculus.specs.Term.{Term, Terms, var}
 use Rattle.calculus.specs.Words.{variableKind, kindOf, payloadOf, words}
 use Rattle.calculus.specs.Shift.{shift}

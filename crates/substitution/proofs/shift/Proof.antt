@@ -1,5 +1,5 @@
 -- `shift` meets its contract. The invariant: the words still to be moved lead to the whole copy.
-use Prim.Native.Nat.{ℕ, _+_, _-_, _<_, _≤_}
+use Prim.Native.Nat.{ℕ, _-_, _<_, _≤_}
 use mathlib.Core.Path.{_≡_, refl, sym, _∙_, ap}
 use mathlib.Core.List.{List, [], _∷_}
 use native.Mathlib.Omega.{arith}
@@ -9,7 +9,7 @@ use mir.Syntax.{w32}
 use mir.Val.{toZ, ofZ}
 use mir.ValLaws.{toZ-ofZ}
 use Rattle.calculus.specs.Words.{words}
-use Rattle.substitution.specs.Rewritten.{shifting, rewritten, standing}
+use Rattle.substitution.specs.Rewritten.{shifting, standing}
 use Rattle.substitution.specs.Results.{shifted}
 use Rattle.substitution.proofs.RewrittenLaws.{shifting-length}
 use Rattle.substitution.proofs.Walking.{walking-enters}

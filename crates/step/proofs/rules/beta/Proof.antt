@@ -9,11 +9,10 @@ use Rattle.calculus.specs.Words.{size, workspaceMost}
 use Rattle.calculus.specs.Skip.{span}
 use Rattle.substitution.specs.Depths.{depths}
 use Rattle.substitution.specs.Measure.{occurrences, Measures}
-use Rattle.substitution.specs.Results.{Substitutable, substituted}
+use Rattle.substitution.specs.Results.{substituted}
 use Rattle.substitution.proofs.WalkLaws.{starts-some}
 use Rattle.substitution.proofs.CountLaws.{times-few, substituted-one, product-few}
 use Rattle.step.specs.Parts.{parted, parts}
-use Rattle.step.specs.Plan.{Applied}
 use Rattle.step.proofs.NextLaws.{endAt, start, length-short, Contraction}
 use Rattle.step.proofs.PlanLaws.{redex-found, contracts, measurable, plans, plans-left, applied-parts, applied-end}
 use Rattle.step.proofs.rules.beta.Statement.{statement}

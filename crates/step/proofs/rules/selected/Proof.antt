@@ -1,9 +1,8 @@
 -- `selected` meets its contract: the counts give the length, and the branches end where the redex does.
-use Prim.Native.Nat.{_+_, _-_, _≤_}
-use mathlib.Core.Path.{_≡_, refl, sym, _∙_, ap}
+use Prim.Native.Nat.{_+_, _≤_}
+use mathlib.Core.Path.{refl, sym, _∙_}
 use native.Mathlib.Omega.{arith}
 use borrow.Author.Needs.{needs}
-use lib.ListN.{drop}
 use Rattle.calculus.specs.Words.{workspaceMost}
 use Rattle.step.proofs.NextLaws.{length-short, Contraction}
 use Rattle.step.proofs.PlanLaws.{redex-found, contracts, measurable, plans}

@@ -1,5 +1,4 @@
 -- `raise` meets its contract. The invariant: the last words stand where they come, and those still to move where they did.
-use Prim.Native.Nat.{_-_}
 use native.Mathlib.Omega.{arith}
 use Rattle.step.proofs.TailLaws.{Raising, raising-start, raising-length, raising-turn, raising-done}
 use Rattle.step.proofs.tail.raise.Statement.{statement}

@@ -1,5 +1,5 @@
 -- `enter` meets its contract, arm by arm.
-use mathlib.Core.Path.{_≡_, sym, _∙_}
+use mathlib.Core.Path.{sym, _∙_}
 use native.Mathlib.Omega.{arith}
 use Rattle.words.proofs.Spans.{arity-bounded}
 use Rattle.substitution.proofs.DepthLaws.{bound-few}
