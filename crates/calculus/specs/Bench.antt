@@ -1,4 +1,4 @@
--- The starred bench pairs ("Bench pairs"), from the document's word lists through `read`; C is 16 and the budget 0 where the row names none.
+-- The starred bench pairs ("Bench pairs"), from the word lists there through `read`; C is 16 and the budget 0 where the row names none.
 use Prim.Native.Nat.{ℕ}
 use mathlib.Core.Path.{_≡_}
 use mathlib.Core.List.{List, [], _∷_, _++_}
@@ -20,7 +20,7 @@ unfoldable pub judged : (left right : List ℕ) (C budget : ℕ) → Option Show
 judged left right C budget =
     bind (read left) (λ t. Option·map (λ u. shows (rounds C budget t u)) (read right))
 
--- The document's Loop, and the variables of free number 0 and 1.
+-- Loop ("Bench pairs"), and the variables of free number 0 and 1.
 abbrev pub loop : List ℕ
 loop = 2 ∷ 1 ∷ 2 ∷ 0 ∷ 0 ∷ 1 ∷ 2 ∷ 0 ∷ 0 ∷ []
 

@@ -8,7 +8,7 @@ use Rattle.calculus.specs.Read.{read}
 use Rattle.calculus.specs.Rounds.{Different, Budget, Full}
 use Rattle.calculus.specs.Bench.{contracted, judged, shown}
 
--- The document's W W: 13 words, whose contractum has 20.
+-- W W ("Bench pairs"): 13 words, whose contractum has 20.
 abbrev pub ww : List ℕ
 ww = 2 ∷ 1 ∷ 2 ∷ 2 ∷ 0 ∷ 0 ∷ 0 ∷ 1 ∷ 2 ∷ 2 ∷ 0 ∷ 0 ∷ 0 ∷ []
 

@@ -1,4 +1,4 @@
--- The calculus of document 01, one file a concept. `Decide` and `Equality` are decided by their types alone and need not be read.
+-- The calculus, one file a concept. `Decide` and `Equality` are decided by their types alone and need not be read.
 pub mod Term
 pub mod Words
 pub mod Everywhere

@@ -1,4 +1,4 @@
--- The two-press rule of document 01: two presses end where one press with the first's spent and the second's budget for a budget ends.
+-- The rule of two presses ("A press"): two presses end where one press with the first's spent and the second's budget for a budget ends.
 use Prim.Native.Nat.{ℕ, _+_, _≤_}
 use mathlib.Core.Path.{_≡_, refl, sym, _∙_, ap, subst}
 use mathlib.Core.Bool.{Bool, true, false, cond, and-eq-true-iff}

@@ -1,4 +1,4 @@
--- Demand 3, the single claim about every list of presses ("Demand 3 is a single claim ..", document 01), over the definition of a press that the
+-- Demand 3, the single claim about every list of presses ("Lists of presses"), over the definition of a press that the
 -- contracts of the presses cite. What a press leaves is stated here field by field and what is refused in the words of the table of refusals,
 -- not through the functions that define a press.
 use Prim.Native.Nat.{ℕ, _+_, _-_, _≤_}

@@ -1,4 +1,4 @@
--- Lists of presses ("Demand 3 is a single claim .."): each press gets the workspaces and the session as the one before left them, and brings a
+-- Presses one after the other ("Lists of presses"): each press gets the workspaces and the session as the one before left them, and brings a
 -- scratch, lengths and a budget of its own.
 use Prim.Native.Nat.{ℕ, _+_}
 use mathlib.Core.List.{List, [], _∷_}

@@ -1,4 +1,4 @@
--- The definitions tried on small tables, by computation. The identity's table is document 01's ("Bench pairs"); the others are made by hand from
+-- The definitions tried on small tables, by computation. The identity's table is that of "Bench pairs"; the others are made by hand from
 -- the rules of the stored table.
 use Prim.Native.Nat.{ℕ}
 use mathlib.Core.Path.{_≡_, refl}

@@ -8,7 +8,7 @@ use Rattle.rounds.specs.Session.{Session}
 use Rattle.rounds.specs.Press as press
 use Rattle.tables.specs.Load as tables
 
--- The verdicts in the order in which document 01 names them, from 0.
+-- The verdicts in the order in which the rules name them, from 0.
 abbrev pub numberOf : Verdict → ℕ
 numberOf Same = 0
 numberOf Different = 1

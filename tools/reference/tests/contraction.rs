@@ -189,7 +189,7 @@ fn a_spent_budget_is_not_different() {
 }
 
 #[test]
-fn example_of_paper_000() {
+fn example_of_gregoire_and_leroy() {
     // Section 2.2: (\x.x)(\y.(\z.z) y (\t.t)) has the normal form
     // \u.u(\w.w). Words: 2, 1,0, 1,2,2,1,0,0,1,0 and 1,2,0,1,0. Contractions:
     // the outer one, then (\z.z) y.

@@ -223,7 +223,7 @@ fn places(random: &mut Random) -> (Term, Term) {
             ),
             abs(con(3, vec![var(0), var(free + 1), var(1), var(1)])),
         ),
-        // The example of section 2.2 of paper 000 and its normal form.
+        // The example of section 2.2 of Gregoire and Leroy and its normal form.
         6 => (
             app(abs(var(0)), abs(apply(abs(var(0)), [var(0), abs(var(0))]))),
             abs(app(var(0), abs(var(0)))),
