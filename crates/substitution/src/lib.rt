@@ -24,7 +24,7 @@ ghost use Rattle.calculus.specs.First.{firstTerms};
 ghost use Rattle.words.specs.Placed.{Placed};
 ghost use Rattle.substitution.specs.Moves.{distanceBound};
 ghost use Rattle.substitution.specs.Rewritten.{substituting, standing};
-ghost use Rattle.substitution.specs.Results.{Shiftable, shifted, Substitutable, Substitutes};
+ghost use Rattle.substitution.specs.Results.{Shiftable, shifted, Substitutes};
 
 // A place for each argument of a redex, and one more.
 const PLACES: usize = Word::ARGUMENTS_MOST as usize + 1;

@@ -90,7 +90,6 @@ placed : (c : tie.Then1 Inv-loop μ-loop)
     → let t = c .before .before .before in Placed (src t) (start t .args .args) (t .before .before .before .starts .result) (start t .args .n)
 placed c =
     let t = c .before .before .before in
-    let n = start t .args .n in
     let v = t .before .loop .inv in
     record {
       placed =

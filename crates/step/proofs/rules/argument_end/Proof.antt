@@ -1,6 +1,5 @@
 -- `argument_end` meets its contract: the tests tell an argument that stays.
 use mathlib.Core.Path.{refl}
-use native.Mathlib.Omega.{arith}
 use borrow.Author.Needs.{needs}
 use Rattle.step.specs.Plan.{walked, stays}
 use Rattle.step.proofs.rules.argument_end.Statement.{statement}
