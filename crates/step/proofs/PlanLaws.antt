@@ -1,5 +1,5 @@
 -- The plan of a contraction, from what was found at the redex: the words that stand for the body, and those behind it.
-use Prim.Native.Nat.{ℕ, suc, _+_, _-_, _≤_}
+use Prim.Native.Nat.{ℕ, suc, _+_, _-_, _≤_, _<_}
 use mathlib.Core.Path.{_≡_, refl, sym, _∙_, ap}
 use mathlib.Core.List.{List, [], _∷_, _++_, append-assoc}
 use mathlib.Core.Option.{some}
@@ -13,13 +13,15 @@ use Rattle.calculus.specs.Skip.{following, span}
 use Rattle.calculus.specs.First.{firstTerms}
 use Rattle.substitution.specs.Depths.{depths}
 use Rattle.substitution.specs.Rewritten.{substituting, rewritten, standing}
-use Rattle.substitution.specs.Results.{substituted}
-use Rattle.substitution.specs.Measure.{Measurable}
+use Rattle.substitution.specs.Results.{substituted, Replaced}
+use Rattle.substitution.specs.Measure.{Measurable, occurrences}
 use Rattle.substitution.proofs.DepthLaws.{span-depths}
 use Rattle.substitution.proofs.ItemLaws.{slice-taken}
 use Rattle.substitution.proofs.ResultLaws.{arguments-size}
 use Rattle.substitution.proofs.RewritingLaws.{standing-more, rewritten-alone, standing-substituted}
 use Rattle.substitution.proofs.StartLaws.{span-add}
+use Rattle.substitution.proofs.RewrittenLaws.{place-argument}
+use Rattle.substitution.proofs.CountLaws.{occurs-twice}
 use Rattle.calculus.specs.Position.{redexAt}
 use Rattle.calculus.proofs.PositionLaws.{redex-first}
 use Rattle.step.specs.declared.Redex.{Redex}
@@ -27,7 +29,7 @@ use Rattle.step.specs.Held.{held}
 use Rattle.step.specs.Search.{Searched}
 use Rattle.step.specs.Parts.{parted, parts}
 use Rattle.step.specs.Next.{next, HoldsRedex}
-use Rattle.step.specs.Plan.{Plans, At, Applied, Inspected}
+use Rattle.step.specs.Plan.{Plans, At, Applied, EndTold, walked, stays, Inspected}
 use Rattle.step.proofs.HeldLaws.{next-term}
 use Rattle.step.proofs.PartsTurns.{first-word, first-two, parts-beta}
 use Rattle.step.proofs.SearchLaws.{redex-here}
@@ -75,7 +77,7 @@ module _ {ws room : List ℕ} {n at b a m : ℕ} (h : At ws n at room) (found : 
           substitutable = contracts .substitutable;
           from = omega arith;
           to = omega arith;
-          after-is = after-is;
+          after-is = λ i l m q. after-is;
           small = omega (arith, contracts .small, length-short here);
           ends = omega (arith, contracts .ends);
           rest = rw (standing-substituted (contracts .substitutable) stop-is, end-is) (contracts .rest);
@@ -84,8 +86,9 @@ module _ {ws room : List ℕ} {n at b a m : ℕ} (h : At ws n at room) (found : 
 
 -- The only argument stays where it is: it stands for the last word of the body, under no binder.
 module _ {ws room : List ℕ} {n at b a : ℕ} (h : At ws n at room) (found : parts at (drop at ws) ≡ parted b a 1)
-    {stop after len : ℕ} (stop-is : stop + 1 ≡ b + span 1 (drop b ws)) (after-is : after ≡ a + span 1 (drop a ws)) (end-is : after ≡ endAt ws at)
-    (length-is : len ≡ at + size (substituted ws b a 1) + (n - after)) (some : b ≤ stop)
+    {stop times last after len : ℕ} (stop-is : stop + 1 ≡ b + span 1 (drop b ws)) (occur : times ≡ occurrences 1 0 (0 ∷ []) (drop b ws))
+    (told : EndTold ws a times last after) (end-is : a + span 1 (drop a ws) ≡ endAt ws at)
+    (length-is : len ≡ at + size (substituted ws b a 1) + (n - (a + span 1 (drop a ws)))) (some : b ≤ stop)
     (bare : getD (depths (0 ∷ []) (drop b ws)) (stop - b) 0 ≡ 0) (index : getD ws stop 0 ≡ 0) where
   abbrev here′ : HoldsRedex ws n at
   here′ = redex-found h found
@@ -101,6 +104,24 @@ module _ {ws room : List ℕ} {n at b a : ℕ} (h : At ws n at room) (found : pa
       let e : b + (stop - b) ≡ stop = omega arith in
       getD-drop b ws (stop - b) 0 ∙ ap (λ k. getD ws k 0) e ∙ index
 
+  -- Where the argument occurs once, it stands for no word before the last.
+  after-is : (i : ℕ) → b ≤ i → i < stop → Replaced ws b 1 i → after ≡ a + span 1 (drop a ws)
+  after-is i l m q = go told
+    where
+      go : EndTold ws a times last after → after ≡ a + span 1 (drop a ws)
+      go (walked e) = e
+      go (stays once _ _ _) =
+          let e : b + (i - b) ≡ i = omega arith in
+          let word : getD (drop b ws) (i - b) 0 ≡ getD ws i 0 = getD-drop b ws (i - b) 0 ∙ ap (λ k. getD ws k 0) e in
+          absurd
+          (omega (
+            arith,
+            occur,
+            occurs-twice 1 0 (drop b ws) (0 ∷ []) (i - b) (stop - b) (omega arith) (omega (arith, span-depths (drop b ws) (0 ∷ [])))
+                (rw word (omega (arith, q)))
+                (rw (bare, last-word) (place-argument 1 0 0 refl (omega arith) (omega arith))),
+          ))
+
   -- What stands for the words before the last.
   abbrev front : List ℕ
   front = standing (substituting xs) (stop - b) (0 ∷ []) (drop b ws)
@@ -113,15 +134,18 @@ module _ {ws room : List ℕ} {n at b a : ℕ} (h : At ws n at room) (found : pa
       ∙ standing-more (substituting xs) (stop - b) (drop b ws) (0 ∷ []) (omega (arith, span-depths (drop b ws) (0 ∷ [])))
       ∙ ap (λ vs. front ++ vs) (rw (bare, last-word) (rewritten-alone xs (c .substitutable .args-count)))
 
-  argument-words : slice a after ws ≡ words xs
+  abbrev behind : ℕ
+  behind = a + span 1 (drop a ws)
+
+  argument-words : slice a behind ws ≡ words xs
   argument-words =
-      let e : after ≡ a + size xs = omega (arith, arguments-size (c .substitutable)) in
+      let e : behind ≡ a + size xs = omega (arith, arguments-size (c .substitutable)) in
       rw e (slice-taken a (size xs) ws ∙ c .substitutable .args-start .first)
 
-  stays : words xs ++ slice (endAt ws at) n ws ≡ slice a n ws
-  stays =
+  argument-stays : words xs ++ slice (endAt ws at) n ws ≡ slice a n ws
+  argument-stays =
       rw (← argument-words, ← end-is)
-      (sym (slice-split ws a after n (omega arith) (omega (arith, c .ends)) (start here′ .within)))
+      (sym (slice-split ws a behind n (omega arith) (omega (arith, c .ends)) (start here′ .within)))
 
   pub plans-left : Plans ws n (record { at = at; body = b; stop = stop; args = a; after = after; count = 1; end = a; length = len })
   plans-left =
@@ -137,7 +161,7 @@ module _ {ws room : List ℕ} {n at b a : ℕ} (h : At ws n at room) (found : pa
             c .rest
             ∙ ap (λ vs. vs ++ slice (endAt ws at) n ws) body-words
             ∙ append-assoc front (words xs) (slice (endAt ws at) n ws)
-            ∙ ap (λ vs. front ++ vs) stays;
+            ∙ ap (λ vs. front ++ vs) argument-stays;
         length-is = omega (arith, next-size here′, rest-length here′ found, end-is);
       }
 

@@ -14,7 +14,7 @@ use Rattle.calculus.specs.First.{firstTerms}
 use Rattle.calculus.specs.Position.{redexAt}
 use Rattle.words.specs.Limits.{payloadBound}
 use Rattle.substitution.specs.Rewritten.{substituting, standing}
-use Rattle.substitution.specs.Results.{Substitutable}
+use Rattle.substitution.specs.Results.{Substitutable, Replaced}
 use Rattle.step.specs.declared.Redex.{Redex}
 use Rattle.step.specs.declared.Plan.{Plan}
 use Rattle.step.specs.declared.Plan.the-variants.{Normal, Contract}
@@ -31,7 +31,7 @@ pub record Plans (ws : List ℕ) (n : ℕ) (r : Redex) : Type 0 where
   pub substitutable : Substitutable ws (r .body) (r .args) (r .count)
   pub from : r .body ≤ r .stop
   pub to : r .stop ≤ r .body + span 1 (drop (r .body) ws)
-  pub after-is : r .after ≡ r .args + span (r .count) (drop (r .args) ws)
+  pub after-is : (i : ℕ) → r .body ≤ i → i < r .stop → Replaced ws (r .body) (r .count) i → r .after ≡ r .args + span (r .count) (drop (r .args) ws)
   pub small : span 1 (drop (r .body) ws) + span (r .count) (drop (r .args) ws) ≤ workspaceMost
   pub ends : r .end ≤ n
   pub rest : nextFrom ws n (r .at) ≡ contractum ws r ++ slice (r .end) n ws
@@ -64,6 +64,11 @@ pub record Applied (ws : List ℕ) (n at : ℕ) (room : List ℕ) : Type 0 where
   pub further : at + 1 < length ws
   pub application : kindOf (getD ws at 0) ≡ applicationKind
   pub abstraction : kindOf (getD ws (at + 1) 0) ≡ abstractionKind
+
+-- The end of an argument, which is not told where it occurs once and that is the word before it, under no binder.
+pub data EndTold (ws : List ℕ) (args times last after : ℕ) : Type 0 where
+  walked : after ≡ args + span 1 (drop args ws) → EndTold ws args times last after
+  stays : times ≡ 1 → last ≡ 0 → getD ws (args - 1) 0 ≡ 0 → after ≡ args → EndTold ws args times last after
 
 -- A case of a constructor stands there, w and v are their words.
 pub record Inspected (ws : List ℕ) (n at w v : ℕ) (room : List ℕ) : Type 0 where

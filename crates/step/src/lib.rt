@@ -11,8 +11,8 @@ ghost use lib.ListN.{length};
 ghost use Rattle.step.specs.Search.{Searched};
 ghost use Rattle.step.specs.Plan.{Planned, HasRoom, Contracted};
 
-// A redex found once: where it starts, the rule's body and the word that its rewriting stops at, the arguments up to `after` and their number,
-// where the words start that stay behind the contractum, and the length of the next term.
+// A redex found once: where it starts, the rule's body and the word that its rewriting stops at, the arguments up to `after` (which means nothing
+// where none is put for a word before that) and their number, where the words start that stay behind the contractum, and the length of the next term.
 pub struct Redex {
     pub at: usize,
     pub body: usize,

@@ -7,11 +7,11 @@ use words::Word;
 use words::extent;
 use words::skip;
 ghost use mathlib.Core.Path.{_≡_};
-ghost use Prim.Native.Nat.{_≤_};
+ghost use Prim.Native.Nat.{_≤_, _<_};
 ghost use lib.ListN.{length, drop};
 ghost use Rattle.calculus.specs.Words.{workspaceMost};
 ghost use Rattle.step.specs.Parts.{branchBody};
-ghost use Rattle.step.specs.Plan.{At, PlannedAt, Plans, Applied, Inspected, Selected};
+ghost use Rattle.step.specs.Plan.{At, PlannedAt, Plans, EndTold, Applied, Inspected, Selected};
 
 // A position, or that there is none.
 pub enum Found {
@@ -43,6 +43,22 @@ fn branch_body(ws: &[u32], branches: u32, tag: u32, count: u32, at: usize) -> Fo
     Found::Nothing
 }
 
+// Where an argument ends, which occurs so often in the body before it, whose last word is under `last` binders. One that occurs once, as that word,
+// stays where it is and nothing is put for another word: it is not walked, and its start serves as its end.
+fn argument_end(ws: &[u32], args: usize, times: usize, last: u32) -> usize
+    requires { ⌜ (length (now ws) ≤ workspaceMost) × (0 < args) × (args ≤ length (now ws)) ⌝ }
+    ensures { λ r. ⌜ EndTold (now (ws .entry)) args times last r ⌝ }
+{
+    if times == 1 {
+        if last == 0 {
+            if ws[args - 1] == Word::VARIABLE {
+                return args;
+            }
+        }
+    }
+    extent(ws, args)
+}
+
 // The plan for an application of an abstraction. An argument that stands for the last word of the body, under no binder, stays where it is: the
 // contractum ends with it.
 fn beta(ws: &[u32], n: usize, at: usize, room: &mut [u32]) -> Redex
@@ -54,7 +70,7 @@ fn beta(ws: &[u32], n: usize, at: usize, room: &mut [u32]) -> Redex
     let occurs = found.occurs;
     let times = occurs[0];
     let args = found.end;
-    let after = extent(ws, args);
+    let after = argument_end(ws, args, times, found.last);
     let length = at + (args - body - times + times * (after - args)) + (n - after);
     if found.last == 0 {
         let stop = args - 1;

@@ -149,6 +149,26 @@ module _ {src : List ℕ} {body args n : ℕ} (h : Substitutable src body args n
       ≡ span 1 (drop body src) + sumTo n (λ j. occurrences n j (0 ∷ []) (drop body src) * lengthOf j)
   substituted-counts = ap (λ m. m + sumTo n (λ j. occurrences n j (0 ∷ []) (drop body src))) substituted-weighs ∙ weigh-counts n lengthOf (drop body src) (0 ∷ [])
 
+-- An argument that stands for two words occurs twice at least.
+module _ (n : ℕ) where
+  abbrev placeAt : List ℕ → List ℕ → (k : ℕ) → ℕ
+  placeAt ds ws k = place n (getD (depths ds ws) k 0) (getD ws k 0)
+
+  occurs-once : (j : ℕ) (ws ds : List ℕ) (k : ℕ) → k < length (depths ds ws) → placeAt ds ws k ≡ j → 1 ≤ occurrences n j ds ws
+  occurs-once j [] ds k l e = absurd (omega arith)
+  occurs-once j (w ∷ ws) [] k l e = absurd (omega arith)
+  occurs-once j (w ∷ ws) (d ∷ ds) zero l e = rw (eq-eqb (place n d w) j e) (omega arith)
+  occurs-once j (w ∷ ws) (d ∷ ds) (suc k) l e = omega (arith, occurs-once j ws (replicate (arity w) (d + bound w) ++ ds) k (omega arith) e)
+
+  pub occurs-twice : (j : ℕ) (ws ds : List ℕ) (i k : ℕ) → i < k → k < length (depths ds ws) → placeAt ds ws i ≡ j → placeAt ds ws k ≡ j → 2 ≤ occurrences n j ds ws
+  occurs-twice j [] ds i k m l e f = absurd (omega arith)
+  occurs-twice j (w ∷ ws) [] i k m l e f = absurd (omega arith)
+  occurs-twice j (w ∷ ws) (d ∷ ds) i zero m l e f = absurd (omega arith)
+  occurs-twice j (w ∷ ws) (d ∷ ds) zero (suc k) m l e f =
+      rw (eq-eqb (place n d w) j e) (omega (arith, occurs-once j ws (replicate (arity w) (d + bound w) ++ ds) k (omega arith) f))
+  occurs-twice j (w ∷ ws) (d ∷ ds) (suc i) (suc k) m l e f =
+      omega (arith, occurs-twice j ws (replicate (arity w) (d + bound w) ++ ds) i k (omega arith) (omega arith) e f)
+
 -- The loop over the arguments: the words replaced by the first j of them are taken off, and these are put on.
 pub record Adding (src : List ℕ) (body args n : ℕ) (occurs starts : List ℕ) (total j : ℕ) : Type 0 where
   pub needs : Substitutable src body args n

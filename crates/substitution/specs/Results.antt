@@ -1,9 +1,9 @@
 -- What shift and substitution make of terms that stand in a workspace, and what they ask of these terms.
-use Prim.Native.Nat.{ℕ, _+_, _*_, _≤_}
+use Prim.Native.Nat.{ℕ, _+_, _*_, _-_, _≤_, _<_}
 use mathlib.Core.Path.{_≡_}
-use mathlib.Core.List.{List}
+use mathlib.Core.List.{List, [], _∷_}
 use lib.IntN.{ℤ}
-use lib.ListN.{length, take, drop}
+use lib.ListN.{length, getD, take, drop}
 use Rattle.calculus.specs.Term.{Sort, Exp, Term, count}
 use Rattle.calculus.specs.Words.{workspaceMost, words, size}
 use Rattle.calculus.specs.Accepted.{argumentLimit, indexLimit}
@@ -13,6 +13,8 @@ use Rattle.calculus.specs.Shift.{shift}
 use Rattle.calculus.specs.Substitution.{subst}
 use Rattle.calculus.specs.Theorems.{Packable, IndicesWithin}
 use Rattle.substitution.specs.Moves.{Movable}
+use Rattle.substitution.specs.Depths.{depths}
+use Rattle.substitution.specs.Rewritten.{place}
 
 -- The words start with those of e.
 pub record Starts {s : Sort} (ws : List ℕ) (e : Exp s) : Type 0 where
@@ -42,10 +44,15 @@ pub record Substitutable (ws : List ℕ) (body args n : ℕ) : Type 0 where
   pub args-count : count (firstTerms n (drop args ws)) ≡ n
   pub args-indices : IndicesWithin indexLimit (firstTerms n (drop args ws))
 
--- The words before `stop` are words of the body, the arguments end at `after`, and the room has a word for every two words of both.
+-- One of n arguments stands for the word of a body at position i.
+abbrev pub Replaced : List ℕ → (body n i : ℕ) → Type 0
+Replaced ws body n i = place n (getD (depths (0 ∷ []) (drop body ws)) (i - body) 0) (getD ws i 0) < n
+
+-- The words before `stop` are words of the body, the arguments end at `after` if one of them stands for a word there, and the room has a word for
+-- every two words of both.
 pub record Substitutes (ws : List ℕ) (body stop args after n : ℕ) (room : List ℕ) : Type 0 where
   pub substitutable : Substitutable ws body args n
   pub from : body ≤ stop
   pub to : stop ≤ body + span 1 (drop body ws)
-  pub after-is : after ≡ args + span n (drop args ws)
+  pub after-is : (i : ℕ) → body ≤ i → i < stop → Replaced ws body n i → after ≡ args + span n (drop args ws)
   pub enough : span 1 (drop body ws) + span n (drop args ws) ≤ 2 * length room

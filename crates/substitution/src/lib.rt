@@ -24,16 +24,15 @@ ghost use Rattle.calculus.specs.First.{firstTerms};
 ghost use Rattle.words.specs.Placed.{Placed};
 ghost use Rattle.substitution.specs.Moves.{distanceBound};
 ghost use Rattle.substitution.specs.Rewritten.{substituting, standing};
-ghost use Rattle.substitution.specs.Results.{Shiftable, shifted, Substitutable, Substitutes};
+ghost use Rattle.substitution.specs.Results.{Shiftable, shifted, Substitutes};
 
 // A place for each argument of a redex, and one more.
 const PLACES: usize = Word::ARGUMENTS_MOST as usize + 1;
 
-// The positions at which n consecutive items start, and after them the end of the last, which the caller knows.
+// The positions at which n consecutive items start, and after them the end of the last, where the caller knows it.
 fn starts(src: &[u32], args: usize, after: usize, n: usize) -> [usize; PLACES]
     requires { ⌜ (length (now src) ≤ workspaceMost) × (n ≤ argumentLimit) ⌝ }
-    requires { ⌜ after ≡ args + span n (drop args (now src)) ⌝ }
-    ensures { λ r. ⌜ ((j : ℕ) → j ≤ n → getD r j 0 ≡ args + span j (drop args (now (src .entry)))) ⌝ }
+    ensures { λ r. ⌜ (after ≡ args + span n (drop args (now (src .entry))) → (j : ℕ) → j ≤ n → getD r j 0 ≡ args + span j (drop args (now (src .entry)))) ⌝ }
 {
     let mut starts = [0usize; PLACES];
     starts[0] = args;
@@ -100,7 +99,7 @@ fn raise(
 }
 
 // Writes what stands for the words of a body before `stop`, where its n arguments are put for its first n indices, the last argument for index 0,
-// and returns the position after it. The room keeps the scopes of the walk.
+// and returns the position after it. Where the arguments end is asked only if one is put. The room keeps the scopes of the walk.
 pub fn substitute(
     src: &[u32],
     body: usize,

@@ -64,10 +64,10 @@ array-write-starts-3 : tie.Need-array-write-starts-3 Inv-loop μ-loop
 array-write-starts-3 c = omega arith
 
 returns : tie.Need-returns Inv-loop μ-loop
-returns c =
+returns c after-is =
     let l = c .before .loop in
     let s = c .before .before .before in
-    placed-last (s .args .src .now) (s .args .args) (l .starts) (l .j) (s .args .n) (s .args .after) (omega arith) (omega arith) (l .inv .2) (s .pre .1) .placed
+    placed-last (s .args .src .now) (s .args .args) (l .starts) (l .j) (s .args .n) (s .args .after) (omega arith) (omega arith) (l .inv .2) after-is .placed
 
 pub starts-spec : {M : Type 1} → statement M
 starts-spec =

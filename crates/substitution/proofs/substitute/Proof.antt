@@ -15,7 +15,7 @@ use Rattle.calculus.specs.Accepted.{argumentLimit}
 use Rattle.calculus.specs.First.{firstTerms}
 use Rattle.substitution.specs.Rewritten.{shifting, substituting, rewritten, place}
 use Rattle.substitution.specs.Results.{shifted}
-use Rattle.substitution.proofs.Walking.{walking-depth, walking-enters, walking-free}
+use Rattle.substitution.proofs.Walking.{walking-depth, walking-number, walking-enters, walking-free}
 use Rattle.substitution.proofs.RewritingLaws.{placed-as, Rewriting, rewriting-start, rewriting-some, rewriting-within, rewriting-room, rewriting-lent, rewriting-next, rewriting-done}
 use Rattle.substitution.proofs.StartLaws.{Placed}
 use Rattle.substitution.proofs.ArgumentLaws.{rewritten-body, movable-body}
@@ -31,7 +31,7 @@ abbrev μ-loop : tie.MeasureT-loop
 μ-loop src body stop args after n dst₀ out room₀ starts lowered o₀ i₀ at₀ dst room o i at = stop - i
 
 starts-requires : tie.Need-starts-requires Inv-loop μ-loop
-starts-requires c κs = let p = c .before .before .before .pre .0 in ((p .substitutable .short, p .substitutable .few), p .after-is)
+starts-requires c κs = let p = c .before .before .before .pre .0 in (p .substitutable .short, p .substitutable .few)
 
 cast-down : tie.Need-cast-down Inv-loop μ-loop
 cast-down c = omega (arith, c .before .before .before .before .pre .0 .substitutable .few)
@@ -54,9 +54,6 @@ module _ (c : tie.In-loop Inv-loop μ-loop) where
 
   abbrev xs : Terms
   xs = firstTerms (start .args .n) (drop (start .args .args) src)
-
-  placed : Placed src (start .args .args) (c .before .before .before .starts .result) (start .args .n)
-  placed = record { placed = c .before .before .before .starts .ensures }
 
   abbrev depth : ℕ
   depth = c .before .loop .at .depth
@@ -88,12 +85,25 @@ argument-requires c κs = omega (arith, few-binders (c .before))
 few-arguments : (c : tie.Then1 Inv-loop μ-loop) → c .before .argument .result < argumentLimit
 few-arguments c = omega (arith, start (c .before .before .before) .pre .0 .substitutable .few, c .if1 .taken)
 
+-- An argument stands for the word, so where the arguments end was told.
+placed : (c : tie.Then1 Inv-loop μ-loop)
+    → let t = c .before .before .before in Placed (src t) (start t .args .args) (t .before .before .before .starts .result) (start t .args .n)
+placed c =
+    let t = c .before .before .before in
+    let v = t .before .loop .inv in
+    record {
+      placed =
+          t .before .before .before .starts .ensures
+          (start t .pre .0 .after-is (t .before .loop .i) (inside t .2) (t .loop-test .taken)
+          (rw (walking-number (v .walking) (some t), ← c .before .argument .ensures) (c .if1 .taken)));
+    }
+
 argument-words : (c : tie.Then1 Inv-loop μ-loop)
     → words (shifted (src (c .before .before .before)) (getD (c .before .before .before .before .before .before .starts .result) (c .before .argument .result) 0) (pos (depth (c .before .before .before))))
     ≡ rewritten (substituting (xs (c .before .before .before))) (depth (c .before .before .before)) (word (c .before .before .before))
 argument-words c =
     let t = c .before .before .before in
-    sym (chosen-words (start t .pre .0 .substitutable) (placed t) (depth t) (word t) (few-binders t) (c .before .argument .ensures) (c .if1 .taken))
+    sym (chosen-words (start t .pre .0 .substitutable) (placed c) (depth t) (word t) (few-binders t) (c .before .argument .ensures) (c .if1 .taken))
 
 mul-raise : tie.Need-mul-raise Inv-loop μ-loop
 mul-raise c = omega (arith, few-arguments c)
@@ -123,8 +133,8 @@ raise-requires c κs =
     let j = c .before .before .before .argument .ensures in
     let l = c .before .before .if1 .taken in (
       (
-        chosen-shiftable (p .substitutable) (placed t) (depth t) (word t) (few-binders t) j l,
-        chosen-end (p .substitutable) (placed t) (depth t) (word t) (few-binders t) j l,
+        chosen-shiftable (p .substitutable) (placed (c .before .before)) (depth t) (word t) (few-binders t) j l,
+        chosen-end (p .substitutable) (placed (c .before .before)) (depth t) (word t) (few-binders t) j l,
       ),
       (
         omega (arith, ap length (argument-words (c .before .before)), room-left t),
@@ -132,7 +142,7 @@ raise-requires c κs =
           omega (
             arith,
             length-take-le (t .before .loop .at .top) (t .before .loop .room) (t .before .loop .inv .walking .stands .within),
-            chosen-part (p .substitutable) (placed t) (depth t) (word t) (few-binders t) j l,
+            chosen-part (p .substitutable) (placed (c .before .before)) (depth t) (word t) (few-binders t) j l,
             walking-free (c .before .before .before .before .before .before .loop .inv .walking) (some t),
             p .enough,
           ),

@@ -4,15 +4,17 @@ use mathlib.Core.Path.{_≡_, refl, sym, _∙_, ap}
 use mathlib.Core.List.{List, [], _∷_}
 use native.Mathlib.Omega.{arith}
 use borrow.Author.Needs.{needs}
-use lib.ListN.{length, getD, drop}
+use lib.ListN.{length, getD, drop, length-drop}
 use Rattle.calculus.specs.Words.{size, workspaceMost}
 use Rattle.calculus.specs.Skip.{span}
+use Rattle.calculus.proofs.SkipLaws.{span-bounded}
 use Rattle.substitution.specs.Depths.{depths}
 use Rattle.substitution.specs.Measure.{occurrences, Measures}
 use Rattle.substitution.specs.Results.{substituted}
 use Rattle.substitution.proofs.WalkLaws.{starts-some}
 use Rattle.substitution.proofs.CountLaws.{times-few, substituted-one, product-few}
 use Rattle.step.specs.Parts.{parted, parts}
+use Rattle.step.specs.Plan.{Plans, EndTold, walked, stays}
 use Rattle.step.proofs.NextLaws.{endAt, start, length-short, Contraction}
 use Rattle.step.proofs.PlanLaws.{redex-found, contracts, measurable, plans, plans-left, applied-parts, applied-end}
 use Rattle.step.proofs.rules.beta.Statement.{statement}
@@ -27,11 +29,26 @@ measure-requires c κs = measurable (c .before .before .before .pre .place) (app
 array-read-times : tie.Need-array-read-times
 array-read-times c = search needs
 
-extent-requires : tie.Need-extent-requires
-extent-requires c κs = search needs
+-- The body ends in the workspace, behind its start.
+argument-end-requires : tie.Need-argument-end-requires
+argument-end-requires c κs =
+    let s = c .before .before .before .before .before .before .before in
+    let m = c .before .before .before .measure .ensures in
+    let d = drop (s .args .at + 2) (s .args .ws .now) in
+    (s .pre .place .holds .limit, omega (arith, m .ends), omega (arith, m .ends, span-bounded 1 d, length-drop (s .args .at + 2) (s .args .ws .now), s .pre .further))
+
+-- An argument that occurs once adds its length and takes it from what is behind: the sum is the same wherever it ends.
+told-length : {ws : List ℕ} {args times last after : ℕ} → EndTold ws args times last after
+    → let behind = args + span 1 (drop args ws) in (args ≤ after) × (after ≤ behind) × (times * (after - args) + (behind - after) ≡ times * (behind - args))
+told-length (walked e) = (omega arith, omega arith, rw e (omega arith))
+told-length (stays once _ _ e) = (omega arith, omega arith, rw once (omega arith))
+
+told-sum : (at m times p q size n after behind : ℕ) → size + times ≡ m + q → times ≤ m → p + (behind - after) ≡ q → after ≤ behind → behind ≤ n
+    → at + (m - times + p) + (n - after) ≡ at + size + (n - behind)
+told-sum at m times p q size n after behind e f g h k = omega arith
 
 -- What the walk and the argument's end tell.
-module _ (c : tie.After-extent) where
+module _ (c : tie.After-argument-end) where
   abbrev s : tie.Start
   s = c .before .before .before .before .before .before .before .before
 
@@ -45,7 +62,7 @@ module _ (c : tie.After-extent) where
   args = c .before .before .before .before .measure .result .end
 
   abbrev after : ℕ
-  after = c .extent .result
+  after = c .argument-end .result
 
   abbrev times : ℕ
   times = getD (c .before .before .before .before .measure .result .occurs) 0 0
@@ -62,20 +79,44 @@ module _ (c : tie.After-extent) where
   occur : times ≡ occurrences 1 0 (0 ∷ []) (drop body ws)
   occur = measures .occur 0 (omega arith)
 
-  end-is : after ≡ endAt ws (s .args .at)
-  end-is = applied-end (s .pre) (c .extent .ensures ∙ ap (λ a. a + span 1 (drop a ws)) (measures .ends))
+  abbrev behind : ℕ
+  behind = args + span 1 (drop args ws)
+
+  end-is : behind ≡ endAt ws (s .args .at)
+  end-is = applied-end (s .pre) (ap (λ a. a + span 1 (drop a ws)) (measures .ends))
+
+  abbrev last : ℕ
+  last = c .before .before .before .before .measure .result .last
+
+  told : EndTold ws args times last after
+  told = c .argument-end .ensures
 
   few : times ≤ span 1 (drop body ws)
-  few = times-few (contraction .substitutable) (c .extent .ensures) occur
+  few = times-few (contraction .substitutable) refl occur
 
   product : times * (after - args) ≤ workspaceMost * workspaceMost
-  product = product-few (contraction .substitutable) (c .extent .ensures) occur
+  product = omega (arith, told-length told, product-few (contraction .substitutable) refl occur)
 
   within : (after ≤ s .args .n) × (s .args .n ≤ workspaceMost) × (args ≡ body + span 1 (drop body ws)) × (args ≤ after)
-  within = (omega (arith, contraction .ends, end-is), length-short (redex-found (s .pre .place) found), measures .ends, omega (arith, c .extent .ensures))
+  within = (omega (arith, contraction .ends, end-is, told-length told), length-short (redex-found (s .pre .place) found), measures .ends, told-length told .0)
 
-  long : s .args .at + (args - body - times + times * (after - args)) + (s .args .n - after) ≡ s .args .at + size (substituted ws body args 1) + (s .args .n - after)
-  long = omega (arith, substituted-one (contraction .substitutable) (c .extent .ensures) occur, few, measures .ends)
+  long : s .args .at + (args - body - times + times * (after - args)) + (s .args .n - after) ≡ s .args .at + size (substituted ws body args 1) + (s .args .n - behind)
+  long =
+      let m : args - body ≡ span 1 (drop body ws) = omega (arith, measures .ends) in
+      told-sum (s .args .at) (args - body) times (times * (after - args)) (times * (behind - args)) (size (substituted ws body args 1)) (s .args .n) after behind (rw m (substituted-one (contraction .substitutable) refl occur)) (rw m few) (told-length told .2) (told-length told .1)
+      (omega (arith, contraction .ends, end-is))
+
+  -- The argument does not stay.
+  module _ (elsewhere : last ≡ 0 → getD ws (args - 1) 0 ≡ 0 → ⊥) where
+    after-is : after ≡ behind
+    after-is = go told
+      where
+        go : EndTold ws args times last after → after ≡ behind
+        go (walked e) = e
+        go (stays _ f g _) = absurd (elsewhere f g)
+
+    replaced : Plans ws (s .args .n) (record { at = s .args .at; body = body; stop = args; args = args; after = after; count = 1; end = after; length = s .args .at + (args - body - times + times * (after - args)) + (s .args .n - after) })
+    replaced = plans (s .pre .place) found (measures .ends) after-is (after-is ∙ end-is) (omega (arith, long, after-is))
 
 sub-length : tie.Need-sub-length
 sub-length c = omega (arith, within c)
@@ -101,7 +142,7 @@ sub-length-4 c = within c .0
 add-length-3 : tie.Need-add-length-3
 add-length-3 c = omega (arith, product c, within c)
 
-starts : (c : tie.After-extent) → body c < args c
+starts : (c : tie.After-argument-end) → body c < args c
 starts c = omega (arith, starts-some (contraction c .substitutable .body-starts), measures c .ends)
 
 sub-stop : tie.Need-sub-stop
@@ -122,9 +163,9 @@ returns : tie.Need-returns
 returns c =
     let e = c .before .before .before .before in
     let back : args e - 1 + 1 ≡ args e = omega (arith, starts e) in
-    let last : args e - 1 - body e ≡ args e - body e - 1 = omega arith in (
-      plans-left (s e .pre .place) (found e) (back ∙ measures e .ends) (e .extent .ensures) (end-is e) (long e) (omega (arith, starts e))
-          (ap (λ k. getD (depths (0 ∷ []) (drop (body e) (ws e))) k 0) last ∙ sym (measures e .last-is) ∙ c .before .before .if1 .taken)
+    let shift : args e - 1 - body e ≡ args e - body e - 1 = omega arith in (
+      plans-left (s e .pre .place) (found e) (back ∙ measures e .ends) (occur e) (told e) (end-is e) (long e) (omega (arith, starts e))
+          (ap (λ k. getD (depths (0 ∷ []) (drop (body e) (ws e))) k 0) shift ∙ sym (measures e .last-is) ∙ c .before .before .if1 .taken)
           (c .if2 .taken),
       refl,
     )
@@ -133,13 +174,13 @@ same-length-2 : tie.Need-same-length-2
 same-length-2 c = search needs
 
 returns-2 : tie.Need-returns-2
-returns-2 c = let e = c .before .before .before .before in (plans (s e .pre .place) (found e) (measures e .ends) (e .extent .ensures) (end-is e) (long e), refl)
+returns-2 c = (replaced (c .before .before .before .before) (λ f g. c .if2 .left g), refl)
 
 same-length-3 : tie.Need-same-length-3
 same-length-3 c = search needs
 
 returns-3 : tie.Need-returns-3
-returns-3 c = let e = c .before .before in (plans (s e .pre .place) (found e) (measures e .ends) (e .extent .ensures) (end-is e) (long e), refl)
+returns-3 c = (replaced (c .before .before) (λ f g. c .if1 .left f), refl)
 
 pub beta-spec : {M : Type 1} → statement M
 beta-spec =
@@ -148,7 +189,7 @@ beta-spec =
     add-body
     measure-requires
     array-read-times
-    extent-requires
+    argument-end-requires
     sub-length
     sub-length-2
     sub-length-3

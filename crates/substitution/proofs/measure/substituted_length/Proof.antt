@@ -12,13 +12,13 @@ abbrev μ-loop : tie.MeasureT-loop
 μ-loop src body args after n occurs starts total₀ j₀ total j = n - j
 
 starts-requires : tie.Need-starts-requires Inv-loop μ-loop
-starts-requires c κs = let p = c .before .before .pre .0 in ((p .0 .short, p .0 .few), p .1)
+starts-requires c κs = let p = c .before .before .pre .0 in (p .0 .short, p .0 .few)
 
 sub-total : tie.Need-sub-total Inv-loop μ-loop
 sub-total c = omega (arith, c .before .before .before .before .pre .1 .ends)
 
 loop-holds : tie.Need-loop-holds Inv-loop μ-loop
-loop-holds c = adding-start (c .before .before .before .before .pre .0 .0) (record { placed = c .before .starts .ensures }) (c .before .before .before .before .pre .1)
+loop-holds c = adding-start (c .before .before .before .before .pre .0 .0) (record { placed = c .before .starts .ensures (c .before .before .before .before .pre .0 .1) }) (c .before .before .before .before .pre .1)
 
 mul-o : tie.Need-mul-o Inv-loop μ-loop
 mul-o c = omega (arith, c .before .loop .inv .needs .few)
