@@ -1,4 +1,6 @@
 // What the operations print: a line for each report, four for the state. No contract can say what is written; what is told stands in the report.
+ghost use mathlib.Core.Path.{_≡_};
+ghost use Rattle.replay.specs.Script.{sideNumber};
 use crate::calls::Kept;
 use crate::calls::Report;
 use crate::calls::chosen;
@@ -76,7 +78,9 @@ fn print_answer(answer: Answer) {
     print(b"\n");
 }
 
-fn side_number(side: Side) -> usize {
+fn side_number(side: Side) -> usize
+    ensures { λ r. ⌜ r ≡ sideNumber side ⌝ }
+{
     match side {
         Side::Left => 0,
         Side::Right => 1,
