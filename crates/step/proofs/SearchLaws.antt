@@ -1,6 +1,6 @@
 -- A redex starts at a position of a term exactly where its parts are found in the words there.
 use Prim.Native.Nat.{ℕ, zero, suc, _+_, _-_, _≤_, _<_}
-use mathlib.Core.Path.{_≡_, refl, sym, subst}
+use mathlib.Core.Path.{_≡_, refl, sym, subst, _∙_, ap}
 use mathlib.Core.Bool.{Bool, true, false, cond}
 use mathlib.Core.List.{List, _++_, append-assoc}
 use mathlib.Core.Option.{Option, some, none, Option·map}
@@ -11,20 +11,25 @@ use borrow.Author.Count.{below-more}
 use borrow.Author.Tests.{ltb-true, ltb-false}
 use Rattle.calculus.specs.Term.{Sort, Exp, Term, var, lam, app, con, case, nil, cons, end, branch}
 use Rattle.calculus.specs.Words.{branchKind, pack, words, size}
+use Rattle.calculus.specs.Skip.{span}
 use Rattle.calculus.specs.Position.{through, stepAt, contractAt, redexAt}
 use Rattle.calculus.specs.Theorems.{Packable}
 use Rattle.step.specs.Held.{held, Holds}
+use Rattle.step.specs.Ends.{Ends, Filled}
 use Rattle.step.specs.Search.{Searched}
 use Rattle.step.specs.Parts.{Parts, nothing, parted, parts}
 use Rattle.calculus.proofs.PositionLaws.{redex-absent}
 use Rattle.calculus.proofs.WordLaws.{accepted-packable}
+use Rattle.calculus.proofs.SkipLaws.{span-inside}
+use Rattle.calculus.proofs.FirstLaws.{span-items}
+use Rattle.step.proofs.EndsLaws.{ends-none, ends-later}
 use Rattle.step.proofs.HeldLaws.{termAt-start}
 use Rattle.step.proofs.RedexLaws.{From, behind-word, behind, Root, stuck, contracts, root, stands, other-first}
 
 -- A contraction and its parts are both there, or neither is.
 pub data Agrees {A : Type 0} : Option A → Parts → Type 0 where
   neither : Agrees none nothing
-  both : {a : A} {b x n : ℕ} → Agrees (some a) (parted b x n)
+  both : {a : A} {b x n l : ℕ} → Agrees (some a) (parted b x n l)
 
 agrees-map : {A B : Type 0} (f : A → B) {o : Option A} {r : Parts} → Agrees o r → Agrees (Option·map f o) r
 agrees-map f neither = neither
@@ -41,11 +46,11 @@ agrees-ltb m n {x} {y} {r} f g = go (ltb m n) refl
     go true e = f (ltb-true m n e)
     go false e = g (ltb-false m n e)
 
-agrees-root : {W : List ℕ} {t : Term} {o : Option Term} {r : Parts} → Root W t o r → Agrees o r
+agrees-root : {W : List ℕ} {at : ℕ} {t : Term} {o : Option Term} {r : Parts} → Root W at t o r → Agrees o r
 agrees-root stuck = neither
-agrees-root (contracts b a l i m) = both
+agrees-root (contracts b a l i m e) = both
 
-agrees-some : {A : Type 0} {o : Option A} {b x n : ℕ} → Agrees o (parted b x n) → (a : A) × (o ≡ some a)
+agrees-some : {A : Type 0} {o : Option A} {b x n l : ℕ} → Agrees o (parted b x n l) → (a : A) × (o ≡ some a)
 agrees-some (both {a = a}) = (a, refl)
 
 agrees-none : {A : Type 0} {o : Option A} → Agrees o nothing → o ≡ none
@@ -102,7 +107,7 @@ module _ {ws : List ℕ} {n : ℕ} (holds : Holds ws n) {p : ℕ} (within : p < 
       found-at (held ws n) 0 p (drop n ws) (accepted-packable 0 (held ws n) (h .accepted)) (record { from = sym (h .start) })
       (omega arith) (omega arith)
 
-  pub redex-here : {b x m : ℕ} → parts p (drop p ws) ≡ parted b x m → (u : Term) × (contractAt p (held ws n) ≡ some u)
+  pub redex-here : {b x m l : ℕ} → parts p (drop p ws) ≡ parted b x m l → (u : Term) × (contractAt p (held ws n) ≡ some u)
   unfolding contractAt
   redex-here e = agrees-some (agrees-map (λ c. c .1) (rw e at found-here))
 
@@ -110,17 +115,40 @@ module _ {ws : List ℕ} {n : ℕ} (holds : Holds ws n) {p : ℕ} (within : p < 
   unfolding contractAt
   no-redex-here e = agrees-none (agrees-map (λ c. c .1) (rw e at found-here))
 
--- The turns of the search.
-module _ {ws : List ℕ} {n i : ℕ} (searched : Searched ws n i) where
-  pub search-within : n ≤ length ws
-  search-within = termAt-start ws n (held ws n) (searched .holds .term) .within
+  -- The item there ends inside the term.
+  pub ends-inside : p + span 1 (drop p ws) ≤ n
+  ends-inside =
+      let h = termAt-start ws n (held ws n) (holds .term) in
+      let whole : span 1 ws ≡ n = ap (span 1) (sym (h .start)) ∙ span-items (held ws n) (drop n ws) refl (accepted-packable 0 (held ws n) (h .accepted)) ∙ h .long in
+      omega (arith, whole, span-inside 1 p ws (omega arith))
 
-  pub search-goes-on : i < n → parts i (drop i ws) ≡ nothing → Searched ws n (i + 1)
+-- The search: no redex starts before i, and from there on the scratch tells the ends before `known`.
+pub record Searching (ws : List ℕ) (n : ℕ) (scratch₀ scratch : List ℕ) (i known : ℕ) : Type 0 where
+  pub searched : Searched ws n i
+  pub table : Ends ws i known scratch
+  pub kept : length scratch ≡ length scratch₀
+
+pub searching-starts : {ws : List ℕ} {n from : ℕ} (scratch : List ℕ) → Searched ws n from → Searching ws n scratch scratch from 0
+searching-starts scratch s = record { searched = s; table = ends-none _ _ scratch; kept = refl }
+
+module _ {ws : List ℕ} {n : ℕ} {scratch₀ scratch : List ℕ} {i known : ℕ} (v : Searching ws n scratch₀ scratch i known) where
+  pub search-within : n ≤ length ws
+  search-within = termAt-start ws n (held ws n) (v .searched .holds .term) .within
+
+  search-goes-on : i < n → parts i (drop i ws) ≡ nothing → Searched ws n (i + 1)
   search-goes-on l e =
       record {
-        holds = searched .holds;
-        before = below-more _ _ (searched .before) (no-redex-here (searched .holds) l e);
+        holds = v .searched .holds;
+        before = below-more _ _ (v .searched .before) (no-redex-here (v .searched .holds) l e);
       }
 
+  -- A turn that sees nothing, and one that sees a stuck case and fills in the ends inside it.
+  pub searching-on : {scratch′ : List ℕ} → i < n → (parts i (drop i ws) ≡ nothing) × (scratch′ ≡ scratch) → Searching ws n scratch₀ scratch′ (i + 1) known
+  searching-on l h = record { searched = search-goes-on l (h .0); table = rw (h .1) (ends-later (v .table) (omega arith)); kept = ap length (h .1) ∙ v .kept }
+
+  pub searching-stuck : {scratch′ filled : List ℕ} {end : ℕ} → i < n → (parts i (drop i ws) ≡ nothing) × (scratch′ ≡ scratch) × (known ≤ i)
+      → Filled ws i scratch′ end filled → length filled ≡ length scratch′ → Searching ws n scratch₀ filled (i + 1) end
+  searching-stuck l h f k = record { searched = search-goes-on l (h .0); table = ends-later (f .table) (omega arith); kept = k ∙ ap length (h .1) ∙ v .kept }
+
   pub search-ends : n ≤ i → redexAt (held ws n) ≡ none
-  search-ends l = redex-absent (held ws n) (λ p m. searched .before p (omega (arith, termAt-start ws n (held ws n) (searched .holds .term) .long)))
+  search-ends l = redex-absent (held ws n) (λ p m. v .searched .before p (omega (arith, termAt-start ws n (held ws n) (v .searched .holds .term) .long)))

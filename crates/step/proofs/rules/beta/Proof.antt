@@ -16,7 +16,7 @@ use Rattle.substitution.proofs.CountLaws.{times-few, substituted-one, product-f
 use Rattle.step.specs.Parts.{parted, parts}
 use Rattle.step.specs.Plan.{Plans, EndTold, walked, stays}
 use Rattle.step.proofs.NextLaws.{endAt, start, length-short, Contraction}
-use Rattle.step.proofs.PlanLaws.{redex-found, contracts, measurable, plans, plans-left, applied-parts, applied-end}
+use Rattle.step.proofs.PlanLaws.{redex-found, contracts, measurable, left-end, plans, plans-left, applied-parts}
 use Rattle.step.proofs.rules.beta.Statement.{statement}
 use Rattle.step.proofs.rules.beta.Tie as tie
 
@@ -70,10 +70,10 @@ module _ (c : tie.After-argument-end) where
   measures : Measures ws body 1 args (c .before .before .before .before .measure .result .last) (c .before .before .before .before .measure .result .occurs)
   measures = c .before .before .before .before .measure .ensures
 
-  found : parts (s .args .at) (drop (s .args .at) ws) ≡ parted body args 1
-  found = applied-parts (s .pre) ∙ ap (λ a. parted body a 1) (sym (measures .ends))
+  found : parts (s .args .at) (drop (s .args .at) ws) ≡ parted body args 1 1
+  found = applied-parts (s .pre) ∙ ap (λ a. parted body a 1 1) (sym (measures .ends))
 
-  contraction : Contraction ws (s .args .n) (s .args .at) body args 1
+  contraction : Contraction ws (s .args .n) (s .args .at) body args 1 1
   contraction = contracts (s .pre .place) found
 
   occur : times ≡ occurrences 1 0 (0 ∷ []) (drop body ws)
@@ -83,7 +83,7 @@ module _ (c : tie.After-argument-end) where
   behind = args + span 1 (drop args ws)
 
   end-is : behind ≡ endAt ws (s .args .at)
-  end-is = applied-end (s .pre) (ap (λ a. a + span 1 (drop a ws)) (measures .ends))
+  end-is = left-end (s .pre .place) found (measures .ends)
 
   abbrev last : ℕ
   last = c .before .before .before .before .measure .result .last
