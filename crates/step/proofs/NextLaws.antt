@@ -3,7 +3,7 @@
 use Prim.Native.Nat.{ℕ, suc, _+_, _-_, _*_, _≤_, _<_}
 use mathlib.Core.Path.{_≡_, refl, sym, _∙_, ap}
 use mathlib.Core.List.{List, _++_, append-assoc}
-use mathlib.Core.Option.{some, Option·none-ne-some}
+use mathlib.Core.Option.{Option, some, Option·map, Option·none-ne-some, Option·some-injective}
 use native.Mathlib.Nat.{add-zero}
 use native.Mathlib.Omega.{arith}
 use lib.ListN.{length, take, drop, length-append, length-drop}
@@ -12,6 +12,8 @@ use Rattle.calculus.specs.Term.{Sort, Exp, Term, Terms, count}
 use Rattle.calculus.specs.Words.{countBase, workspaceMost, words, size}
 use Rattle.calculus.specs.Skip.{span}
 use Rattle.calculus.specs.Substitution.{subst}
+use Rattle.calculus.specs.Contraction.{Rule}
+use Rattle.calculus.specs.Position.{contractAt}
 use Rattle.calculus.specs.Theorems.{Packable, IndicesWithin}
 use Rattle.calculus.proofs.WordLaws.{accepted-packable}
 use Rattle.calculus.proofs.SizeLaws.{size-subst}
@@ -60,8 +62,9 @@ record Apart (W : List ℕ) (at : ℕ) (t c : Term) (b a m left : ℕ) : Type 0 
   ends-left : b + span (suc left) (drop b W) ≡ at + size t
   contracted : c ≡ subst arguments 0 body
 
-apart : {W : List ℕ} {at : ℕ} {t c : Term} {b a m left : ℕ} → Root W at t (some c) (parted b a m left) → Apart W at t c b a m left
-apart (contracts {e = e} {xs = xs} s s′ l i m q) =
+apart : {W : List ℕ} {at : ℕ} {t c : Term} {o : Option (Rule × Term)} {rule : Rule} {b a m left : ℕ} → Root W at t o (parted rule b a m left)
+    → Option·map (λ s. s .1) o ≡ some c → Apart W at t c b a m left
+apart (contracts {e = e} {xs = xs} s s′ l i m q) p =
     record {
       body = e;
       arguments = xs;
@@ -72,7 +75,7 @@ apart (contracts {e = e} {xs = xs} s s′ l i m q) =
       indices = i;
       smaller = m;
       ends-left = q;
-      contracted = refl;
+      contracted = sym (Option·some-injective _ _ p);
     }
 
 module _ {ws : List ℕ} {n at : ℕ} (here : HoldsRedex ws n at) where
@@ -150,9 +153,10 @@ module _ {ws : List ℕ} {n at : ℕ} (here : HoldsRedex ws n at) where
       let f = focused in
       omega (arith, end-is, start .long, ap length (f .from ∙ sym (append-assoc (f .before) (words (f .redex)) (f .after))), length-append (f .before ++ words (f .redex)) (f .after))
 
-  module _ {b a m left : ℕ} (found : parts at (drop at ws) ≡ parted b a m left) where
+  module _ {rule : Rule} {b a m left : ℕ} (found : parts at (drop at ws) ≡ parted rule b a m left) where
     at-parts : Apart ws at (focused .redex) (focused .contractum) b a m left
-    at-parts = apart (rw (focused .contracts, found) at (root redex-stands))
+    unfolding contractAt
+    at-parts = apart (rw found at (root redex-stands)) (focused .contracts)
 
     substituted-is : substituted ws b a m ≡ focused .contractum
     substituted-is =

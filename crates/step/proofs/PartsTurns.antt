@@ -11,6 +11,7 @@ use lib.ListN.{length, getD, drop, drop-of-length-le}
 use lib.Seq.{drop-cons, drop-drop}
 use Rattle.calculus.specs.Words.{abstractionKind, applicationKind, constructorKind, caseKind, kindOf, payloadOf, tagOf, countOf}
 use Rattle.calculus.specs.Skip.{skip, span}
+use Rattle.calculus.specs.Contraction.{by-beta}
 use Rattle.calculus.proofs.SkipLaws.{skip-drop}
 use Rattle.step.specs.declared.rules.Found.{Found}
 use Rattle.step.specs.declared.rules.Found.the-variants as found
@@ -97,7 +98,7 @@ parts-last i ws h l = rw (drop-cons ws i 0 h, drop-of-length-le ws {i = suc i} (
 -- The two first words are those of an application of an abstraction, of a case of a constructor, or others.
 module _ (i : ℕ) (ws : List ℕ) (within : i + 1 < length ws) where
   pub parts-beta : kindOf (getD ws i 0) ≡ applicationKind → kindOf (getD ws (i + 1) 0) ≡ abstractionKind
-      → parts i (drop i ws) ≡ parted (i + 2) (i + 2 + span 1 (drop (i + 2) ws)) 1 1
+      → parts i (drop i ws) ≡ parted by-beta (i + 2) (i + 2 + span 1 (drop (i + 2) ws)) 1 1
   unfolding parts
   parts-beta p q = rw (first-two i ws within, p, q)
 

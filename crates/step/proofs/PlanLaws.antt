@@ -2,12 +2,12 @@
 use Prim.Native.Nat.{ℕ, suc, _+_, _-_, _≤_, _<_}
 use mathlib.Core.Path.{_≡_, refl, sym, _∙_, ap}
 use mathlib.Core.List.{List, [], _∷_, _++_, append-assoc}
-use mathlib.Core.Option.{some}
+use mathlib.Core.Option.{some, Option·map}
 use native.Mathlib.Nat.{add-zero}
 use native.Mathlib.Omega.{arith}
 use lib.ListN.{length, getD, take, drop, take-append-drop}
 use lib.Seq.{slice, length-take-le, take-take, drop-append-le, getD-drop}
-use Rattle.calculus.specs.Term.{Terms, count}
+use Rattle.calculus.specs.Term.{Term, Terms, count}
 use Rattle.calculus.specs.Words.{payloadOf, countOf, words, size}
 use Rattle.calculus.specs.Skip.{following, span}
 use Rattle.calculus.specs.First.{firstTerms}
@@ -21,14 +21,17 @@ use Rattle.substitution.proofs.ResultLaws.{arguments-size}
 use Rattle.substitution.proofs.RewritingLaws.{standing-more, rewritten-alone, standing-substituted}
 use Rattle.substitution.proofs.RewrittenLaws.{place-argument}
 use Rattle.substitution.proofs.CountLaws.{occurs-twice}
-use Rattle.calculus.specs.Position.{redexAt}
+use Rattle.calculus.specs.Contraction.{Rule as Calculus, by-beta}
+use Rattle.calculus.specs.Position.{stepAt, contractAt, redexAt}
 use Rattle.calculus.proofs.PositionLaws.{redex-first}
+use Rattle.step.specs.declared.Rule.{Rule}
+use Rattle.step.specs.declared.Rule.the-variants as rule
 use Rattle.step.specs.declared.Redex.{Redex}
 use Rattle.step.specs.Held.{held}
 use Rattle.step.specs.Search.{Searched}
 use Rattle.step.specs.Parts.{parted, parts}
 use Rattle.step.specs.Next.{next, HoldsRedex}
-use Rattle.step.specs.Plan.{Plans, At, Applied, EndTold, walked, stays, Inspected}
+use Rattle.step.specs.Plan.{ruleOf, Plans, At, Applied, EndTold, walked, stays, Inspected}
 use Rattle.step.proofs.HeldLaws.{next-term}
 use Rattle.step.proofs.PartsTurns.{first-word, parts-beta}
 use Rattle.step.proofs.SearchLaws.{redex-here}
@@ -45,18 +48,24 @@ slice-split l a e n h k m =
     ∙ drop-append-le a (take e t) (drop e t) (omega arith)
     ∙ ap (λ xs. drop a xs ++ drop e t) (take-take e n l k)
 
--- A redex starts where its parts are found.
-pub redex-found : {ws room : List ℕ} {n at b a m left : ℕ} → At ws n at room → parts at (drop at ws) ≡ parted b a m left → HoldsRedex ws n at
-redex-found {ws} {n = n} {at} h e =
-    let u = redex-here (h .holds) (h .within) e in
-    record { holds = h .holds; redex = u .1 ∙ ap some (sym (next-term ws n at (u .0) (u .1))) }
+-- A redex starts where its parts are found, and contracts by their rule.
+module _ {ws room : List ℕ} {n at : ℕ} {rule : Calculus} {b a m left : ℕ} (h : At ws n at room) (found : parts at (drop at ws) ≡ parted rule b a m left) where
+  stepped : (u : Term) × (stepAt at (held ws n) ≡ some (rule, u)) × (contractAt at (held ws n) ≡ some u)
+  unfolding contractAt
+  stepped = let u = redex-here (h .holds) (h .within) found in (u .0, u .1, ap (Option·map (λ c. c .1)) (u .1))
 
-module _ {ws room : List ℕ} {n at b a m left : ℕ} (h : At ws n at room) (found : parts at (drop at ws) ≡ parted b a m left) where
-  here : HoldsRedex ws n at
-  here = redex-found h found
+  next-is : next ws n at ≡ stepped .0
+  next-is = next-term ws n at (stepped .0) (stepped .2)
+
+  pub redex-found : HoldsRedex ws n at
+  redex-found = record { holds = h .holds; redex = rw next-is (stepped .2) }
+
+  -- The next term is what the rule makes of the held one.
+  pub rule-found : stepAt at (held ws n) ≡ some (rule, next ws n at)
+  rule-found = rw next-is (stepped .1)
 
   pub contracts : Contraction ws n at b a m left
-  contracts = contraction here found
+  contracts = contraction redex-found found
 
   pub measurable : Measurable ws b m room
   measurable =
@@ -72,30 +81,31 @@ module _ {ws room : List ℕ} {n at b a m left : ℕ} (h : At ws n at room) (fou
   left-end e = span-first ws b left e ∙ contracts .ends-left
 
   -- The whole body is rewritten, and what is behind the redex stays.
-  module _ {stop after end len : ℕ} (stop-is : stop ≡ b + span 1 (drop b ws)) (after-is : after ≡ a + span m (drop a ws)) (end-is : end ≡ endAt ws at)
+  module _ {ρ : Rule} {stop after end len : ℕ} (rule-is : ruleOf ρ ≡ rule) (stop-is : stop ≡ b + span 1 (drop b ws)) (after-is : after ≡ a + span m (drop a ws)) (end-is : end ≡ endAt ws at)
       (length-is : len ≡ at + size (substituted ws b a m) + (n - end)) where
-    pub plans : Plans ws n (record { at = at; body = b; stop = stop; args = a; after = after; count = m; end = end; length = len })
+    pub plans : Plans ws n (record { rule = ρ; at = at; body = b; stop = stop; args = a; after = after; count = m; end = end; length = len })
     plans =
         record {
-          redex = here;
+          redex = redex-found;
+          rule-is = rw rule-is rule-found;
           substitutable = contracts .substitutable;
           from = omega arith;
           to = omega arith;
           after-is = λ i l m q. after-is;
-          small = omega (arith, contracts .small, length-short here);
+          small = omega (arith, contracts .small, length-short redex-found);
           ends = omega (arith, contracts .ends);
           rest = rw (standing-substituted (contracts .substitutable) stop-is, end-is) (contracts .rest);
-          length-is = omega (arith, next-size here, rest-length here found);
+          length-is = omega (arith, next-size redex-found, rest-length redex-found found);
         }
 
 -- The only argument stays where it is: it stands for the last word of the body, under no binder.
-module _ {ws room : List ℕ} {n at b a : ℕ} (h : At ws n at room) (found : parts at (drop at ws) ≡ parted b a 1 1)
+module _ {ws room : List ℕ} {n at b a : ℕ} (h : At ws n at room) (found : parts at (drop at ws) ≡ parted by-beta b a 1 1)
     {stop times last after len : ℕ} (stop-is : stop + 1 ≡ b + span 1 (drop b ws)) (occur : times ≡ occurrences 1 0 (0 ∷ []) (drop b ws))
     (told : EndTold ws a times last after) (end-is : a + span 1 (drop a ws) ≡ endAt ws at)
     (length-is : len ≡ at + size (substituted ws b a 1) + (n - (a + span 1 (drop a ws)))) (some : b ≤ stop)
     (bare : getD (depths (0 ∷ []) (drop b ws)) (stop - b) 0 ≡ 0) (index : getD ws stop 0 ≡ 0) where
-  abbrev here′ : HoldsRedex ws n at
-  here′ = redex-found h found
+  abbrev here : HoldsRedex ws n at
+  here = redex-found h found
 
   abbrev c : Contraction ws n at b a 1 1
   c = contracts h found
@@ -149,24 +159,25 @@ module _ {ws room : List ℕ} {n at b a : ℕ} (h : At ws n at room) (found : pa
   argument-stays : words xs ++ slice (endAt ws at) n ws ≡ slice a n ws
   argument-stays =
       rw (← argument-words, ← end-is)
-      (sym (slice-split ws a behind n (omega arith) (omega (arith, c .ends)) (start here′ .within)))
+      (sym (slice-split ws a behind n (omega arith) (omega (arith, c .ends)) (start here .within)))
 
-  pub plans-left : Plans ws n (record { at = at; body = b; stop = stop; args = a; after = after; count = 1; end = a; length = len })
+  pub plans-left : Plans ws n (record { rule = rule.Beta; at = at; body = b; stop = stop; args = a; after = after; count = 1; end = a; length = len })
   plans-left =
       record {
-        redex = here′;
+        redex = here;
+        rule-is = rule-found h found;
         substitutable = c .substitutable;
         from = some;
         to = omega arith;
         after-is = after-is;
-        small = omega (arith, c .small, length-short here′);
+        small = omega (arith, c .small, length-short here);
         ends = omega (arith, c .ends, end-is);
         rest =
             c .rest
             ∙ ap (λ vs. vs ++ slice (endAt ws at) n ws) body-words
             ∙ append-assoc front (words xs) (slice (endAt ws at) n ws)
             ∙ ap (λ vs. front ++ vs) argument-stays;
-        length-is = omega (arith, next-size here′, rest-length here′ found, end-is);
+        length-is = omega (arith, next-size here, rest-length here found, end-is);
       }
 
 -- The search stops at the first redex that it finds.
@@ -180,7 +191,7 @@ module _ {ws room : List ℕ} {n at : ℕ} (h : Applied ws n at room) where
   abbrev pub argumentAt : ℕ
   argumentAt = at + 2 + span 1 (drop (at + 2) ws)
 
-  pub applied-parts : parts at (drop at ws) ≡ parted (at + 2) argumentAt 1 1
+  pub applied-parts : parts at (drop at ws) ≡ parted by-beta (at + 2) argumentAt 1 1
   applied-parts = parts-beta at ws (h .further) (h .application) (h .abstraction)
 
 -- Where the arguments of a case's constructor end: where the constructor does.

@@ -16,7 +16,7 @@ use Rattle.calculus.specs.Words.{variableKind, abstractionKind, applicationKind
 use Rattle.calculus.specs.Skip.{skip, span}
 use Rattle.calculus.specs.Substitution.{subst as substitution}
 use Rattle.calculus.specs.Contraction.{Rule, by-case, select}
-use Rattle.calculus.specs.Position.{stepAt, contractAt}
+use Rattle.calculus.specs.Position.{stepAt}
 use Rattle.calculus.specs.Theorems.{Packable, IndicesWithin}
 use Rattle.calculus.proofs.WordLaws.{kindOf-word, payloadOf-word, tagOf-pack, countOf-pack}
 use Rattle.calculus.proofs.SkipLaws.{itemsAnd, skip-words, skip-zero, span-words}
@@ -86,11 +86,11 @@ selected t xs (branch u n b bs) vs most last m l h s =
     (selected-eqb _ _ _ _ t u (selected-eqb _ _ _ _ (count xs) n (body (stands b (words bs ++ vs) s′ (h .1)) (omega arith) (ending b bs vs (add-zero (count bs)) (h .1) (h .2) s′ (omega (arith, length-append (words b) (words bs))))) nowhere) (selected t xs bs vs most last (omega arith) (omega (arith, length-append (words b) (words bs))) (h .2) (behind (words b) s′)))
 
 -- What contracting a term at its first word, which stands at a position, gives, beside the parts that were found there.
-pub data Root (W : List ℕ) (at : ℕ) (t : Term) : Option Term → Parts → Type 0 where
+pub data Root (W : List ℕ) (at : ℕ) (t : Term) : Option (Rule × Term) → Parts → Type 0 where
   stuck : Root W at t none nothing
-  contracts : {b a left : ℕ} {e : Term} {xs : Terms} → Stands W b e → Stands W a xs → count xs < countBase
+  contracts : {rule : Rule} {b a left : ℕ} {e : Term} {xs : Terms} → Stands W b e → Stands W a xs → count xs < countBase
       → ((limit : ℕ) → IndicesWithin limit t → IndicesWithin limit xs) → size e + size xs ≤ size t → Ending W b left (at + size t)
-      → Root W at t (some (substitution xs 0 e)) (parted b a (count xs) left)
+      → Root W at t (some (rule, substitution xs 0 e)) (parted rule b a (count xs) left)
 
 -- The words of other kinds start no redex.
 pub other-first : (k p at : ℕ) (ws : List ℕ) → k < kindBase → (k ≡ applicationKind → ⊥) → (k ≡ caseKind → ⊥) → parts at (word k p ∷ ws) ≡ nothing
@@ -107,8 +107,8 @@ other-subject : (n k p at : ℕ) (ws : List ℕ) → k < kindBase → (k ≡ con
 unfolding parts
 other-subject n k p at ws l a = rw (kindOf-word caseKind n (omega arith), kindOf-word k p l, ne-eqb _ _ a)
 
-at-function : {W : List ℕ} (f a : Term) {at : ℕ} (vs : List ℕ) → Packable (app f a) → From W at (words (app f a) ++ vs) → Root W at (app f a) (contractAt 0 (app f a)) (parts at (words (app f a) ++ vs))
-unfolding parts contractAt stepAt
+at-function : {W : List ℕ} (f a : Term) {at : ℕ} (vs : List ℕ) → Packable (app f a) → From W at (words (app f a) ++ vs) → Root W at (app f a) (stepAt 0 (app f a)) (parts at (words (app f a) ++ vs))
+unfolding parts stepAt
 at-function (var i) a vs h s = rw (other-function variableKind i _ _ (omega arith) (λ e. omega arith)) stuck
 at-function (lam b) a {at} vs h s =
     let two : at + 1 + 1 ≡ at + 2 = omega arith in
@@ -120,13 +120,9 @@ at-function (app f g) a vs h s = stuck
 at-function (con t xs) a vs h s = rw (other-function constructorKind (pack t (count xs)) _ _ (omega arith) (λ e. omega arith)) stuck
 at-function (case e bs) a vs h s = rw (other-function caseKind (count bs) _ _ (omega arith) (λ e. omega arith)) stuck
 
--- The results of a rule, without its name.
-abbrev results : Option (Rule × Term) → Option Term
-results o = Option·map (λ c. c .1) o
-
 root-selected : {W : List ℕ} {at : ℕ} {t : Term} {xs : Terms} {a most : ℕ} {o : Option Term} {r : Found} → Selected W xs most (at + size t) o r → Stands W a xs → count xs < countBase
     → ((limit : ℕ) → IndicesWithin limit t → IndicesWithin limit xs) → most + size xs ≤ size t
-    → Root W at t (results (Option·map (λ u. (by-case, u)) o)) (withBody a (count xs) r)
+    → Root W at t (Option·map (λ u. (by-case, u)) o) (withBody a (count xs) r)
 root-selected nowhere s l i m = stuck
 root-selected (body b k e) s l i m = contracts b s l i (omega arith) e
 
@@ -149,8 +145,8 @@ caseParts-words n t xs at vs h =
       countOf-pack t (count xs) (h .0),
     )
 
-at-subject : {W : List ℕ} (e : Term) (bs : Branches) {at : ℕ} (vs : List ℕ) → Packable (case e bs) → From W at (words (case e bs) ++ vs) → Root W at (case e bs) (contractAt 0 (case e bs)) (parts at (words (case e bs) ++ vs))
-unfolding contractAt stepAt
+at-subject : {W : List ℕ} (e : Term) (bs : Branches) {at : ℕ} (vs : List ℕ) → Packable (case e bs) → From W at (words (case e bs) ++ vs) → Root W at (case e bs) (stepAt 0 (case e bs)) (parts at (words (case e bs) ++ vs))
+unfolding stepAt
 at-subject (var i) bs vs h s = rw (other-subject (count bs) variableKind i _ _ (omega arith) (λ e. omega arith)) stuck
 at-subject (lam b) bs vs h s = rw (other-subject (count bs) abstractionKind 0 _ _ (omega arith) (λ e. omega arith)) stuck
 at-subject (app f g) bs vs h s = rw (other-subject (count bs) applicationKind 0 _ _ (omega arith) (λ e. omega arith)) stuck
@@ -162,13 +158,13 @@ at-subject (con t xs) bs {at} vs h s =
     (omega (arith, length-append (words (con t xs)) (words bs))))
 at-subject (case e cs) bs vs h s = rw (other-subject (count bs) caseKind (count cs) _ _ (omega arith) (λ e. omega arith)) stuck
 
-root-words : {W : List ℕ} (t : Term) {at : ℕ} (vs : List ℕ) → Packable t → From W at (words t ++ vs) → Root W at t (contractAt 0 t) (parts at (words t ++ vs))
-unfolding contractAt stepAt
+root-words : {W : List ℕ} (t : Term) {at : ℕ} (vs : List ℕ) → Packable t → From W at (words t ++ vs) → Root W at t (stepAt 0 t) (parts at (words t ++ vs))
+unfolding stepAt
 root-words (var i) vs h s = rw (other-first variableKind i _ _ (omega arith) (λ e. omega arith) (λ e. omega arith)) stuck
 root-words (lam b) vs h s = rw (other-first abstractionKind 0 _ _ (omega arith) (λ e. omega arith) (λ e. omega arith)) stuck
 root-words (app f a) vs h s = at-function f a vs h s
 root-words (con t xs) vs h s = rw (other-first constructorKind (pack t (count xs)) _ _ (omega arith) (λ e. omega arith) (λ e. omega arith)) stuck
 root-words (case e bs) vs h s = at-subject e bs vs h s
 
-pub root : {W : List ℕ} {t : Term} {p : ℕ} → Stands W p t → Root W p t (contractAt 0 t) (parts p (drop p W))
+pub root : {W : List ℕ} {t : Term} {p : ℕ} → Stands W p t → Root W p t (stepAt 0 t) (parts p (drop p W))
 root {t = t} s = rw (s .words-at .from) (root-words t (s .after) (s .packable) (s .words-at))

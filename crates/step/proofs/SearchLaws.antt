@@ -12,6 +12,7 @@ use borrow.Author.Tests.{ltb-true, ltb-false}
 use Rattle.calculus.specs.Term.{Sort, Exp, Term, var, lam, app, con, case, nil, cons, end, branch}
 use Rattle.calculus.specs.Words.{branchKind, pack, words, size}
 use Rattle.calculus.specs.Skip.{span}
+use Rattle.calculus.specs.Contraction.{Rule}
 use Rattle.calculus.specs.Position.{through, stepAt, contractAt, redexAt}
 use Rattle.calculus.specs.Theorems.{Packable}
 use Rattle.step.specs.Held.{held, Holds}
@@ -26,34 +27,30 @@ use Rattle.step.proofs.EndsLaws.{ends-none, ends-later}
 use Rattle.step.proofs.HeldLaws.{termAt-start}
 use Rattle.step.proofs.RedexLaws.{From, behind-word, behind, Root, stuck, contracts, root, stands, other-first}
 
--- A contraction and its parts are both there, or neither is.
-pub data Agrees {A : Type 0} : Option A → Parts → Type 0 where
+-- A contraction and its parts are both there, by the same rule, or neither is.
+pub data Agrees {A : Type 0} : Option (Rule × A) → Parts → Type 0 where
   neither : Agrees none nothing
-  both : {a : A} {b x n l : ℕ} → Agrees (some a) (parted b x n l)
+  both : {rule : Rule} {a : A} {b x n l : ℕ} → Agrees (some (rule, a)) (parted rule b x n l)
 
-agrees-map : {A B : Type 0} (f : A → B) {o : Option A} {r : Parts} → Agrees o r → Agrees (Option·map f o) r
-agrees-map f neither = neither
-agrees-map f both = both
+agrees-through : {A B : Type 0} (f : A → B) {o : Option (Rule × A)} {r : Parts} → Agrees o r → Agrees (Option·map (through f) o) r
+agrees-through f neither = neither
+agrees-through f both = both
 
-agrees-back : {A B : Type 0} (f : A → B) (o : Option A) {r : Parts} → Agrees (Option·map f o) r → Agrees o r
-agrees-back f none neither = neither
-agrees-back f (some a) both = both
-
-agrees-ltb : {A : Type 0} (m n : ℕ) {x y : Option A} {r : Parts} → (m < n → Agrees x r) → (n ≤ m → Agrees y r) → Agrees (cond (ltb m n) x y) r
+agrees-ltb : {A : Type 0} (m n : ℕ) {x y : Option (Rule × A)} {r : Parts} → (m < n → Agrees x r) → (n ≤ m → Agrees y r) → Agrees (cond (ltb m n) x y) r
 agrees-ltb m n {x} {y} {r} f g = go (ltb m n) refl
   where
     go : (b : Bool) → ltb m n ≡ b → Agrees (cond b x y) r
     go true e = f (ltb-true m n e)
     go false e = g (ltb-false m n e)
 
-agrees-root : {W : List ℕ} {at : ℕ} {t : Term} {o : Option Term} {r : Parts} → Root W at t o r → Agrees o r
+agrees-root : {W : List ℕ} {at : ℕ} {t : Term} {o : Option (Rule × Term)} {r : Parts} → Root W at t o r → Agrees o r
 agrees-root stuck = neither
 agrees-root (contracts b a l i m e) = both
 
-agrees-some : {A : Type 0} {o : Option A} {b x n l : ℕ} → Agrees o (parted b x n l) → (a : A) × (o ≡ some a)
+agrees-some : {A : Type 0} {o : Option (Rule × A)} {rule : Rule} {b x n l : ℕ} → Agrees o (parted rule b x n l) → (a : A) × (o ≡ some (rule, a))
 agrees-some (both {a = a}) = (a, refl)
 
-agrees-none : {A : Type 0} {o : Option A} → Agrees o nothing → o ≡ none
+agrees-none : {A : Type 0} {o : Option (Rule × A)} → Agrees o nothing → o ≡ none
 agrees-none neither = refl
 
 -- The contractions at p of an expression, beside the parts found at the position q of a workspace.
@@ -61,34 +58,33 @@ abbrev FoundAt : {s : Sort} → List ℕ → (q p : ℕ) → Exp s → Type 0
 FoundAt W q p e = Agrees (stepAt p e) (parts q (drop q W))
 
 found-root : (t : Term) {W : List ℕ} (at : ℕ) {q : ℕ} (vs : List ℕ) → Packable t → From W at (words t ++ vs) → at ≡ q → FoundAt W q 0 t
-unfolding contractAt
-found-root t {W} at vs h s e = subst (λ q. FoundAt W q 0 t) e (agrees-back (λ c. c .1) (stepAt 0 t) (agrees-root (root (stands t vs s h))))
+found-root t {W} at vs h s e = subst (λ q. FoundAt W q 0 t) e (agrees-root (root (stands t vs s h)))
 
 found-at : {s : Sort} (e : Exp s) {W : List ℕ} (at p : ℕ) {q : ℕ} (vs : List ℕ) → Packable e → From W at (words e ++ vs) → p < size e → at + p ≡ q → FoundAt W q p e
 unfolding stepAt
 found-at (var i) at p vs h s l e = found-root (var i) at vs h s (omega arith)
 found-at (lam b) at zero vs h s l e = found-root (lam b) at vs h s (omega arith)
-found-at (lam b) at (suc p) vs h s l e = agrees-map (through lam) (found-at b (at + 1) p vs h (behind-word s) (omega arith) (omega arith))
+found-at (lam b) at (suc p) vs h s l e = agrees-through lam (found-at b (at + 1) p vs h (behind-word s) (omega arith) (omega arith))
 found-at (app f a) at zero vs h s l e = found-root (app f a) at vs h s (omega arith)
 found-at (app f a) at (suc p) vs h s l e =
     let s′ = rw (append-assoc (words f) (words a) vs) at (behind-word s) in
     agrees-ltb p (size f)
-    (λ m. agrees-map (through (λ f′. app f′ a)) (found-at f (at + 1) p (words a ++ vs) (h .0) s′ m (omega arith)))
-    (λ m. agrees-map (through (app f)) (found-at a (at + 1 + size f) (p - size f) vs (h .1) (behind (words f) s′) (omega (arith, length-append (words f) (words a))) (omega arith)))
+    (λ m. agrees-through (λ f′. app f′ a) (found-at f (at + 1) p (words a ++ vs) (h .0) s′ m (omega arith)))
+    (λ m. agrees-through (app f) (found-at a (at + 1 + size f) (p - size f) vs (h .1) (behind (words f) s′) (omega (arith, length-append (words f) (words a))) (omega arith)))
 found-at (con t xs) at zero vs h s l e = found-root (con t xs) at vs h s (omega arith)
-found-at (con t xs) at (suc p) vs h s l e = agrees-map (through (con t)) (found-at xs (at + 1) p vs (h .1) (behind-word s) (omega arith) (omega arith))
+found-at (con t xs) at (suc p) vs h s l e = agrees-through (con t) (found-at xs (at + 1) p vs (h .1) (behind-word s) (omega arith) (omega arith))
 found-at (case c bs) at zero vs h s l e = found-root (case c bs) at vs h s (omega arith)
 found-at (case c bs) at (suc p) vs h s l e =
     let s′ = rw (append-assoc (words c) (words bs) vs) at (behind-word s) in
     agrees-ltb p (size c)
-    (λ m. agrees-map (through (λ c′. case c′ bs)) (found-at c (at + 1) p (words bs ++ vs) (h .1) s′ m (omega arith)))
-    (λ m. agrees-map (through (case c)) (found-at bs (at + 1 + size c) (p - size c) vs (h .2) (behind (words c) s′) (omega (arith, length-append (words c) (words bs))) (omega arith)))
+    (λ m. agrees-through (λ c′. case c′ bs) (found-at c (at + 1) p (words bs ++ vs) (h .1) s′ m (omega arith)))
+    (λ m. agrees-through (case c) (found-at bs (at + 1 + size c) (p - size c) vs (h .2) (behind (words c) s′) (omega (arith, length-append (words c) (words bs))) (omega arith)))
 found-at nil at p vs h s l e = absurd (omega arith)
 found-at (cons a xs) at p vs h s l e =
     let s′ = rw (append-assoc (words a) (words xs) vs) at s in
     agrees-ltb p (size a)
-    (λ m. agrees-map (through (λ a′. cons a′ xs)) (found-at a at p (words xs ++ vs) (h .0) s′ m e))
-    (λ m. agrees-map (through (cons a)) (found-at xs (at + size a) (p - size a) vs (h .1) (behind (words a) s′) (omega (arith, length-append (words a) (words xs))) (omega arith)))
+    (λ m. agrees-through (λ a′. cons a′ xs) (found-at a at p (words xs ++ vs) (h .0) s′ m e))
+    (λ m. agrees-through (cons a) (found-at xs (at + size a) (p - size a) vs (h .1) (behind (words a) s′) (omega (arith, length-append (words a) (words xs))) (omega arith)))
 found-at end at p vs h s l e = absurd (omega arith)
 found-at (branch t n b bs) at zero {q} vs h s l e =
     let z : q ≡ at = omega arith in
@@ -96,8 +92,8 @@ found-at (branch t n b bs) at zero {q} vs h s l e =
 found-at (branch t n b bs) at (suc p) vs h s l e =
     let s′ = rw (append-assoc (words b) (words bs) vs) at (behind-word s) in
     agrees-ltb p (size b)
-    (λ m. agrees-map (through (λ b′. branch t n b′ bs)) (found-at b (at + 1) p (words bs ++ vs) (h .1) s′ m (omega arith)))
-    (λ m. agrees-map (through (branch t n b)) (found-at bs (at + 1 + size b) (p - size b) vs (h .2) (behind (words b) s′) (omega (arith, length-append (words b) (words bs))) (omega arith)))
+    (λ m. agrees-through (λ b′. branch t n b′ bs) (found-at b (at + 1) p (words bs ++ vs) (h .1) s′ m (omega arith)))
+    (λ m. agrees-through (branch t n b) (found-at bs (at + 1 + size b) (p - size b) vs (h .2) (behind (words b) s′) (omega (arith, length-append (words b) (words bs))) (omega arith)))
 
 -- At each position of the held term.
 module _ {ws : List ℕ} {n : ℕ} (holds : Holds ws n) {p : ℕ} (within : p < n) where
@@ -107,13 +103,12 @@ module _ {ws : List ℕ} {n : ℕ} (holds : Holds ws n) {p : ℕ} (within : p < 
       found-at (held ws n) 0 p (drop n ws) (accepted-packable 0 (held ws n) (h .accepted)) (record { from = sym (h .start) })
       (omega arith) (omega arith)
 
-  pub redex-here : {b x m l : ℕ} → parts p (drop p ws) ≡ parted b x m l → (u : Term) × (contractAt p (held ws n) ≡ some u)
-  unfolding contractAt
-  redex-here e = agrees-some (agrees-map (λ c. c .1) (rw e at found-here))
+  pub redex-here : {rule : Rule} {b x m l : ℕ} → parts p (drop p ws) ≡ parted rule b x m l → (u : Term) × (stepAt p (held ws n) ≡ some (rule, u))
+  redex-here e = agrees-some (rw e at found-here)
 
   pub no-redex-here : parts p (drop p ws) ≡ nothing → contractAt p (held ws n) ≡ none
   unfolding contractAt
-  no-redex-here e = agrees-none (agrees-map (λ c. c .1) (rw e at found-here))
+  no-redex-here e = ap (Option·map (λ c. c .1)) (agrees-none (rw e at found-here))
 
   -- The item there ends inside the term.
   pub ends-inside : p + span 1 (drop p ws) ≤ n

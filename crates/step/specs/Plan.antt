@@ -1,4 +1,5 @@
--- The plan of a contraction: a record of positions in the workspace, found once by the search and tied to the next term by one law (`rest`).
+-- The plan of a contraction: the rule and a record of positions in the workspace, found once by the search and tied to the next term by one law
+-- (`rest`).
 --
 -- The next term's words are those before the redex, those that stand for the words of the rule's body before `stop`, and the words of the workspace
 -- from `end` on. Where the body ends with its argument's index, under no binder, the argument is among the last and `stop` is before that index.
@@ -11,10 +12,13 @@ use lib.Seq.{sets, slice}
 use Rattle.calculus.specs.Words.{abstractionKind, applicationKind, constructorKind, caseKind, kindOf, workspaceMost, words, size}
 use Rattle.calculus.specs.Skip.{span}
 use Rattle.calculus.specs.First.{firstTerms}
-use Rattle.calculus.specs.Position.{redexAt}
+use Rattle.calculus.specs.Contraction.{Rule as Calculus, by-beta, by-case}
+use Rattle.calculus.specs.Position.{stepAt, redexAt}
 use Rattle.words.specs.Limits.{payloadBound}
 use Rattle.substitution.specs.Rewritten.{substituting, standing}
 use Rattle.substitution.specs.Results.{Substitutable, Replaced}
+use Rattle.step.specs.declared.Rule.{Rule}
+use Rattle.step.specs.declared.Rule.the-variants as rule
 use Rattle.step.specs.declared.Redex.{Redex}
 use Rattle.step.specs.declared.Plan.{Plan}
 use Rattle.step.specs.declared.Plan.the-variants.{Normal, Contract}
@@ -28,8 +32,14 @@ use Rattle.step.specs.Next.{next, nextFrom, HoldsRedex}
 abbrev pub contractum : List ℕ → Redex → List ℕ
 contractum ws r = standing (substituting (firstTerms (r .count) (drop (r .args) ws))) (r .stop - r .body) (0 ∷ []) (drop (r .body) ws)
 
+-- The rule of the calculus that a plan names.
+abbrev pub ruleOf : Rule → Calculus
+ruleOf rule.Beta = by-beta
+ruleOf rule.Case = by-case
+
 pub record Plans (ws : List ℕ) (n : ℕ) (r : Redex) : Type 0 where
   pub redex : HoldsRedex ws n (r .at)
+  pub rule-is : stepAt (r .at) (held ws n) ≡ some (ruleOf (r .rule), next ws n (r .at))
   pub substitutable : Substitutable ws (r .body) (r .args) (r .count)
   pub from : r .body ≤ r .stop
   pub to : r .stop ≤ r .body + span 1 (drop (r .body) ws)
@@ -58,9 +68,9 @@ pub record At (ws : List ℕ) (n at : ℕ) (room : List ℕ) : Type 0 where
   pub room-fits : n ≤ length room
 
 -- The parts of a redex stand there.
-pub record Parted (ws : List ℕ) (n at body args count left : ℕ) (room : List ℕ) : Type 0 where
+pub record Parted (ws : List ℕ) (n at : ℕ) (rule : Calculus) (body args count left : ℕ) (room : List ℕ) : Type 0 where
   pub place : At ws n at room
-  pub parts-are : parts at (drop at ws) ≡ parted body args count left
+  pub parts-are : parts at (drop at ws) ≡ parted rule body args count left
 
 -- An application of an abstraction stands there.
 pub record Applied (ws : List ℕ) (n at : ℕ) (room : List ℕ) : Type 0 where
@@ -85,7 +95,7 @@ pub record Inspected (ws : List ℕ) (n at w v : ℕ) (room : List ℕ) : Type 0
 
 -- One of its branches was selected: its body, the arguments' end, and how many branches are left behind that one.
 pub record Selected (ws : List ℕ) (n at left body after count : ℕ) (room : List ℕ) : Type 0 where
-  pub parted-is : Parted ws n at body (at + 2) count left room
+  pub parted-is : Parted ws n at by-case body (at + 2) count left room
   pub after-is : after ≡ at + 2 + span count (drop (at + 2) ws)
   pub few : left ≤ payloadBound
 

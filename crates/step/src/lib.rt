@@ -14,9 +14,16 @@ ghost use lib.ListN.{length};
 ghost use Rattle.step.specs.Search.{Searched};
 ghost use Rattle.step.specs.Plan.{Planned, HasRoom, Contracted};
 
-// A redex found once: where it starts, the rule's body and the word that its rewriting stops at, the arguments up to `after` (which means nothing
+// The rule by which a redex contracts.
+pub enum Rule {
+    Beta,
+    Case,
+}
+
+// A redex found once: its rule, where it starts, the rule's body and the word that its rewriting stops at, the arguments up to `after` (which means nothing
 // where none is put for a word before that) and their number, where the words start that stay behind the contractum, and the length of the next term.
 pub struct Redex {
+    pub rule: Rule,
     pub at: usize,
     pub body: usize,
     pub stop: usize,

@@ -1,5 +1,6 @@
 // The redex that starts at a position, found from the words alone, and the plan of its contraction.
 use crate::Redex;
+use crate::Rule;
 use crate::ends::end_of;
 use substitution::measure::measure;
 use substitution::measure::substituted_length;
@@ -92,6 +93,7 @@ fn beta(ws: &[u32], n: usize, at: usize, room: &mut [u32]) -> Redex
         let stop = args - 1;
         if ws[stop] == Word::VARIABLE {
             return Redex {
+                rule: Rule::Beta,
                 at,
                 body,
                 stop,
@@ -104,6 +106,7 @@ fn beta(ws: &[u32], n: usize, at: usize, room: &mut [u32]) -> Redex
         }
     }
     Redex {
+        rule: Rule::Beta,
         at,
         body,
         stop: args,
@@ -135,6 +138,7 @@ fn selected(
     let end = skip(ws, stop, left);
     let length = at + substituted_length(ws, body, args, after, count, found) + (n - end);
     Redex {
+        rule: Rule::Case,
         at,
         body,
         stop,

@@ -8,11 +8,13 @@ use lib.ListN.{length, getD, drop, length-drop}
 use Rattle.calculus.specs.Words.{size, workspaceMost}
 use Rattle.calculus.specs.Skip.{span}
 use Rattle.calculus.proofs.SkipLaws.{span-bounded}
+use Rattle.calculus.specs.Contraction.{by-beta}
 use Rattle.substitution.specs.Depths.{depths}
 use Rattle.substitution.specs.Measure.{occurrences, Measures}
 use Rattle.substitution.specs.Results.{substituted}
 use Rattle.substitution.proofs.WalkLaws.{starts-some}
 use Rattle.substitution.proofs.CountLaws.{times-few, substituted-one, product-few}
+use Rattle.step.specs.declared.Rule.the-variants as rule
 use Rattle.step.specs.Parts.{parted, parts}
 use Rattle.step.specs.Plan.{Plans, EndTold, walked, stays}
 use Rattle.step.proofs.NextLaws.{endAt, start, length-short, Contraction}
@@ -70,8 +72,8 @@ module _ (c : tie.After-argument-end) where
   measures : Measures ws body 1 args (c .before .before .before .before .measure .result .last) (c .before .before .before .before .measure .result .occurs)
   measures = c .before .before .before .before .measure .ensures
 
-  found : parts (s .args .at) (drop (s .args .at) ws) ≡ parted body args 1 1
-  found = applied-parts (s .pre) ∙ ap (λ a. parted body a 1 1) (sym (measures .ends))
+  found : parts (s .args .at) (drop (s .args .at) ws) ≡ parted by-beta body args 1 1
+  found = applied-parts (s .pre) ∙ ap (λ a. parted by-beta body a 1 1) (sym (measures .ends))
 
   contraction : Contraction ws (s .args .n) (s .args .at) body args 1 1
   contraction = contracts (s .pre .place) found
@@ -115,8 +117,8 @@ module _ (c : tie.After-argument-end) where
         go (walked e) = e
         go (stays _ f g _) = absurd (elsewhere f g)
 
-    replaced : Plans ws (s .args .n) (record { at = s .args .at; body = body; stop = args; args = args; after = after; count = 1; end = after; length = s .args .at + (args - body - times + times * (after - args)) + (s .args .n - after) })
-    replaced = plans (s .pre .place) found (measures .ends) after-is (after-is ∙ end-is) (omega (arith, long, after-is))
+    replaced : Plans ws (s .args .n) (record { rule = rule.Beta; at = s .args .at; body = body; stop = args; args = args; after = after; count = 1; end = after; length = s .args .at + (args - body - times + times * (after - args)) + (s .args .n - after) })
+    replaced = plans (s .pre .place) found refl (measures .ends) after-is (after-is ∙ end-is) (omega (arith, long, after-is))
 
 sub-length : tie.Need-sub-length
 sub-length c = omega (arith, within c)
