@@ -22,6 +22,7 @@ ghost use Rattle.calculus.specs.Accepted.{argumentLimit};
 ghost use Rattle.calculus.specs.Skip.{span};
 ghost use Rattle.calculus.specs.First.{firstTerms};
 ghost use Rattle.words.specs.Placed.{Placed};
+ghost use Rattle.words.specs.Room.{Room};
 ghost use Rattle.substitution.specs.Moves.{distanceBound};
 ghost use Rattle.substitution.specs.Rewritten.{substituting, standing};
 ghost use Rattle.substitution.specs.Results.{Shiftable, shifted, Substitutes};
@@ -59,6 +60,7 @@ fn shift(
     requires { ⌜ out + size (shifted (now src) at distance) ≤ length (now dst) ⌝ }
     requires { ⌜ span 1 (drop at (now src)) ≤ 2 * length (now room) ⌝ }
     ensures { λ r. ⌜ Placed (now (dst .entry)) out (words (shifted (now (src .entry)) at distance)) (now (dst .exit)) r ⌝ }
+    ensures { λ r. ⌜ Room (now (room .entry)) (now (room .exit)) ⌝ }
 {
     let mut i = at;
     let mut o = out;
@@ -68,11 +70,18 @@ fn shift(
         top: room.len(),
     };
     while i < end {
-        let w = src[i];
-        dst[o] = shift_word(w, scope.depth, distance);
-        scope = enter(w, scope, room);
-        i += 1;
-        o += 1;
+        let word = Word(src[i]);
+        if word.kind() == Word::VARIABLE {
+            dst[o] = shift_word(word, scope.depth, distance).0;
+            scope = enter(word, scope, room);
+            i += 1;
+            o += 1;
+        } else {
+            dst[o] = word.0;
+            scope = enter(word, scope, room);
+            i += 1;
+            o += 1;
+        }
     }
     o
 }
@@ -91,6 +100,7 @@ fn raise(
     requires { ⌜ out + size (shifted (now src) at (pos binders)) ≤ length (now dst) ⌝ }
     requires { ⌜ (span 1 (drop at (now src)) ≤ 2 * length (now room)) × (binders < distanceBound) ⌝ }
     ensures { λ r. ⌜ Placed (now (dst .entry)) out (words (shifted (now (src .entry)) at (pos binders))) (now (dst .exit)) r ⌝ }
+    ensures { λ r. ⌜ Room (now (room .entry)) (now (room .exit)) ⌝ }
 {
     if binders > 0 {
         return shift(src, at, end, up(binders), dst, out, room);
@@ -114,6 +124,7 @@ pub fn substitute(
     requires { ⌜ Substitutes (now src) body stop args after n (now room) ⌝ }
     requires { ⌜ out + length (standing (substituting (firstTerms n (drop args (now src)))) (stop - body) (0 ∷ []) (drop body (now src))) ≤ length (now dst) ⌝ }
     ensures { λ r. ⌜ Placed (now (dst .entry)) out (standing (substituting (firstTerms n (drop args (now (src .entry))))) (stop - body) (0 ∷ []) (drop body (now (src .entry)))) (now (dst .exit)) r ⌝ }
+    ensures { λ r. ⌜ Room (now (room .entry)) (now (room .exit)) ⌝ }
 {
     let starts = starts(src, args, after, n);
     let lowered = down(n as u32);
@@ -125,10 +136,10 @@ pub fn substitute(
         top: room.len(),
     };
     while i < stop {
-        let w = src[i];
+        let word = Word(src[i]);
         let depth = at.depth;
         let top = at.top;
-        let j = argument(w, depth, n);
+        let j = argument(word, depth, n);
         if j < n {
             o = raise(
                 src,
@@ -139,11 +150,11 @@ pub fn substitute(
                 o,
                 &mut room[..top],
             );
-            at = enter(w, at, room);
+            at = enter(word, at, room);
             i += 1;
         } else {
-            dst[o] = shift_word(w, depth, lowered);
-            at = enter(w, at, room);
+            dst[o] = shift_word(word, depth, lowered).0;
+            at = enter(word, at, room);
             i += 1;
             o += 1;
         }

@@ -4,11 +4,13 @@ use crate::index::argument;
 use crate::scope::Scope;
 use crate::scope::enter;
 use crate::starts;
+use words::Word;
 ghost use mathlib.Core.Path.{_≡_};
 ghost use Prim.Native.Nat.{_+_};
 ghost use lib.ListN.{drop};
 ghost use Rattle.calculus.specs.Words.{size};
 ghost use Rattle.calculus.specs.Skip.{span};
+ghost use Rattle.words.specs.Room.{Room};
 ghost use Rattle.substitution.specs.Measure.{Measurable, Measures};
 ghost use Rattle.substitution.specs.Results.{Substitutable, substituted};
 
@@ -23,6 +25,7 @@ pub struct Measured {
 pub fn measure(src: &[u32], body: usize, n: usize, room: &mut [u32]) -> Measured
     requires { ⌜ Measurable (now src) body n (now room) ⌝ }
     ensures { λ r. ⌜ Measures (now (src .entry)) body n (r .end) (r .last) (r .occurs) ⌝ }
+    ensures { λ r. ⌜ Room (now (room .entry)) (now (room .exit)) ⌝ }
 {
     let mut occurs = [0usize; PLACES];
     let mut i = body;
@@ -33,11 +36,11 @@ pub fn measure(src: &[u32], body: usize, n: usize, room: &mut [u32]) -> Measured
         top: room.len(),
     };
     while at.pending > 0 {
-        let w = src[i];
+        let word = Word(src[i]);
         last = at.depth;
-        let j = argument(w, last, n);
+        let j = argument(word, last, n);
         occurs[j] += 1;
-        at = enter(w, at, room);
+        at = enter(word, at, room);
         i += 1;
     }
     Measured {

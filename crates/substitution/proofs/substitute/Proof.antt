@@ -13,6 +13,7 @@ use Rattle.calculus.specs.Term.{Terms}
 use Rattle.calculus.specs.Words.{workspaceMost, countBase, words}
 use Rattle.calculus.specs.Accepted.{argumentLimit}
 use Rattle.calculus.specs.First.{firstTerms}
+use Rattle.words.proofs.RoomLaws.{room-of-length}
 use Rattle.substitution.specs.Rewritten.{shifting, substituting, rewritten, place}
 use Rattle.substitution.specs.Results.{shifted}
 use Rattle.substitution.proofs.Walking.{walking-depth, walking-number, walking-enters, walking-free}
@@ -73,11 +74,11 @@ module _ (c : tie.In-loop Inv-loop μ-loop) where
   room-left : c .before .loop .o + length (rewritten (substituting xs) depth word) ≤ length (c .before .loop .dst)
   room-left = omega (arith, rewriting-room (c .before .loop .inv) (c .loop-test .taken), start .pre .1, c .before .loop .inv .kept)
 
-mul-w : tie.Need-mul-w Inv-loop μ-loop
-mul-w c = omega (arith, inside c)
+mul-t23 : tie.Need-mul-t23 Inv-loop μ-loop
+mul-t23 c = omega (arith, inside c)
 
-shared-slice-read-w : tie.Need-shared-slice-read-w Inv-loop μ-loop
-shared-slice-read-w c = inside (c .before) .0
+shared-slice-read-t25 : tie.Need-shared-slice-read-t25 Inv-loop μ-loop
+shared-slice-read-t25 c = inside (c .before) .0
 
 argument-requires : tie.Need-argument-requires Inv-loop μ-loop
 argument-requires c κs = omega (arith, few-binders (c .before))
@@ -171,7 +172,9 @@ module _ (c : tie.After-raise Inv-loop μ-loop) where
       (drop-at raised (drop top (turn .before .loop .room)) top raised-length)
 
 enter-requires : tie.Need-enter-requires Inv-loop μ-loop
-enter-requires c κs = walking-enters (lent (c .before .before .before .before .before) .walking) (some (c .before .before .before .before .before .before .before .before .before .before .before))
+enter-requires c κs =
+    let t = turn (c .before .before .before .before .before) in
+    walking-enters (lent (c .before .before .before .before .before) .walking) (some t) (c .before .before .before .before .before .before .before .before .before .before .shared-slice-known2 .given (t .before .loop .i) .fits)
 
 add-i : tie.Need-add-i Inv-loop μ-loop
 add-i c = omega arith
@@ -181,7 +184,7 @@ loop-less c = omega arith
 
 loop-again : tie.Need-loop-again Inv-loop μ-loop
 loop-again c =
-    rewriting-next (lent (c .before .before .before .before .before .before .before .before)) (c .before .before .before .before .before .before .before .before .before .before .before .before .before .before .loop-test .taken) (placed-as (argument-words (c .before .before .before .before .before .before .before .before .before .before .before)) (c .before .before .before .before .before .before .before .before .raise .ensures)) (c .before .before .enter .ensures) (c .before .before .enter .kept .1 .1 .0)
+    rewriting-next (lent (c .before .before .before .before .before .before .before .before)) (c .before .before .before .before .before .before .before .before .before .before .before .before .before .before .loop-test .taken) (placed-as (argument-words (c .before .before .before .before .before .before .before .before .before .before .before)) (c .before .before .before .before .before .before .before .before .raise .ensures .0)) (c .before .before .enter .ensures) (c .before .before .enter .kept .1 .1 .0)
 
 -- No argument stands for the word.
 module _ (c : tie.Else1 Inv-loop μ-loop) where
@@ -203,7 +206,7 @@ module _ (c : tie.After-shift-word Inv-loop μ-loop) where
   abbrev u : tie.In-loop Inv-loop μ-loop
   u = t (c .before)
 
-  one-word : rewritten (substituting (xs u)) (depth u) (word u) ≡ c .shift-word .result ∷ []
+  one-word : rewritten (substituting (xs u)) (depth u) (word u) ≡ c .shift-word .result .0 ∷ []
   one-word =
       rewritten-body (start u .args .n) (depth u) (word u) (none-stands (c .before)) (xs u) (start u .pre .0 .substitutable .args-count)
       ∙ ap (λ z. rewritten (shifting z) (depth u) (word u)) (sym (distance (c .before)))
@@ -219,7 +222,9 @@ slice-write-dst : tie.Need-slice-write-dst Inv-loop μ-loop
 slice-write-dst c = room-here c
 
 enter-requires-2 : tie.Need-enter-requires-2 Inv-loop μ-loop
-enter-requires-2 c κs = walking-enters (c .before .before .before .before .before .before .loop .inv .walking) (some (c .before .before .before .before .before))
+enter-requires-2 c κs =
+    let t = c .before .before .before .before .before in
+    walking-enters (t .before .loop .inv .walking) (some t) (c .before .before .before .before .shared-slice-known2 .given (t .before .loop .i) .fits)
 
 add-i-2 : tie.Need-add-i-2 Inv-loop μ-loop
 add-i-2 c = omega arith
@@ -241,7 +246,9 @@ same-length-2 : tie.Need-same-length-2 Inv-loop μ-loop
 same-length-2 c = c .before .loop .inv .walking .same-length
 
 returns : tie.Need-returns Inv-loop μ-loop
-returns c = rewriting-done (c .before .loop .inv) (c .loop-test .left)
+returns c =
+    let v = c .before .loop .inv in
+    (rewriting-done v (c .loop-test .left), room-of-length (v .walking .same-length))
 
 pub substitute-spec : {M : Type 1} → statement M
 substitute-spec =
@@ -253,8 +260,8 @@ substitute-spec =
     cast-down
     down-requires
     loop-holds
-    mul-w
-    shared-slice-read-w
+    mul-t23
+    shared-slice-read-t25
     argument-requires
     mul-raise
     array-read-raise
