@@ -18,7 +18,7 @@ use Rattle.substitution.specs.Rewritten.{shifting, substituting, rewritt
 use Rattle.substitution.specs.Results.{shifted}
 use Rattle.substitution.proofs.Walking.{walking-depth, walking-number, walking-enters, walking-free}
 use Rattle.substitution.proofs.RewritingLaws.{placed-as, Rewriting, rewriting-start, rewriting-some, rewriting-within, rewriting-room, rewriting-lent, rewriting-next, rewriting-done}
-use Rattle.substitution.proofs.StartLaws.{Placed}
+use Rattle.substitution.proofs.StartLaws.{Offsets}
 use Rattle.substitution.proofs.ArgumentLaws.{rewritten-body, movable-body}
 use Rattle.substitution.proofs.Chosen.{chosen-shiftable, chosen-words, chosen-end, chosen-part}
 use Rattle.substitution.proofs.substitute.Statement.{statement}
@@ -88,12 +88,12 @@ few-arguments c = omega (arith, start (c .before .before .before) .pre .0 .subst
 
 -- An argument stands for the word, so where the arguments end was told.
 placed : (c : tie.Then1 Inv-loop μ-loop)
-    → let t = c .before .before .before in Placed (src t) (start t .args .args) (t .before .before .before .starts .result) (start t .args .n)
+    → let t = c .before .before .before in Offsets (src t) (start t .args .args) (t .before .before .before .starts .result) (start t .args .n)
 placed c =
     let t = c .before .before .before in
     let v = t .before .loop .inv in
     record {
-      placed =
+      offsets =
           t .before .before .before .starts .ensures
           (start t .pre .0 .after-is (t .before .loop .i) (inside t .2) (t .loop-test .taken)
           (rw (walking-number (v .walking) (some t), ← c .before .argument .ensures) (c .if1 .taken)));

@@ -18,7 +18,7 @@ sub-total : tie.Need-sub-total Inv-loop μ-loop
 sub-total c = omega (arith, c .before .before .before .before .pre .1 .ends)
 
 loop-holds : tie.Need-loop-holds Inv-loop μ-loop
-loop-holds c = adding-start (c .before .before .before .before .pre .0 .0) (record { placed = c .before .starts .ensures (c .before .before .before .before .pre .0 .1) }) (c .before .before .before .before .pre .1)
+loop-holds c = adding-start (c .before .before .before .before .pre .0 .0) (record { offsets = c .before .starts .ensures (c .before .before .before .before .pre .0 .1) }) (c .before .before .before .before .pre .1)
 
 mul-o : tie.Need-mul-o Inv-loop μ-loop
 mul-o c = omega (arith, c .before .loop .inv .needs .few)
