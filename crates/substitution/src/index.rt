@@ -47,19 +47,19 @@ pub fn shift_word(word: Word, depth: u32, distance: i32) -> Word
     word
 }
 
-// The place, from the first, of the one of n arguments that stands for a word under so many binders, and n where none does.
-pub fn argument(word: Word, depth: u32, n: usize) -> usize
+// The place, from the first, of the one of `count` arguments that stands for a word under so many binders, and `count` where none does.
+pub fn argument(word: Word, depth: u32, count: usize) -> usize
     requires { ⌜ depth < distanceBound ⌝ }
-    ensures { λ r. ⌜ r ≡ place n depth (word .0) ⌝ }
+    ensures { λ r. ⌜ r ≡ place count depth (word .0) ⌝ }
 {
     let index = word.payload();
     if word.kind() == Word::VARIABLE {
         if depth <= index {
             let k = moved(index, down(depth)) as usize;
-            if k < n {
-                return n - 1 - k;
+            if k < count {
+                return count - 1 - k;
             }
         }
     }
-    n
+    count
 }

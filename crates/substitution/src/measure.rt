@@ -21,10 +21,10 @@ pub struct Measured {
     pub last: u32,
 }
 
-// One walk over the body at a position that has n arguments. A word that none stands for counts at the place n.
-pub fn measure(src: &[u32], body: usize, n: usize, room: &mut [u32]) -> Measured
-    requires { ⌜ Measurable (now src) body n (now room) ⌝ }
-    ensures { λ r. ⌜ Measures (now (src .entry)) body n (r .end) (r .last) (r .occurs) ⌝ }
+// One walk over the body at a position that has `count` arguments. A word that none stands for counts at the place behind theirs.
+pub fn measure(src: &[u32], body: usize, count: usize, room: &mut [u32]) -> Measured
+    requires { ⌜ Measurable (now src) body count (now room) ⌝ }
+    ensures { λ r. ⌜ Measures (now (src .entry)) body count (r .end) (r .last) (r .occurs) ⌝ }
     ensures { λ r. ⌜ Room (now (room .entry)) (now (room .exit)) ⌝ }
 {
     let mut occurs = [0usize; PLACES];
@@ -38,7 +38,7 @@ pub fn measure(src: &[u32], body: usize, n: usize, room: &mut [u32]) -> Measured
     while at.pending > 0 {
         let word = Word(src[i]);
         last = at.depth;
-        let j = argument(word, last, n);
+        let j = argument(word, last, count);
         occurs[j] += 1;
         at = enter(word, at, room);
         i += 1;
@@ -50,26 +50,26 @@ pub fn measure(src: &[u32], body: usize, n: usize, room: &mut [u32]) -> Measured
     }
 }
 
-// The length in words of a measured body with its n arguments put in, from how often each occurs: nothing is written to find it.
+// The length in words of a measured body with its arguments put in, from how often each occurs: nothing is written to find it.
 pub fn substituted_length(
     src: &[u32],
     body: usize,
     args: usize,
     after: usize,
-    n: usize,
+    count: usize,
     found: Measured,
 ) -> usize
-    requires { ⌜ Substitutable (now src) body args n × (after ≡ args + span n (drop args (now src))) ⌝ }
-    requires { ⌜ Measures (now src) body n (found .end) (found .last) (found .occurs) ⌝ }
-    ensures { λ r. ⌜ r ≡ size (substituted (now (src .entry)) body args n) ⌝ }
+    requires { ⌜ Substitutable (now src) body args count × (after ≡ args + span count (drop args (now src))) ⌝ }
+    requires { ⌜ Measures (now src) body count (found .end) (found .last) (found .occurs) ⌝ }
+    ensures { λ r. ⌜ r ≡ size (substituted (now (src .entry)) body args count) ⌝ }
 {
     let occurs = found.occurs;
-    let starts = starts(src, args, after, n);
+    let starts = starts(src, args, after, count);
     let mut total = found.end - body;
     let mut j: usize = 0;
-    while j < n {
-        let o = occurs[j];
-        total = total - o + o * (starts[j + 1] - starts[j]);
+    while j < count {
+        let times = occurs[j];
+        total = total - times + times * (starts[j + 1] - starts[j]);
         j += 1;
     }
     total

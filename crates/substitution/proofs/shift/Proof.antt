@@ -20,11 +20,11 @@ use Rattle.substitution.proofs.shift.Statement.{statement}
 use Rattle.substitution.proofs.shift.Tie as tie
 
 abbrev Inv-loop : tie.InvT-loop
-Inv-loop src at end distance dst₀ out room₀ i₀ o₀ scope₀ dst room i o scope =
-    Rewriting (shifting (toZ w32 distance)) src at end dst₀ out room₀ dst room o i (scope .pending) (scope .depth) (scope .top)
+Inv-loop src at end distance dst₀ out room₀ i₀ next₀ scope₀ dst room i next scope =
+    Rewriting (shifting (toZ w32 distance)) src at end dst₀ out room₀ dst room next i (scope .pending) (scope .depth) (scope .top)
 
 abbrev μ-loop : tie.MeasureT-loop
-μ-loop src at end distance dst₀ out room₀ i₀ o₀ scope₀ dst room i o scope = end - i
+μ-loop src at end distance dst₀ out room₀ i₀ next₀ scope₀ dst room i next scope = end - i
 
 loop-holds : tie.Need-loop-holds Inv-loop μ-loop
 loop-holds c =
@@ -56,7 +56,7 @@ module _ (c : tie.In-loop Inv-loop μ-loop) where
       standing-shifted src (start .args .at) (start .args .end) z (start .pre .0 .0 .starts) (start .pre .0 .1)
       ∙ ap (λ d. words (shifted src (start .args .at) d)) distance
 
-  room : c .before .loop .o < length (c .before .loop .dst)
+  room : c .before .loop .next < length (c .before .loop .dst)
   room =
       omega (
         arith,
@@ -96,8 +96,8 @@ enter-requires c κs =
 add-i : tie.Need-add-i Inv-loop μ-loop
 add-i c = omega arith
 
-add-o : tie.Need-add-o Inv-loop μ-loop
-add-o c = omega (arith, room (c .before .before .before .before .before .before .before .before))
+add-next : tie.Need-add-next Inv-loop μ-loop
+add-next c = omega (arith, room (c .before .before .before .before .before .before .before .before))
 
 loop-less : tie.Need-loop-less Inv-loop μ-loop
 loop-less c = omega arith
@@ -122,8 +122,8 @@ enter-requires-2 c κs =
 add-i-2 : tie.Need-add-i-2 Inv-loop μ-loop
 add-i-2 c = omega arith
 
-add-o-2 : tie.Need-add-o-2 Inv-loop μ-loop
-add-o-2 c = omega (arith, room (c .before .before .before .before .before .before .before))
+add-next-2 : tie.Need-add-next-2 Inv-loop μ-loop
+add-next-2 c = omega (arith, room (c .before .before .before .before .before .before .before))
 
 loop-less-2 : tie.Need-loop-less-2 Inv-loop μ-loop
 loop-less-2 c = omega arith
@@ -167,14 +167,14 @@ shift-spec =
     slice-write-dst
     enter-requires
     add-i
-    add-o
+    add-next
     loop-less
     loop-again
     mul-dst-2
     slice-write-dst-2
     enter-requires-2
     add-i-2
-    add-o-2
+    add-next-2
     loop-less-2
     loop-again-2
     same-length

@@ -10,10 +10,10 @@ use Rattle.substitution.proofs.starts.Statement.{statement}
 use Rattle.substitution.proofs.starts.Tie as tie
 
 abbrev Inv-loop : tie.InvT-loop
-Inv-loop src args after n starts₀ j₀ starts j = (length starts ≡ suc argumentLimit) × (j ≤ n) × Offsets src args starts j
+Inv-loop src args after count starts₀ j₀ starts j = (length starts ≡ suc argumentLimit) × (j ≤ count) × Offsets src args starts j
 
 abbrev μ-loop : tie.MeasureT-loop
-μ-loop src args after n starts₀ j₀ starts j = n - j
+μ-loop src args after count starts₀ j₀ starts j = count - j
 
 array-write-starts : tie.Need-array-write-starts Inv-loop μ-loop
 array-write-starts c = omega arith
@@ -67,7 +67,7 @@ returns : tie.Need-returns Inv-loop μ-loop
 returns c after-is =
     let l = c .before .loop in
     let s = c .before .before .before in
-    offsets-last (s .args .src .now) (s .args .args) (l .starts) (l .j) (s .args .n) (s .args .after) (omega arith) (omega arith) (l .inv .2) after-is .offsets
+    offsets-last (s .args .src .now) (s .args .args) (l .starts) (l .j) (s .args .count) (s .args .after) (omega arith) (omega arith) (l .inv .2) after-is .offsets
 
 pub starts-spec : {M : Type 1} → statement M
 starts-spec =

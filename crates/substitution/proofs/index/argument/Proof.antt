@@ -63,25 +63,25 @@ returns : tie.Need-returns
 returns c =
     let d = c .before .before in
     let a = start d .args in
-    ap (λ k. a .n - 1 - k) (counted (c .before)) ∙ sym (place-argument (a .n) (a .depth) (a .word .0) (variable d) (free d) (omega (arith, counted (c .before))))
+    ap (λ k. a .count - 1 - k) (counted (c .before)) ∙ sym (place-argument (a .count) (a .depth) (a .word .0) (variable d) (free d) (omega (arith, counted (c .before))))
 
 returns-2 : tie.Need-returns-2
 returns-2 c =
     let d = c .before .before in
     let a = start d .args in
-    sym (place-past (a .n) (a .depth) (a .word .0) (variable d) (free d) (omega (arith, counted (c .before))))
+    sym (place-past (a .count) (a .depth) (a .word .0) (variable d) (free d) (omega (arith, counted (c .before))))
 
 returns-3 : tie.Need-returns-3
 returns-3 c =
     let a = c .before .before .before .before .args in
-    sym (place-bound (a .n) (a .depth) (a .word .0)
+    sym (place-bound (a .count) (a .depth) (a .word .0)
     (sym (c .before .before .kind .ensures) ∙ c .before .if1 .taken)
     (rw (c .before .before .before .payload .ensures) at (c .if2 .left)))
 
 returns-4 : tie.Need-returns-4
 returns-4 c =
     let a = c .before .before .before .args in
-    sym (place-other (a .n) (a .depth) (a .word .0) (λ q. c .if1 .left (c .before .kind .ensures ∙ q)))
+    sym (place-other (a .count) (a .depth) (a .word .0) (λ q. c .if1 .left (c .before .kind .ensures ∙ q)))
 
 pub argument-spec : {M : Type 1} → statement M
 argument-spec =

@@ -10,11 +10,11 @@ use Rattle.substitution.proofs.measure.measure.Statement.{statement}
 use Rattle.substitution.proofs.measure.measure.Tie as tie
 
 abbrev Inv-loop : tie.InvT-loop
-Inv-loop src body n room₀ occurs₀ i₀ last₀ at₀ room occurs i last at =
-    Counting src body n room₀ room occurs i (at .pending) (at .depth) (at .top) last
+Inv-loop src body count room₀ occurs₀ i₀ last₀ at₀ room occurs i last at =
+    Counting src body count room₀ room occurs i (at .pending) (at .depth) (at .top) last
 
 abbrev μ-loop : tie.MeasureT-loop
-μ-loop src body n room₀ occurs₀ i₀ last₀ at₀ room occurs i last at = length src - i
+μ-loop src body count room₀ occurs₀ i₀ last₀ at₀ room occurs i last at = length src - i
 
 loop-holds : tie.Need-loop-holds Inv-loop μ-loop
 loop-holds c = counting-start (c .before .before .pre) refl
