@@ -5,9 +5,9 @@ use mathlib.Core.List.{List, _++_}
 use native.Mathlib.Omega.{arith}
 use lib.ListN.{length, take, drop, replicate, set, length-append, length-drop, length-replicate}
 use lib.Seq.{sets, take-at, length-take-le}
-use Rattle.rounds.specs.declared.Pressed.{Pressed}
-use Rattle.rounds.specs.Press.{press}
-use Rattle.rounds.specs.Types.{memoryOf, callOf, pressedOf}
+use Rattle.press.specs.declared.answer.Pressed.{Pressed}
+use Rattle.press.specs.Press.{press}
+use Rattle.press.specs.Types.{memoryOf, callOf, pressedOf}
 use Rattle.tables.specs.declared.Answer.{Answer}
 use Rattle.tables.specs.Types.{writtenOf, answerOf as tableAnswerOf}
 use Rattle.tables.specs.Write.{write}

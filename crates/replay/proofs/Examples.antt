@@ -6,7 +6,7 @@ use native.Mathlib.Decide.{decLe, decLt}
 use Rattle.calculus.specs.Decide.{both₃, isTag?, startsAbove?, rising?, everywhere?, tagged?, accepted?}
 use Rattle.calculus.specs.Read.{takeTerm, takeTerms, takeBranches, readLam, readApp, readCon, readCase, readBranch, item, items, oneTerm, read}
 use Rattle.calculus.specs.Workspace.{termAt}
-use Rattle.rounds.specs.Show.{show}
+use Rattle.press.specs.Showing.{show}
 use Rattle.replay.specs.Examples.{Shown-examples}
 
 pub shown-examples : Shown-examples

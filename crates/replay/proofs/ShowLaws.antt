@@ -12,9 +12,9 @@ use borrow.Author.Tests.{leb-true, leb-false, le-leb, lt-ltb, le-ltb, ne-eqb}
 use Rattle.calculus.specs.Term.{Term}
 use Rattle.calculus.specs.Read.{read, items, oneTerm}
 use Rattle.calculus.specs.Workspace.{sized, termAt}
-use Rattle.rounds.specs.Show.{Part, show, showTerms, nothing, partBy}
-use Rattle.rounds.specs.Show as shown
-use Rattle.rounds.proofs.PressCode.{term-within}
+use Rattle.press.specs.Showing.{Part, show, showTerms, nothing, partBy}
+use Rattle.press.specs.Showing as shown
+use Rattle.press.proofs.PressCode.{term-within}
 use Rattle.replay.specs.declared.script.Side.{Side}
 use Rattle.replay.specs.declared.script.Side.the-variants as side
 use Rattle.replay.specs.Replay.{sideShown, sideOf, partOf}

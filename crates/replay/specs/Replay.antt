@@ -5,11 +5,12 @@ use mathlib.Core.Bool.{cond}
 use mathlib.Core.List.{List, [], _∷_}
 use lib.Dec.{eqb, ltb}
 use lib.ListN.{length, take, replicate, set}
-use Rattle.rounds.specs.Press.{Memory, press}
-use Rattle.rounds.specs.Press as press
-use Rattle.rounds.specs.Show.{show}
-use Rattle.rounds.specs.Show as shown
-use Rattle.rounds.specs.Types.{answerOf, sessionOf, memoryOf, callOf}
+use Rattle.press.specs.Answer.{Memory}
+use Rattle.press.specs.Press.{press}
+use Rattle.press.specs.Answer as press
+use Rattle.press.specs.Showing.{show}
+use Rattle.press.specs.Showing as shown
+use Rattle.press.specs.Types.{answerOf, sessionOf, memoryOf, callOf}
 use Rattle.tables.specs.Load.{load}
 use Rattle.tables.specs.Load as tables
 use Rattle.tables.specs.Write.{write}

@@ -2,9 +2,9 @@
 use crate::script::Call;
 use crate::script::Operation;
 use crate::script::Side;
-use rounds::Answer;
-use rounds::Pressed;
-use rounds::Session;
+use press::answer::Answer;
+use press::answer::Pressed;
+use press::session::Session;
 use session::press_owned;
 use text::bytes::words_from;
 use words::slices::fill;
@@ -12,9 +12,9 @@ ghost use mathlib.Core.Path.{_≡_};
 ghost use Prim.Native.Nat.{_≤_, _+_, _*_};
 ghost use lib.ListN.{length, replicate, set};
 ghost use lib.ListN.{length as List·length};
-ghost use Rattle.rounds.specs.Press.{press};
-ghost use Rattle.rounds.specs.Show.{show};
-ghost use Rattle.rounds.specs.Types.{memoryOf, callOf, pressedOf};
+ghost use Rattle.press.specs.Press.{press};
+ghost use Rattle.press.specs.Showing.{show};
+ghost use Rattle.press.specs.Types.{memoryOf, callOf, pressedOf};
 ghost use Rattle.tables.specs.Load.{load};
 ghost use Rattle.tables.specs.Write.{write};
 ghost use Rattle.tables.specs.Types.{writtenOf};
@@ -129,7 +129,7 @@ fn shown_side(part: usize, left_length: usize, right_length: usize) -> Side
 fn show<'a>(left: &'a [u32], right: &'a [u32], left_length: usize, right_length: usize) -> Part
     ensures { λ r. ⌜ partOf r ≡ show (now (left .entry)) (now (right .entry)) «left_length» «right_length» ⌝ }
 {
-    let part = rounds::show(left, right, left_length, right_length);
+    let part = press::show(left, right, left_length, right_length);
     Part {
         side: shown_side(part.len(), left_length, right_length),
         words: part.len(),

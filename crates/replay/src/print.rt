@@ -6,7 +6,7 @@ use crate::calls::Report;
 use crate::calls::chosen;
 use crate::script::Side;
 use libc::STDOUT_FILENO;
-use rounds::Answer;
+use press::answer::Answer;
 use rounds::Verdict;
 use words::refusal::Refusal;
 

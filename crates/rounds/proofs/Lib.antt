@@ -1,15 +1,5 @@
 pub mod CompareLaws
-pub mod Verdicts
-pub mod Workspaces
-pub mod PressLaws
 pub mod TurnLaws
 pub mod AgreeLaws
 pub mod RunCode
 pub mod RunLoop
-pub mod PressCode
-pub mod PressesLaws
-pub mod Settled
-pub mod Claim
-pub mod TwoPresses
-pub mod Instance
-pub mod ShowLaws

@@ -20,6 +20,7 @@ use Rattle.calculus.proofs.WordLaws.{accepted-packable}
 use Rattle.calculus.proofs.PositionLaws.{redex-first}
 use Rattle.calculus.proofs.ResumeLaws.{none-before, none-anywhere}
 use Rattle.calculus.proofs.AcceptedLaws.{leftmost-keeps-accepted}
+use Rattle.calculus.proofs.WorkspaceLaws.{termAt-words}
 use Rattle.step.specs.Held.{held, Holds}
 use Rattle.step.specs.declared.Plan as code
 use Rattle.step.specs.Plan as step
@@ -31,7 +32,6 @@ use Rattle.rounds.specs.Advance.{Advances, Advanced}
 use Rattle.rounds.specs.Run.{Ready, Ran}
 use Rattle.rounds.proofs.CompareLaws.{agrees-none, common-agrees, common-whole, common-equal}
 use Rattle.step.proofs.HeldLaws.{held-term, holds-term, Start, termAt-start}
-use Rattle.rounds.proofs.Workspaces.{termAt-size}
 use Rattle.rounds.proofs.AgreeLaws.{agree-after}
 use Rattle.rounds.proofs.RunCode.{searched}
 use Rattle.calculus.proofs.RoundsLaws.{Goes, goes-on, goes-wider, Moves, here, further, rounds-end, rounds-go, walk-fits, after-zero, after-after}
@@ -71,7 +71,7 @@ module _ {ws ws′ scratch scratch′ : List ℕ} {n r from : ℕ} {todo : code.
   now-held : termAt ws′ r ≡ some (next (held ws n))
   now-held =
       subst⁻¹ (λ k. termAt ws′ k ≡ some (next (held ws n))) (a .returned)
-      (termAt-size (record { accepted = next-accepted (held ws n) (begins h .accepted); others = _; contents = a .workspace; length-is = refl }))
+      (rw (a .workspace) (termAt-words (next (held ws n)) _ (next-accepted (held ws n) (begins h .accepted))))
 
   advanced-holds : Holds ws′ r
   advanced-holds = holds-term ws′ r (next (held ws n)) now-held (rw kept (h .limit))

@@ -1,13 +1,7 @@
--- What a press does, as a function of everything at entry, and the claim about lists of presses.
-pub mod Session
+-- The rounds of a press over workspaces: comparison, one round, and what is taken up again in the next one.
 pub mod Compare
 pub mod Turn
 pub mod Resume
 pub mod Advance
 pub mod Run
-pub mod Press
-pub mod Show
-pub mod Limits
 pub mod Types
-pub mod Presses
-pub mod Claim

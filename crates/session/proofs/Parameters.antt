@@ -36,10 +36,10 @@ use denote.Builtin.{u32, usize}
 use denote.Ref.{RefT}
 use denote.Slice.{sliceTy, sliceVal, MutSlice, Room, finally}
 use denote.Steps.{owned, nothing}
-use Rattle.rounds.specs.declared.Session.{Session}
-use Rattle.rounds.specs.declared.Pressed.{Pressed}
-use Rattle.rounds.specs.Press.{press}
-use Rattle.rounds.specs.Types.{memoryOf, callOf, pressedOf}
+use Rattle.press.specs.declared.session.Session.{Session}
+use Rattle.press.specs.declared.answer.Pressed.{Pressed}
+use Rattle.press.specs.Press.{press}
+use Rattle.press.specs.Types.{memoryOf, callOf, pressedOf}
 
 pub record Before : Type 0 where
   pub left : RefT (List ℕ)

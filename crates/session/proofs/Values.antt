@@ -1,4 +1,4 @@
--- What the walks of this crate use of the types of the crate `rounds`: sessions, answers, and the covered press's results.
+-- What the walks of this crate use of the types of the crate `press`: sessions, answers, and the covered press's results.
 --     session-val, answer-val, pressed-val     a value's machine value
 --     IsSession, IsAnswer, IsPressed           the value is one of its type: each number is within its width
 --     session-tells, answer-tells, pressed-tells       a machine value that its type relates to a value is that value's
@@ -26,15 +26,15 @@ use denote.Memory.{mem, cellAt, partOf}
 use denote.Struct.Steps.{spelt}
 use denote.Struct.Laws as structs
 use denote.Enum.Laws as enums
-use Rattle.rounds.specs.declared.Session.{Session}
-use Rattle.rounds.specs.declared.Answer.{Answer}
-use Rattle.rounds.specs.declared.Pressed.{Pressed}
-use Rattle.rounds.proofs.Session as S
-use Rattle.rounds.proofs.Session.Laws as S′
-use Rattle.rounds.proofs.Answer as A
-use Rattle.rounds.proofs.Answer.Laws as A′
-use Rattle.rounds.proofs.Pressed as P
-use Rattle.rounds.proofs.Pressed.Laws as P′
+use Rattle.press.specs.declared.session.Session.{Session}
+use Rattle.press.specs.declared.answer.Answer.{Answer}
+use Rattle.press.specs.declared.answer.Pressed.{Pressed}
+use Rattle.press.proofs.session.Session as S
+use Rattle.press.proofs.session.Session.Laws as S′
+use Rattle.press.proofs.answer.Answer as A
+use Rattle.press.proofs.answer.Answer.Laws as A′
+use Rattle.press.proofs.answer.Pressed as P
+use Rattle.press.proofs.answer.Pressed.Laws as P′
 
 abbrev pub session-val : Session → Val
 session-val = structs.val S.the-type S′.the-laws

@@ -1,10 +1,10 @@
 // A press on a session that is lent: each press renews the session in place.
 ghost use mathlib.Core.Path.{_≡_};
-ghost use Rattle.rounds.specs.Press.{press};
-ghost use Rattle.rounds.specs.Types.{memoryOf, callOf, pressedOf};
-use rounds::Answer;
-use rounds::Pressed;
-use rounds::Session;
+ghost use Rattle.press.specs.Press.{press};
+ghost use Rattle.press.specs.Types.{memoryOf, callOf, pressedOf};
+use press::answer::Answer;
+use press::answer::Pressed;
+use press::session::Session;
 
 // The covered press, with the session lent: total, lengths and verdict are stored in it, and the answer is handed back. A refusal leaves it as it
 // was.
@@ -20,7 +20,7 @@ pub fn press(
     ensures { λ a. ⌜ pressedOf (record { answer = a; session = now (session .exit) }) (now (left .exit)) (now (right .exit)) (now (scratch .exit))
         ≡ press (memoryOf (now (left .entry)) (now (right .entry)) (now (session .entry))) (callOf (now (scratch .entry)) «left_length» «right_length» budget) ⌝ }
 {
-    let p = rounds::press(
+    let p = press::press(
         left,
         right,
         scratch,

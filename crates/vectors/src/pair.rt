@@ -19,15 +19,16 @@ use crate::text::compare;
 use crate::text::read_list;
 use crate::text::read_number;
 use crate::text::read_setting;
-use rounds::Answer;
-use rounds::Pressed;
-use rounds::Session;
+use press::answer::Answer;
+use press::answer::Pressed;
+use press::session::Session;
+use press::show;
 use rounds::Verdict;
-use rounds::show;
 use session::press_owned;
 use words::Word;
 ghost use mathlib.Core.Path.{_≡_};
-ghost use Rattle.rounds.specs.Types.{verdictOf, sessionOf, answerOf};
+ghost use Rattle.rounds.specs.Types.{verdictOf};
+ghost use Rattle.press.specs.Types.{sessionOf, answerOf};
 ghost use Rattle.vectors.specs.Answers.{numberOf, sameVerdict, isSession, isShown, isRefused};
 
 // One word more than a workspace may have.

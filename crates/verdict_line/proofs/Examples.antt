@@ -10,7 +10,7 @@ use Rattle.calculus.specs.Leftmost.{leftmost}
 use Rattle.calculus.specs.Equality.{tree, from-trees, equal?}
 use Rattle.calculus.specs.Workspace.{termAt}
 use Rattle.calculus.specs.Rounds.{same, roundsIn, roundsBy}
-use Rattle.rounds.specs.Press.{press}
+use Rattle.press.specs.Press.{press}
 use Rattle.tables.specs.Header.{wrongLength, wrongHeader}
 use Rattle.tables.specs.Values.{valueFits, wrongValue}
 use Rattle.tables.specs.Links.{namings, wrongLink}

@@ -6,11 +6,11 @@ use mathlib.Core.Option.{some}
 use native.Mathlib.Omega.{arith}
 use lib.ListN.{length, take, drop, replicate, length-append, length-replicate}
 use lib.Seq.{length-take-le, take-at}
-use Rattle.rounds.specs.declared.Pressed.{Pressed}
-use Rattle.rounds.specs.declared.Session.{Session}
-use Rattle.rounds.specs.Session.{fresh}
-use Rattle.rounds.specs.Press.{press}
-use Rattle.rounds.specs.Types.{answerOf, sessionOf, memoryOf, callOf, pressedOf}
+use Rattle.press.specs.declared.answer.Pressed.{Pressed}
+use Rattle.press.specs.declared.session.Session.{Session}
+use Rattle.press.specs.Session.{fresh}
+use Rattle.press.specs.Press.{press}
+use Rattle.press.specs.Types.{answerOf, sessionOf, memoryOf, callOf, pressedOf}
 use Rattle.calculus.specs.Refusal.{number}
 use Rattle.words.specs.declared.refusal.Refusal.{Refusal}
 use Rattle.words.specs.Types.{refusalOf}

@@ -6,9 +6,9 @@ use mathlib.Core.Option.{Option, some, none}
 use lib.ListN.{length, replicate}
 use Rattle.calculus.specs.Refusal.{number}
 use Rattle.calculus.specs.Rounds.{Verdict, Same, Different, Budget, Full}
-use Rattle.rounds.specs.Session.{fresh}
-use Rattle.rounds.specs.Press.{press}
-use Rattle.rounds.specs.Press as press
+use Rattle.press.specs.Session.{fresh}
+use Rattle.press.specs.Press.{press}
+use Rattle.press.specs.Answer as press
 use Rattle.tables.specs.Load.{Answer, refused, returned, load}
 use Rattle.verdict_line.specs.Request.{Request, request}
 use Rattle.text.specs.Decimal.{digitsMost, field, newline}

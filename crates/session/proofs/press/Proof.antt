@@ -42,16 +42,16 @@ use denote.Triple.Walked.{says, Stays, stay-ref, stay-none, gave-slice, walkOf, 
 use denote.Triple.Walked.{AllGo, goes-ref, goes-none, goes-gave-slice}
 use denote.Exit.{yes}
 use denote.Signature.{plain}
-use Rattle.rounds.specs.declared.Session.{Session}
-use Rattle.rounds.specs.declared.Pressed.{Pressed}
-use Rattle.rounds.proofs.Session as S
-use Rattle.rounds.proofs.Answer as A
-use Rattle.rounds.proofs.Pressed as P
-use Rattle.rounds.proofs.Pressed.Laws as P′
-use Rattle.rounds.proofs.press as covered
-use Rattle.rounds.proofs.press.Symbol as covered-def
-use Rattle.rounds.proofs.press.Symbol.{name as #rounds·press}
-use Rattle.rounds.proofs.press.Met as covered-thm
+use Rattle.press.specs.declared.session.Session.{Session}
+use Rattle.press.specs.declared.answer.Pressed.{Pressed}
+use Rattle.press.proofs.session.Session as S
+use Rattle.press.proofs.answer.Answer as A
+use Rattle.press.proofs.answer.Pressed as P
+use Rattle.press.proofs.answer.Pressed.Laws as P′
+use Rattle.press.proofs.press as covered
+use Rattle.press.proofs.press.Symbol as covered-def
+use Rattle.press.proofs.press.Symbol.{name as #press·press}
+use Rattle.press.proofs.press.Met as covered-thm
 use Rattle.session.proofs.Parameters.{Before, Fits, args, before, Vals, vals, passed, slice-typed, AtExit, Equation, Leaves, Slice, finals}
 use Rattle.session.proofs.Parameters.{all-in, all-out, lasts-out, copies, starts, counts, frees}
 use Rattle.session.proofs.Values.{session-val, answer-val, IsAnswer, session-tells, pressed-tells, answer-of, session-of}
@@ -152,7 +152,7 @@ module _ {M : Type 1} (𝓤 : URA M) (H : Heap 𝓤) (𝓐 : Atoms 𝓤) (W : Gi
       owned ! A.the-row (Is A.the-row) (answer-makes 𝓤 H 𝓐) (x .pressed .answer) _ is $ move ! (1 ∷ 0 ∷ []) $ done !
 
   -- ---- the walk
-  module _ (C : Calls 𝓤 H) (Λ : Loops 𝓤 H) (fm : FmC 𝓤 H (W .laws) C) (known : Triple 𝓤 (C #rounds·press) (Covered 𝓤 H 𝓐 at-mem run)) where
+  module _ (C : Calls 𝓤 H) (Λ : Loops 𝓤 H) (fm : FmC 𝓤 H (W .laws) C) (known : Triple 𝓤 (C #press·press) (Covered 𝓤 H 𝓐 at-mem run)) where
     walk : ent 𝓤 (onEntry 𝓤 H 𝓐 press.signature (bound .0 .0) (bound .0 .1) (bound .0 .3) at) (WpFn 𝓤 H C Λ code.function (passed a (vptr b o)) Post)
     walk =
         qed W ((‵ (flft κ₀ q₀) ⊛ ‵ (flft κ₁ q₁) ⊛ ‵ (flft κ₂ q₂) ⊛ ‵ (flft κ q) ⊛ ‵ ftrue)
@@ -211,7 +211,7 @@ module _ {M : Type 1} (𝓤 : URA M) (H : Heap 𝓤) (𝓐 : Atoms 𝓤) (W : Gi
         keep ! (4 ∷ 2 ∷ 5 ∷ 0 ∷ 1 ∷ []) $ by ! (exits x e (answer-of (x .pressed) _ is))))))))))))))))))))))))
 
 module _ {M : Type 1} (𝓤 : URA M) (H : Heap 𝓤) (𝓐 : Atoms 𝓤) (W : Given 𝓤 H 𝓐) (at-mem : Memory → SProp 𝓤) (run : Routine → Fun 𝓤) where
-  press-walks : (C : Calls 𝓤 H) (Λ : Loops 𝓤 H) → FmC 𝓤 H (W .laws) C → Triple 𝓤 (C #rounds·press) (Covered 𝓤 H 𝓐 at-mem run)
+  press-walks : (C : Calls 𝓤 H) (Λ : Loops 𝓤 H) → FmC 𝓤 H (W .laws) C → Triple 𝓤 (C #press·press) (Covered 𝓤 H 𝓐 at-mem run)
       → Walks 𝓤 H 𝓐 press.ended stayed (WpFn 𝓤 H C Λ code.function) (press.clauses 𝓤 H 𝓐 at-mem run)
   press-walks C Λ fm known = walked 𝓤 H 𝓐 press.ended stayed (press.clauses 𝓤 H 𝓐 at-mem run) (WpFn 𝓤 H C Λ code.function)
       (λ κs. (slice-vals, (slice-vals, (slice-vals, (uint-vals w64, (uint-vals w64, (uint-vals w32, (ptr-vals, tt))))))))
@@ -256,7 +256,7 @@ module _ {M : Type 1} (𝓤 : URA M) (H : Heap 𝓤) (𝓐 : Atoms 𝓤) (W : Gi
   )
 
 press-meets : {M : Type 1} (𝓤 : URA M) (H : Heap 𝓤) (𝓐 : Atoms 𝓤) → Given 𝓤 H 𝓐 → (at-mem : Memory → SProp 𝓤) (run : Routine → Fun 𝓤)
-    (𝓣 : Tables 𝓤 H) → Triple 𝓤 (𝓣 .C #rounds·press) (Covered 𝓤 H 𝓐 at-mem run)
+    (𝓣 : Tables 𝓤 H) → Triple 𝓤 (𝓣 .C #press·press) (Covered 𝓤 H 𝓐 at-mem run)
     → Meets 𝓤 H 𝓐 press.signature (WpFn 𝓤 H (𝓣 .C) (𝓣 .Λ) code.function) (press.spec 𝓤 H 𝓐 at-mem run)
 press-meets 𝓤 H 𝓐 W at-mem run 𝓣 known =
     walk-meets 𝓤 H 𝓐 press.ended stayed W (goes-all 𝓤 H 𝓐 W at-mem run) (press.clauses 𝓤 H 𝓐 at-mem run)
@@ -269,5 +269,5 @@ press-spec 𝓤 H 𝓜 𝓖 𝓡 =
     entered 𝓤 H (tripleOf 𝓤 H (𝓖 .A) press.signature (press.spec 𝓤 H (𝓖 .A) (𝓜 .mem) (𝓡 .run)))
     (tables 𝓤 H 𝓜 𝓡 code.env .C) (tables 𝓤 H 𝓜 𝓡 code.env .Λ) #session·press code.function (code.unfolded 𝓤 H 𝓜 𝓡)
     (press-meets 𝓤 H (𝓖 .A) (givenOf 𝓤 H 𝓜 𝓖) (𝓜 .mem) (𝓡 .run) (tablesOf 𝓤 H 𝓜 (tables 𝓤 H 𝓜 𝓡 code.env))
-    (cited 𝓤 H (Covered 𝓤 H (𝓖 .A) (𝓜 .mem) (𝓡 .run)) 𝓜 𝓡 code.env #rounds·press covered-def.routine code.calls-rounds·press
+    (cited 𝓤 H (Covered 𝓤 H (𝓖 .A) (𝓜 .mem) (𝓡 .run)) 𝓜 𝓡 code.env #press·press covered-def.routine code.calls-press·press
     (covered-thm.met 𝓤 H 𝓜 𝓖 𝓡)))

@@ -42,13 +42,13 @@ use denote.Triple.Table.{entered, cited}
 use denote.Triple.Walked.{says, Stays, stay-none, gave-slice, walkOf, AllGo, goes-none, goes-gave-slice, Walks, ends-at, walked, walk-meets}
 use denote.Exit.{yes}
 use denote.Signature.{plain}
-use Rattle.rounds.specs.declared.Session.{Session}
-use Rattle.rounds.specs.declared.Answer.{Answer}
-use Rattle.rounds.proofs.Session as S
-use Rattle.rounds.proofs.Session.Laws as S′
-use Rattle.rounds.proofs.Answer as A
-use Rattle.rounds.proofs.Answer.Laws as A′
-use Rattle.rounds.proofs.Pressed as P
+use Rattle.press.specs.declared.session.Session.{Session}
+use Rattle.press.specs.declared.answer.Answer.{Answer}
+use Rattle.press.proofs.session.Session as S
+use Rattle.press.proofs.session.Session.Laws as S′
+use Rattle.press.proofs.answer.Answer as A
+use Rattle.press.proofs.answer.Answer.Laws as A′
+use Rattle.press.proofs.answer.Pressed as P
 use Rattle.session.proofs.Parameters.{Before, Fits, args, before, Vals, vals, passed, slice-typed, AtExit, Equation, Leaves, Slice, finals}
 use Rattle.session.proofs.Parameters.{all-in, all-out, lasts-out, copies, starts, counts, frees}
 use Rattle.session.proofs.Values.{session-val, pressed-val, IsSession, IsPressed, session-tells, answer-tells, answer-is, pressed-is}

@@ -11,13 +11,13 @@ substitute-requires c κs = (substitutes (c .before .before .before .before .bef
 add-move-words : tie.Need-add-move-words
 add-move-words c =
     let h = c .before .before .before .before .before .before .before .before .before .before .before .before .pre in
-    omega (arith, tail-fits h (c .before .before .before .before .before .substitute .ensures) .fits, h .plan .redex .holds .limit)
+    omega (arith, tail-fits h (c .before .before .before .before .before .substitute .ensures .0) .fits, h .plan .redex .holds .limit)
 
 move-words-requires : tie.Need-move-words-requires
-move-words-requires c κs = tail-fits (c .before .before .before .before .before .before .before .before .before .before .before .before .pre) (c .before .before .before .before .before .substitute .ensures)
+move-words-requires c κs = tail-fits (c .before .before .before .before .before .before .before .before .before .before .before .before .pre) (c .before .before .before .before .before .substitute .ensures .0)
 
 copy-requires : tie.Need-copy-requires
-copy-requires c κs = back-fits (c .before .before .before .before .before .before .before .before .before .before .before .before .before .before .before .before .before .pre) (c .before .before .before .before .before .before .before .before .before .before .substitute .ensures) (c .before .before .before .before .move-words .ensures)
+copy-requires c κs = back-fits (c .before .before .before .before .before .before .before .before .before .before .before .before .before .before .before .before .before .pre) (c .before .before .before .before .before .before .before .before .before .before .substitute .ensures .0) (c .before .before .before .before .move-words .ensures)
 
 same-length : tie.Need-same-length
 same-length c = search needs
@@ -29,7 +29,7 @@ same-length-3 : tie.Need-same-length-3
 same-length-3 c = search needs
 
 returns : tie.Need-returns
-returns c = contracted (c .before .before .before .before .before .before .before .before .before .before .before .before .before .before .before .before .before .before .before .before .pre) (c .before .before .before .before .before .before .before .before .before .before .before .before .before .substitute .ensures) (c .before .before .before .before .before .before .before .move-words .ensures) (c .before .before .copy .ensures)
+returns c = contracted (c .before .before .before .before .before .before .before .before .before .before .before .before .before .before .before .before .before .before .before .before .pre) (c .before .before .before .before .before .before .before .before .before .before .before .before .before .substitute .ensures .0) (c .before .before .before .before .before .before .before .move-words .ensures) (c .before .before .copy .ensures)
 
 pub contract-spec : {M : Type 1} → statement M
 contract-spec =

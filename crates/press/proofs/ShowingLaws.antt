@@ -1,0 +1,55 @@
+-- Showing, by its tests in their order.
+use Prim.Native.Nat.{ℕ, _≤_, _<_}
+use mathlib.Core.Path.{_≡_, sym, _∙_, ap, ap₂}
+use mathlib.Core.Bool.{true, false}
+use mathlib.Core.List.{List, [], _∷_}
+use lib.ListN.{length}
+use borrow.Author.Tests.{le-leb, lt-leb}
+use Rattle.calculus.specs.Words.{workspaceMost}
+use Rattle.calculus.specs.Workspace.{sized, termAt}
+use Rattle.words.specs.IsTerm.{isTerm}
+use Rattle.calculus.proofs.WorkspaceLaws.{sized-most, sized-equal, first-equal, sized-two}
+use Rattle.press.specs.Showing.{left, right, nothing, shorter, showTerms, show}
+use Rattle.press.proofs.PressCode.{term-within, not-term, is-held}
+
+module _ (ws vs : List ℕ) (l r : ℕ) where
+  pub shows-nothing : sized (length ws ∷ length vs ∷ length ws ∷ []) ≡ false → show ws vs l r ≡ nothing
+  unfolding show
+  shows-nothing e = rw (sym (sized-two (length ws) (length vs)) ∙ e)
+
+  module _ (passes : sized (length ws ∷ length vs ∷ length ws ∷ []) ≡ true) where
+    fits : sized (length ws ∷ length vs ∷ []) ≡ true
+    fits = sym (sized-two (length ws) (length vs)) ∙ passes
+
+    by-terms : show ws vs l r ≡ showTerms l r (termAt ws l) (termAt vs r)
+    unfolding show
+    by-terms = rw fits
+
+    limit : length ws ≤ workspaceMost
+    limit = sized-most (length ws) (length vs ∷ []) fits
+
+    right-limit : length vs ≤ workspaceMost
+    right-limit = rw (first-equal (length ws) (length vs) [] (sized-equal (length ws) (length vs ∷ []) fits)) limit
+
+    pub shows-no-left : isTerm ws l ≡ false → show ws vs l r ≡ nothing
+    shows-no-left e = by-terms ∙ ap (λ t. showTerms l r t (termAt vs r)) (not-term ws l limit e)
+
+    module _ (is-left : isTerm ws l ≡ true) where
+      pub shows-no-right : isTerm vs r ≡ false → show ws vs l r ≡ nothing
+      shows-no-right e = by-terms ∙ ap₂ (showTerms l r) (is-held ws l limit is-left .term) (not-term vs r right-limit e)
+
+      pub left-fits : l ≤ length ws
+      left-fits = term-within ws l (is-held ws l limit is-left .term)
+
+      module _ (is-right : isTerm vs r ≡ true) where
+        pub right-fits : r ≤ length vs
+        right-fits = term-within vs r (is-held vs r right-limit is-right .term)
+
+        shows-shorter : show ws vs l r ≡ shorter l r
+        shows-shorter = by-terms ∙ ap₂ (showTerms l r) (is-held ws l limit is-left .term) (is-held vs r right-limit is-right .term)
+
+        pub shows-right : r < l → show ws vs l r ≡ record { side = right; count = r }
+        shows-right h = shows-shorter ∙ rw (lt-leb l r h)
+
+        pub shows-left : l ≤ r → show ws vs l r ≡ record { side = left; count = l }
+        shows-left h = shows-shorter ∙ rw (le-leb l r h)

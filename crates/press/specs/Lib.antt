@@ -1,0 +1,9 @@
+-- What a press and a showing do, as functions of everything at entry, and the claim about lists of presses.
+pub mod Session
+pub mod Answer
+pub mod Press
+pub mod Showing
+pub mod Types
+pub mod Limits
+pub mod Presses
+pub mod Claim

@@ -1,0 +1,28 @@
+-- The edges of what a press passes, and a fresh session field by field.
+use mathlib.Core.Path.{_≡_}
+use mathlib.Core.Bool.{true, false}
+use mathlib.Core.List.{[], _∷_}
+use Rattle.calculus.specs.Workspace.{sized}
+use Rattle.calculus.specs.Rounds.{Budget}
+use Rattle.press.specs.Session.{fresh}
+use Rattle.press.specs.Session.{affordable}
+
+pub record Limits : Type 0 where
+  pub words-15 : sized (15 ∷ 15 ∷ 15 ∷ []) ≡ false
+  pub words-16 : sized (16 ∷ 16 ∷ 16 ∷ []) ≡ true
+  pub words-2048 : sized (2048 ∷ 2048 ∷ 2048 ∷ []) ≡ true
+  pub words-2049 : sized (2049 ∷ 2049 ∷ 2049 ∷ []) ≡ false
+  pub other-right : sized (16 ∷ 17 ∷ 16 ∷ []) ≡ false
+  pub other-scratch : sized (16 ∷ 16 ∷ 17 ∷ []) ≡ false
+  pub two-of-2048 : sized (2048 ∷ 2048 ∷ []) ≡ true
+  pub two-unequal : sized (16 ∷ 2048 ∷ []) ≡ false
+  pub one-of-2048 : sized (2048 ∷ []) ≡ true
+  pub one-of-2049 : sized (2049 ∷ []) ≡ false
+  pub budget-1000000 : affordable 1000000 0 ≡ true
+  pub budget-1000001 : affordable 1000001 0 ≡ false
+  pub total-1000000000 : affordable 1000000 999000000 ≡ true
+  pub total-1000000001 : affordable 1000000 999000001 ≡ false
+  pub fresh-total : fresh .total ≡ 0
+  pub fresh-left : fresh .left ≡ 0
+  pub fresh-right : fresh .right ≡ 0
+  pub fresh-verdict : fresh .verdict ≡ Budget

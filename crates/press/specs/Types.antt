@@ -1,0 +1,35 @@
+-- What the code's types stand for: the answer's enum case by case, the session, and a press's results with the lent slices.
+use Prim.Native.Nat.{ℕ}
+use mathlib.Core.List.{List}
+use Rattle.words.specs.declared.refusal.Refusal as codeRefusal
+use Rattle.words.specs.Types.{refusalOf}
+use Rattle.rounds.specs.Types.{verdictOf, shownOf}
+use Rattle.press.specs.declared.session.Session as codeSession
+use Rattle.press.specs.declared.answer.Answer as codeAnswer
+use Rattle.press.specs.declared.answer.Answer.the-variants as answer
+use Rattle.press.specs.declared.answer.Pressed as codePressed
+use Rattle.press.specs.Session.{Session}
+use Rattle.press.specs.Answer.{Answer, refused, shown, Memory, Call, Pressed}
+
+abbrev pub sessionOf : codeSession.Session → Session
+sessionOf s = record { total = s .total; left = s .left; right = s .right; verdict = verdictOf (s .verdict) }
+
+-- A refusal, or verdict, spent and both lengths.
+abbrev pub answerOf : codeAnswer.Answer → Answer
+answerOf (answer.Refused why) = refused (refusalOf why)
+answerOf (answer.Shown a) = shown (shownOf a)
+
+abbrev pub memoryOf : (left right : List ℕ) → codeSession.Session → Memory
+memoryOf left right session = record { left = left; right = right; session = sessionOf session }
+
+abbrev pub callOf : (scratch : List ℕ) (leftLength rightLength budget : ℕ) → Call
+callOf scratch leftLength rightLength budget =
+    record { scratch = scratch; leftLength = leftLength; rightLength = rightLength; budget = budget }
+
+-- Everything at exit of the covered press: its result and the three lent slices.
+abbrev pub pressedOf : codePressed.Pressed → (left right scratch : List ℕ) → Pressed
+pressedOf p left right scratch = record { answer = answerOf (p .answer); memory = memoryOf left right (p .session); scratch = scratch }
+
+-- A refusal of the covered press, with the session as it was.
+abbrev pub refusedWith : codeRefusal.Refusal → codeSession.Session → codePressed.Pressed
+refusedWith why session = record { answer = answer.Refused why; session = session }
