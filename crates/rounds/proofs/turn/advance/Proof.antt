@@ -29,7 +29,7 @@ same-length-3 : tie.Need-same-length-3
 same-length-3 c = search needs
 
 returns-2 : tie.Need-returns-2
-returns-2 c = advance-contracted (c .before .before .before .before .before .before .before .before .before .before .before .before .before .before .before .before .before .pre) (c .before .before .before .before .before .before .before .before .before .before .before .before .todo .given .1) (c .before .before .before .before .before .before .before .contract .ensures) (c .before2 .ensures)
+returns-2 c = advance-contracted (c .before .before .before .before .before .before .before .before .before .before .before .before .before .before .before .before .before .pre) (c .before .before .before .before .before .before .before .before .before .before .before .before .todo .given .1) (c .before .before .before .before .before .before .before .contract .ensures .0) (c .before2 .ensures)
 
 pub advance-spec : {M : Type 1} → statement M
 advance-spec =
