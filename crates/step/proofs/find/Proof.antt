@@ -54,7 +54,8 @@ loop-less c = omega arith
 
 loop-again : tie.Need-loop-again Inv-loop μ-loop
 loop-again c =
-    searching-stuck (c .before .before .before .before .before .before .before .before .before .before .before .loop .inv) (c .before .before .before .before .before .before .before .before .before .before .loop-test .taken) (rw (c .before .before .before .before .enum-told .given .1) at (c .before .before .before .before .before .before .before .before .plan-at .ensures)) (c .before .before .fill-ends .ensures) (c .before .before .fill-ends .kept .1 .1 .0)
+    let h = rw (c .before .before .before .before .enum-told .given .1) at (c .before .before .before .before .before .before .before .before .plan-at .ensures) in
+    searching-stuck (c .before .before .before .before .before .before .before .before .before .before .before .loop .inv) (c .before .before .before .before .before .before .before .before .before .before .loop-test .taken) (h .0) (h .1) (c .before .before .fill-ends .ensures) (c .before .before .fill-ends .kept .1 .1 .0)
 
 enum-told-2 : tie.Need-enum-told-2 Inv-loop μ-loop
 enum-told-2 c = search needs
@@ -68,7 +69,9 @@ loop-less-2 : tie.Need-loop-less-2 Inv-loop μ-loop
 loop-less-2 c = omega arith
 
 loop-again-2 : tie.Need-loop-again-2 Inv-loop μ-loop
-loop-again-2 c = searching-on (c .before .before .before .before .before .before .before .loop .inv) (c .before .before .before .before .before .before .loop-test .taken) (rw (c .enum-told2 .given .1) at (c .before .before .before .before .plan-at .ensures))
+loop-again-2 c =
+    let h = rw (c .enum-told2 .given .1) at (c .before .before .before .before .plan-at .ensures) in
+    searching-on (c .before .before .before .before .before .before .before .loop .inv) (c .before .before .before .before .before .before .loop-test .taken) (h .0) (h .1)
 
 same-length-2 : tie.Need-same-length-2 Inv-loop μ-loop
 same-length-2 c = c .before .loop .inv .kept
