@@ -20,10 +20,10 @@ use Rattle.substitution.specs.Results.{shifted, Shiftable, Substitutable
 use Rattle.substitution.proofs.MoveLaws.{movable-up}
 use Rattle.substitution.proofs.ResultLaws.{starts-split, shifted-at, shiftable-at}
 use Rattle.calculus.proofs.SizeLaws.{size-shift}
-use Rattle.substitution.proofs.StartLaws.{Placed, span-add}
+use Rattle.substitution.proofs.StartLaws.{Offsets, span-add}
 use Rattle.substitution.proofs.ArgumentLaws.{Argument, argument-some, place-index, rewritten-argument}
 
-module _ {ws : List ℕ} {body args n : ℕ} (h : Substitutable ws body args n) {starts : List ℕ} (p : Placed ws args starts n) (d w : ℕ) (bounded : d ≤ countBase * workspaceMost) {j : ℕ} (place-is : j ≡ place n d w) (chosen : j < n) where
+module _ {ws : List ℕ} {body args n : ℕ} (h : Substitutable ws body args n) {starts : List ℕ} (p : Offsets ws args starts n) (d w : ℕ) (bounded : d ≤ countBase * workspaceMost) {j : ℕ} (place-is : j ≡ place n d w) (chosen : j < n) where
   abbrev xs : Terms
   xs = firstTerms n (drop args ws)
 
@@ -40,7 +40,7 @@ module _ {ws : List ℕ} {body args n : ℕ} (h : Substitutable ws body args n) 
   before = omega (arith, place-is, index-is .1, h .args-count)
 
   start-is : getD starts j 0 ≡ args + span j (drop args ws)
-  start-is = p .placed j (omega arith)
+  start-is = p .offsets j (omega arith)
 
   -- The argument stands at the start of its place.
   stands : drop (getD starts j 0) ws ≡ words (found .tree) ++ found .rest
@@ -67,7 +67,7 @@ module _ {ws : List ℕ} {body args n : ℕ} (h : Substitutable ws body args n) 
       omega (
         arith,
         start-is,
-        p .placed (j + 1) (omega arith),
+        p .offsets (j + 1) (omega arith),
         span-add (drop args ws) j 1,
         ap (span 1) (drop-drop (span j (drop args ws)) args ws),
         ap (λ m. span 1 (drop m ws)) start-is,
@@ -99,7 +99,7 @@ module _ {ws : List ℕ} {body args n : ℕ} (h : Substitutable ws body args n) 
         arith,
         chosen-end,
         start-is,
-        p .placed (j + 1) (omega arith),
+        p .offsets (j + 1) (omega arith),
         span-add (drop args ws) (j + 1) (n - (j + 1)),
         ap (λ m. span m (drop args ws)) e,
       )

@@ -23,7 +23,7 @@ use Rattle.substitution.specs.Measure.{occurrences, Measures}
 use Rattle.substitution.proofs.DepthLaws.{Bounded, bounded-word, length-items}
 use Rattle.substitution.proofs.Traversal.{marked, flat}
 use Rattle.substitution.proofs.ResultLaws.{subst-starts}
-use Rattle.substitution.proofs.StartLaws.{Placed, span-add}
+use Rattle.substitution.proofs.StartLaws.{Offsets, span-add}
 use Rattle.substitution.proofs.ArgumentLaws.{length-body}
 use Rattle.substitution.proofs.Chosen.{chosen-length}
 
@@ -124,7 +124,7 @@ module _ (n : ℕ) where
         ∙ ap₂ _+_ (told d w (omega arith)) (weigh-flat ws es (b + countBase) (bounded-word b (b + countBase) w d ds p (omega arith)) (omega arith))
 
 -- Of a body and its arguments, by the starts of these.
-module _ {src : List ℕ} {body args n : ℕ} (h : Substitutable src body args n) {starts : List ℕ} (p : Placed src args starts n) where
+module _ {src : List ℕ} {body args n : ℕ} (h : Substitutable src body args n) {starts : List ℕ} (p : Offsets src args starts n) where
   abbrev pub lengthOf : ℕ → ℕ
   lengthOf j = getD starts (j + 1) 0 - getD starts j 0
 
@@ -172,19 +172,19 @@ module _ (n : ℕ) where
 -- The loop over the arguments: the words replaced by the first j of them are taken off, and these are put on.
 pub record Adding (src : List ℕ) (body args n : ℕ) (occurs starts : List ℕ) (total j : ℕ) : Type 0 where
   pub needs : Substitutable src body args n
-  pub placed : Placed src args starts n
+  pub offsets : Offsets src args starts n
   pub occur : (k : ℕ) → k < n → getD occurs k 0 ≡ occurrences n k (0 ∷ []) (drop body src)
   pub before : j ≤ n
   pub few : total ≤ workspaceMost + j * (workspaceMost * workspaceMost)
   pub sum : total + sumTo j (λ k. occurrences n k (0 ∷ []) (drop body src))
       ≡ span 1 (drop body src) + sumTo j (λ k. occurrences n k (0 ∷ []) (drop body src) * (getD starts (k + 1) 0 - getD starts k 0))
 
-pub adding-start : {src occurs starts : List ℕ} {body args n end last : ℕ} → Substitutable src body args n → Placed src args starts n
+pub adding-start : {src occurs starts : List ℕ} {body args n end last : ℕ} → Substitutable src body args n → Offsets src args starts n
     → Measures src body n end last occurs → Adding src body args n occurs starts (end - body) 0
 adding-start {src} {body = body} h p m =
     record {
       needs = h;
-      placed = p;
+      offsets = p;
       occur = m .occur;
       before = omega arith;
       few = omega (arith, m .ends, span-bounded 1 (drop body src), length-drop body src, h .short);
@@ -195,7 +195,7 @@ module _ {src : List ℕ} {body args n : ℕ} {occurs starts : List ℕ} {total 
   pub adding-done : n ≤ j → total ≡ size (substituted src body args n)
   adding-done past =
       let e : j ≡ n = omega (arith, v .before) in
-      omega (arith, rw e at (v .sum), substituted-counts (v .needs) (v .placed))
+      omega (arith, rw e at (v .sum), substituted-counts (v .needs) (v .offsets))
 
   module _ (more : j < n) where
     abbrev o : ℕ
@@ -212,8 +212,8 @@ module _ {src : List ℕ} {body args n : ℕ} {occurs starts : List ℕ} {total 
         let d = drop (span j (drop args src)) (drop args src) in
         omega (
           arith,
-          v .placed .placed j (omega arith),
-          v .placed .placed (j + 1) (omega arith),
+          v .offsets .offsets j (omega arith),
+          v .offsets .offsets (j + 1) (omega arith),
           span-add (drop args src) j 1,
           span-bounded 1 d,
           length-drop (span j (drop args src)) (drop args src),
@@ -228,7 +228,7 @@ module _ {src : List ℕ} {body args n : ℕ} {occurs starts : List ℕ} {total 
     adding-next =
         record {
           needs = v .needs;
-          placed = v .placed;
+          offsets = v .offsets;
           occur = v .occur;
           before = omega arith;
           few = omega (arith, v .few, product);
@@ -248,8 +248,8 @@ module _ {src : List ℕ} {body args n : ℕ} {occurs starts : List ℕ} {total 
 -- One argument, from where it starts and ends.
 module _ {src : List ℕ} {body args after times : ℕ} (h : Substitutable src body args 1) (after-is : after ≡ args + span 1 (drop args src))
     (occur : times ≡ occurrences 1 0 (0 ∷ []) (drop body src)) where
-  one-placed : Placed src args (args ∷ after ∷ []) 1
-  one-placed = record { placed = go }
+  one-argument : Offsets src args (args ∷ after ∷ []) 1
+  one-argument = record { offsets = go }
     where
       go : (i : ℕ) → i ≤ 1 → getD (args ∷ after ∷ []) i 0 ≡ args + span i (drop args src)
       go zero l = omega (arith, span-zero (drop args src))
@@ -261,7 +261,7 @@ module _ {src : List ℕ} {body args after times : ℕ} (h : Substitutable src b
 
   pub substituted-one : size (substituted src body args 1) + times ≡ span 1 (drop body src) + times * (after - args)
   substituted-one =
-      omega (arith, substituted-counts h one-placed, ap (λ m. m * (after - args)) occur)
+      omega (arith, substituted-counts h one-argument, ap (λ m. m * (after - args)) occur)
 
   pub product-few : times * (after - args) ≤ workspaceMost * workspaceMost
   product-few =

@@ -25,7 +25,7 @@ binder-one w = go (kindOf w) (payloadOf w) (eqb (kindOf w) abstractionKind) refl
     go k p false e true f h = rw (eqb-true k branchKind f)
     go k p false e false f h = absurd (h (rw (e, f)))
 
-module _ (w : ℕ) {pending depth top : ℕ} {room : List ℕ} (h : Enters pending depth top room) where
+module _ (w : ℕ) {pending depth top : ℕ} {room : List ℕ} (h : Enters w pending depth top room) where
   -- A word that binds nothing.
   module _ {a : ℕ} (arity-is : a ≡ arity w) (binds : bound w ≡ 0) where
     plain-items : toCome (a + (pending - 1)) depth (drop top room) ≡ replicate (arity w) (depth + bound w) ++ toCome (pending - 1) depth (drop top room)

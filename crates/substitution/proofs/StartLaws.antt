@@ -20,21 +20,21 @@ span-add (w ∷ ws) (suc j) k =
     ∙ sym (suc-add _ _)
 
 -- The positions at which the items from position `args` on start, written up to the j-th.
-pub record Placed (src : List ℕ) (args : ℕ) (starts : List ℕ) (j : ℕ) : Type 0 where
-  pub placed : (i : ℕ) → i ≤ j → getD starts i 0 ≡ args + span i (drop args src)
+pub record Offsets (src : List ℕ) (args : ℕ) (starts : List ℕ) (j : ℕ) : Type 0 where
+  pub offsets : (i : ℕ) → i ≤ j → getD starts i 0 ≡ args + span i (drop args src)
 
-pub placed-first : (src : List ℕ) (args : ℕ) (starts : List ℕ) → getD starts 0 0 ≡ args → Placed src args starts 0
-placed-first src args starts q =
-    record { placed = λ i h. let e : i ≡ 0 = omega arith in rw e (omega (arith, q, span-zero (drop args src))) }
+pub offsets-first : (src : List ℕ) (args : ℕ) (starts : List ℕ) → getD starts 0 0 ≡ args → Offsets src args starts 0
+offsets-first src args starts q =
+    record { offsets = λ i h. let e : i ≡ 0 = omega arith in rw e (omega (arith, q, span-zero (drop args src))) }
 
-pub placed-next : (src : List ℕ) (args : ℕ) (starts : List ℕ) (j end : ℕ) → j + 1 < length starts → Placed src args starts j
-    → end ≡ getD starts j 0 + span 1 (drop (getD starts j 0) src) → Placed src args (set starts (j + 1) end) (j + 1)
-placed-next src args starts j end room p q =
-    record { placed = λ i h. ⊎-elim (here i) (before i) (eq-or-lt-of-le h) }
+pub offsets-next : (src : List ℕ) (args : ℕ) (starts : List ℕ) (j end : ℕ) → j + 1 < length starts → Offsets src args starts j
+    → end ≡ getD starts j 0 + span 1 (drop (getD starts j 0) src) → Offsets src args (set starts (j + 1) end) (j + 1)
+offsets-next src args starts j end room p q =
+    record { offsets = λ i h. ⊎-elim (here i) (before i) (eq-or-lt-of-le h) }
   where
     next : end ≡ args + span (j + 1) (drop args src)
     next =
-        let at : getD starts j 0 ≡ args + span j (drop args src) = p .placed j (omega arith) in
+        let at : getD starts j 0 ≡ args + span j (drop args src) = p .offsets j (omega arith) in
         let e : drop (getD starts j 0) src ≡ drop (span j (drop args src)) (drop args src) = ap (λ m. drop m src) at ∙ sym (drop-drop _ args src) in
         omega (arith, q, at, ap (span 1) e, span-add (drop args src) j 1)
 
@@ -42,16 +42,16 @@ placed-next src args starts j end room p q =
     here i e = rw e (getD-set-same starts (j + 1) end 0 room ∙ next)
 
     before : (i : ℕ) → i < j + 1 → getD (set starts (j + 1) end) i 0 ≡ args + span i (drop args src)
-    before i l = getD-set-other starts (j + 1) i end 0 (omega arith) ∙ p .placed i (omega arith)
+    before i l = getD-set-other starts (j + 1) i end 0 (omega arith) ∙ p .offsets i (omega arith)
 
 -- The end of the last item, which is known, behind the starts.
-pub placed-last : (src : List ℕ) (args : ℕ) (starts : List ℕ) (j n after : ℕ) → n < length starts → n ≤ j + 1 → Placed src args starts j
-    → after ≡ args + span n (drop args src) → Placed src args (set starts n after) n
-placed-last src args starts j n after room l p q =
-    record { placed = λ i h. ⊎-elim (here i) (before i) (eq-or-lt-of-le h) }
+pub offsets-last : (src : List ℕ) (args : ℕ) (starts : List ℕ) (j n after : ℕ) → n < length starts → n ≤ j + 1 → Offsets src args starts j
+    → after ≡ args + span n (drop args src) → Offsets src args (set starts n after) n
+offsets-last src args starts j n after room l p q =
+    record { offsets = λ i h. ⊎-elim (here i) (before i) (eq-or-lt-of-le h) }
   where
     here : (i : ℕ) → i ≡ n → getD (set starts n after) i 0 ≡ args + span i (drop args src)
     here i e = rw e (getD-set-same starts n after 0 room ∙ q)
 
     before : (i : ℕ) → i < n → getD (set starts n after) i 0 ≡ args + span i (drop args src)
-    before i m = getD-set-other starts n i after 0 (λ e. omega arith) ∙ p .placed i (omega arith)
+    before i m = getD-set-other starts n i after 0 (λ e. omega arith) ∙ p .offsets i (omega arith)

@@ -1,6 +1,6 @@
 -- A walk that keeps its scopes in a room: the binders around the items still to come are those of the pending items and of the scopes at the end
 -- of the room.
-use Prim.Native.Nat.{ℕ, zero, suc, _+_, _*_, _-_, _≤_, _<_}
+use Prim.Native.Nat.{ℕ, zero, suc, _+_, _*_, _-_, _^_, _≤_, _<_}
 use mathlib.Core.Path.{_≡_, refl, sym, _∙_}
 use mathlib.Core.List.{List, [], _∷_}
 use native.Mathlib.Omega.{arith}
@@ -8,6 +8,7 @@ use lib.ListN.{length, getD, drop, replicate, length-append, length-replicate, d
 use Rattle.calculus.specs.Words.{workspaceMost}
 use Rattle.calculus.specs.Skip.{span}
 use Rattle.calculus.specs.First.{firstTerm}
+use Rattle.words.proofs.Spans.{arity-bounded}
 use Rattle.substitution.specs.Depths.{depths}
 use Rattle.substitution.specs.Results.{Starts}
 use Rattle.substitution.specs.Scopes.{scopeBase, expanded, toCome, Stands, Enters, Entered}
@@ -76,9 +77,10 @@ module _ {src : List ℕ} {body : ℕ} {room₀ room : List ℕ} {i pending dept
     pub walking-free : 2 * length room₀ ≤ 2 * top + span 1 (drop body src)
     walking-free = omega (arith, v .stands .scopes, v .stands .within, v .same-length, walking-inside, v .walk .from)
 
-    pub walking-enters : Enters pending depth top room
-    walking-enters =
+    pub walking-enters : {w : ℕ} → w < 2 ^ 32 → Enters w pending depth top room
+    walking-enters {w} number =
         record {
+          counts = arity-bounded w number;
           pends = omega arith;
           few = omega (arith, walk-few (v .walk), length-left, v .short);
           shallow = walking-depth;

@@ -8,6 +8,7 @@ use mathlib.Core.List.{List, [], _∷_, _++_}
 use lib.ListN.{length, drop, replicate}
 use Rattle.calculus.specs.Words.{workspaceMost}
 use Rattle.calculus.specs.Skip.{arity}
+use Rattle.words.specs.Limits.{payloadBound}
 use Rattle.words.specs.Bound.{bound}
 
 -- A scope is items × 32768 + binders.
@@ -36,8 +37,9 @@ pub record Stands (k pending top : ℕ) (room : List ℕ) : Type 0 where
   pub scopes : 2 * (length room - top) ≤ k
   pub more : 2 ≤ pending → 2 * (length room - top) + 1 ≤ k
 
--- There is an item to come, and room for a scope if the walk may leave one.
-pub record Enters (pending depth top : ℕ) (room : List ℕ) : Type 0 where
+-- There is an item to come, the word that starts it has as many items as a payload counts, and there is room for a scope if the walk may leave one.
+pub record Enters (w pending depth top : ℕ) (room : List ℕ) : Type 0 where
+  pub counts : arity w ≤ payloadBound
   pub pends : 1 ≤ pending
   pub few : pending ≤ workspaceMost
   pub shallow : depth < scopeBase

@@ -34,32 +34,32 @@ pub fn down(binders: u32) -> i32
 }
 
 // A word under so many binders of the moved part, its index moved if it is a free variable.
-pub fn shift_word(w: u32, depth: u32, distance: i32) -> u32
-    requires { ⌜ (kindOf w ≡ variableKind → Movable distance depth (var (payloadOf w))) ⌝ }
-    ensures { λ r. ⌜ rewritten (shifting distance) depth w ≡ r ∷ [] ⌝ }
+pub fn shift_word(word: Word, depth: u32, distance: i32) -> Word
+    requires { ⌜ (kindOf (word .0) ≡ variableKind → Movable distance depth (var (payloadOf (word .0)))) ⌝ }
+    ensures { λ r. ⌜ rewritten (shifting distance) depth (word .0) ≡ r .0 ∷ [] ⌝ }
 {
-    let index = Word(w).payload();
-    if Word(w).kind() == Word::VARIABLE {
+    let index = word.payload();
+    if word.kind() == Word::VARIABLE {
         if depth <= index {
-            return Word::new(Word::VARIABLE, moved(index, distance)).0;
+            return Word::new(Word::VARIABLE, moved(index, distance));
         }
     }
-    w
+    word
 }
 
-// The place, from the first, of the one of n arguments that stands for a word under so many binders, and n where none does.
-pub fn argument(w: u32, depth: u32, n: usize) -> usize
+// The place, from the first, of the one of `count` arguments that stands for a word under so many binders, and `count` where none does.
+pub fn argument(word: Word, depth: u32, count: usize) -> usize
     requires { ⌜ depth < distanceBound ⌝ }
-    ensures { λ r. ⌜ r ≡ place n depth w ⌝ }
+    ensures { λ r. ⌜ r ≡ place count depth (word .0) ⌝ }
 {
-    let index = Word(w).payload();
-    if Word(w).kind() == Word::VARIABLE {
+    let index = word.payload();
+    if word.kind() == Word::VARIABLE {
         if depth <= index {
             let k = moved(index, down(depth)) as usize;
-            if k < n {
-                return n - 1 - k;
+            if k < count {
+                return count - 1 - k;
             }
         }
     }
-    n
+    count
 }

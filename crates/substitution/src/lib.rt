@@ -22,6 +22,7 @@ ghost use Rattle.calculus.specs.Accepted.{argumentLimit};
 ghost use Rattle.calculus.specs.Skip.{span};
 ghost use Rattle.calculus.specs.First.{firstTerms};
 ghost use Rattle.words.specs.Placed.{Placed};
+ghost use Rattle.words.specs.Room.{Room};
 ghost use Rattle.substitution.specs.Moves.{distanceBound};
 ghost use Rattle.substitution.specs.Rewritten.{substituting, standing};
 ghost use Rattle.substitution.specs.Results.{Shiftable, shifted, Substitutes};
@@ -29,19 +30,19 @@ ghost use Rattle.substitution.specs.Results.{Shiftable, shifted, Substit
 // A place for each argument of a redex, and one more.
 const PLACES: usize = Word::ARGUMENTS_MOST as usize + 1;
 
-// The positions at which n consecutive items start, and after them the end of the last, where the caller knows it.
-fn starts(src: &[u32], args: usize, after: usize, n: usize) -> [usize; PLACES]
-    requires { ⌜ (length (now src) ≤ workspaceMost) × (n ≤ argumentLimit) ⌝ }
-    ensures { λ r. ⌜ (after ≡ args + span n (drop args (now (src .entry))) → (j : ℕ) → j ≤ n → getD r j 0 ≡ args + span j (drop args (now (src .entry)))) ⌝ }
+// The positions at which `count` consecutive items start, and after them the end of the last, where the caller knows it.
+fn starts(src: &[u32], args: usize, after: usize, count: usize) -> [usize; PLACES]
+    requires { ⌜ (length (now src) ≤ workspaceMost) × (count ≤ argumentLimit) ⌝ }
+    ensures { λ r. ⌜ (after ≡ args + span count (drop args (now (src .entry))) → (j : ℕ) → j ≤ count → getD r j 0 ≡ args + span j (drop args (now (src .entry)))) ⌝ }
 {
     let mut starts = [0usize; PLACES];
     starts[0] = args;
     let mut j: usize = 0;
-    while j + 1 < n {
+    while j + 1 < count {
         starts[j + 1] = extent(src, starts[j]);
         j += 1;
     }
-    starts[n] = after;
+    starts[count] = after;
     starts
 }
 
@@ -59,22 +60,30 @@ fn shift(
     requires { ⌜ out + size (shifted (now src) at distance) ≤ length (now dst) ⌝ }
     requires { ⌜ span 1 (drop at (now src)) ≤ 2 * length (now room) ⌝ }
     ensures { λ r. ⌜ Placed (now (dst .entry)) out (words (shifted (now (src .entry)) at distance)) (now (dst .exit)) r ⌝ }
+    ensures { λ r. ⌜ Room (now (room .entry)) (now (room .exit)) ⌝ }
 {
     let mut i = at;
-    let mut o = out;
+    let mut next = out;
     let mut scope = Scope {
         pending: 1,
         depth: 0,
         top: room.len(),
     };
     while i < end {
-        let w = src[i];
-        dst[o] = shift_word(w, scope.depth, distance);
-        scope = enter(w, scope, room);
-        i += 1;
-        o += 1;
+        let word = Word(src[i]);
+        if word.kind() == Word::VARIABLE {
+            dst[next] = shift_word(word, scope.depth, distance).0;
+            scope = enter(word, scope, room);
+            i += 1;
+            next += 1;
+        } else {
+            dst[next] = word.0;
+            scope = enter(word, scope, room);
+            i += 1;
+            next += 1;
+        }
     }
-    o
+    next
 }
 
 // Copies the term from `at` up to `end`, an argument, to a place under so many binders, and returns the position after the copy.
@@ -91,6 +100,7 @@ fn raise(
     requires { ⌜ out + size (shifted (now src) at (pos binders)) ≤ length (now dst) ⌝ }
     requires { ⌜ (span 1 (drop at (now src)) ≤ 2 * length (now room)) × (binders < distanceBound) ⌝ }
     ensures { λ r. ⌜ Placed (now (dst .entry)) out (words (shifted (now (src .entry)) at (pos binders))) (now (dst .exit)) r ⌝ }
+    ensures { λ r. ⌜ Room (now (room .entry)) (now (room .exit)) ⌝ }
 {
     if binders > 0 {
         return shift(src, at, end, up(binders), dst, out, room);
@@ -98,26 +108,27 @@ fn raise(
     copy(src, at, end, dst, out)
 }
 
-// Writes what stands for the words of a body before `stop`, where its n arguments are put for its first n indices, the last argument for index 0,
-// and returns the position after it. Where the arguments end is asked only if one is put. The room keeps the scopes of the walk.
+// Writes what stands for the words of a body before `stop`, where its arguments are put for its first indices, as many as there are arguments and
+// the last one for index 0, and returns the position after it. Where the arguments end is asked only if one is put. The room keeps the scopes of the walk.
 pub fn substitute(
     src: &[u32],
     body: usize,
     stop: usize,
     args: usize,
     after: usize,
-    n: usize,
+    count: usize,
     dst: &mut [u32],
     out: usize,
     room: &mut [u32],
 ) -> usize
-    requires { ⌜ Substitutes (now src) body stop args after n (now room) ⌝ }
-    requires { ⌜ out + length (standing (substituting (firstTerms n (drop args (now src)))) (stop - body) (0 ∷ []) (drop body (now src))) ≤ length (now dst) ⌝ }
-    ensures { λ r. ⌜ Placed (now (dst .entry)) out (standing (substituting (firstTerms n (drop args (now (src .entry))))) (stop - body) (0 ∷ []) (drop body (now (src .entry)))) (now (dst .exit)) r ⌝ }
+    requires { ⌜ Substitutes (now src) body stop args after count (now room) ⌝ }
+    requires { ⌜ out + length (standing (substituting (firstTerms count (drop args (now src)))) (stop - body) (0 ∷ []) (drop body (now src))) ≤ length (now dst) ⌝ }
+    ensures { λ r. ⌜ Placed (now (dst .entry)) out (standing (substituting (firstTerms count (drop args (now (src .entry))))) (stop - body) (0 ∷ []) (drop body (now (src .entry)))) (now (dst .exit)) r ⌝ }
+    ensures { λ r. ⌜ Room (now (room .entry)) (now (room .exit)) ⌝ }
 {
-    let starts = starts(src, args, after, n);
-    let lowered = down(n as u32);
-    let mut o = out;
+    let starts = starts(src, args, after, count);
+    let lowered = down(count as u32);
+    let mut next = out;
     let mut i = body;
     let mut at = Scope {
         pending: 1,
@@ -125,28 +136,28 @@ pub fn substitute(
         top: room.len(),
     };
     while i < stop {
-        let w = src[i];
+        let word = Word(src[i]);
         let depth = at.depth;
         let top = at.top;
-        let j = argument(w, depth, n);
-        if j < n {
-            o = raise(
+        let j = argument(word, depth, count);
+        if j < count {
+            next = raise(
                 src,
                 starts[j],
                 starts[j + 1],
                 depth,
                 dst,
-                o,
+                next,
                 &mut room[..top],
             );
-            at = enter(w, at, room);
+            at = enter(word, at, room);
             i += 1;
         } else {
-            dst[o] = shift_word(w, depth, lowered);
-            at = enter(w, at, room);
+            dst[next] = shift_word(word, depth, lowered).0;
+            at = enter(word, at, room);
             i += 1;
-            o += 1;
+            next += 1;
         }
     }
-    o
+    next
 }

@@ -4,11 +4,13 @@ use crate::index::argument;
 use crate::scope::Scope;
 use crate::scope::enter;
 use crate::starts;
+use words::Word;
 ghost use mathlib.Core.Path.{_≡_};
 ghost use Prim.Native.Nat.{_+_};
 ghost use lib.ListN.{drop};
 ghost use Rattle.calculus.specs.Words.{size};
 ghost use Rattle.calculus.specs.Skip.{span};
+ghost use Rattle.words.specs.Room.{Room};
 ghost use Rattle.substitution.specs.Measure.{Measurable, Measures};
 ghost use Rattle.substitution.specs.Results.{Substitutable, substituted};
 
@@ -19,10 +21,11 @@ pub struct Measured {
     pub last: u32,
 }
 
-// One walk over the body at a position that has n arguments. A word that none stands for counts at the place n.
-pub fn measure(src: &[u32], body: usize, n: usize, room: &mut [u32]) -> Measured
-    requires { ⌜ Measurable (now src) body n (now room) ⌝ }
-    ensures { λ r. ⌜ Measures (now (src .entry)) body n (r .end) (r .last) (r .occurs) ⌝ }
+// One walk over the body at a position that has `count` arguments. A word that none stands for counts at the place behind theirs.
+pub fn measure(src: &[u32], body: usize, count: usize, room: &mut [u32]) -> Measured
+    requires { ⌜ Measurable (now src) body count (now room) ⌝ }
+    ensures { λ r. ⌜ Measures (now (src .entry)) body count (r .end) (r .last) (r .occurs) ⌝ }
+    ensures { λ r. ⌜ Room (now (room .entry)) (now (room .exit)) ⌝ }
 {
     let mut occurs = [0usize; PLACES];
     let mut i = body;
@@ -33,11 +36,11 @@ pub fn measure(src: &[u32], body: usize, n: usize, room: &mut [u32]) -> Measured
         top: room.len(),
     };
     while at.pending > 0 {
-        let w = src[i];
+        let word = Word(src[i]);
         last = at.depth;
-        let j = argument(w, last, n);
+        let j = argument(word, last, count);
         occurs[j] += 1;
-        at = enter(w, at, room);
+        at = enter(word, at, room);
         i += 1;
     }
     Measured {
@@ -47,26 +50,26 @@ pub fn measure(src: &[u32], body: usize, n: usize, room: &mut [u32]) -> Measured
     }
 }
 
-// The length in words of a measured body with its n arguments put in, from how often each occurs: nothing is written to find it.
+// The length in words of a measured body with its arguments put in, from how often each occurs: nothing is written to find it.
 pub fn substituted_length(
     src: &[u32],
     body: usize,
     args: usize,
     after: usize,
-    n: usize,
+    count: usize,
     found: Measured,
 ) -> usize
-    requires { ⌜ Substitutable (now src) body args n × (after ≡ args + span n (drop args (now src))) ⌝ }
-    requires { ⌜ Measures (now src) body n (found .end) (found .last) (found .occurs) ⌝ }
-    ensures { λ r. ⌜ r ≡ size (substituted (now (src .entry)) body args n) ⌝ }
+    requires { ⌜ Substitutable (now src) body args count × (after ≡ args + span count (drop args (now src))) ⌝ }
+    requires { ⌜ Measures (now src) body count (found .end) (found .last) (found .occurs) ⌝ }
+    ensures { λ r. ⌜ r ≡ size (substituted (now (src .entry)) body args count) ⌝ }
 {
     let occurs = found.occurs;
-    let starts = starts(src, args, after, n);
+    let starts = starts(src, args, after, count);
     let mut total = found.end - body;
     let mut j: usize = 0;
-    while j < n {
-        let o = occurs[j];
-        total = total - o + o * (starts[j + 1] - starts[j]);
+    while j < count {
+        let times = occurs[j];
+        total = total - times + times * (starts[j + 1] - starts[j]);
         j += 1;
     }
     total

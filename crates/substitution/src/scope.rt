@@ -13,44 +13,49 @@ pub struct Scope {
 const SCOPE: u32 = 32768;
 
 // Where the walk stands after a word.
-pub fn enter(w: u32, at: Scope, room: &mut [u32]) -> Scope
-    requires { ⌜ Enters (at .pending) (at .depth) (at .top) (now room) ⌝ }
-    ensures { λ r. ⌜ Entered w (at .pending) (at .depth) (at .top) (now (room .entry)) (r .pending) (r .depth) (r .top) (now (room .exit)) ⌝ }
+pub fn enter(word: Word, at: Scope, room: &mut [u32]) -> Scope
+    requires { ⌜ Enters (word .0) (at .pending) (at .depth) (at .top) (now room) ⌝ }
+    ensures { λ r. ⌜ Entered (word .0) (at .pending) (at .depth) (at .top) (now (room .entry)) (r .pending) (r .depth) (r .top) (now (room .exit)) ⌝ }
 {
     let pending = at.pending;
     let depth = at.depth;
     let top = at.top;
-    let bound = Word(w).bound();
-    if bound == 0 {
-        let left = Word(w).arity() + (pending - 1);
-        if left == 0 {
-            if top < room.len() {
-                let scope = room[top];
-                return Scope {
-                    pending: (scope / SCOPE) as usize,
-                    depth: scope % SCOPE,
-                    top: top + 1,
-                };
-            }
+    let bound = word.bound();
+    if bound > 0 {
+        if pending > 1 {
+            let free = top - 1;
+            room[free] = (pending - 1) as u32 * SCOPE + depth;
+            return Scope {
+                pending: 1,
+                depth: depth + bound,
+                top: free,
+            };
         }
+        return Scope {
+            pending: 1,
+            depth: depth + bound,
+            top,
+        };
+    }
+    let left = word.arity() + (pending - 1);
+    if left > 0 {
         return Scope {
             pending: left,
             depth,
             top,
         };
     }
-    if pending > 1 {
-        let free = top - 1;
-        room[free] = (pending - 1) as u32 * SCOPE + depth;
+    if top < room.len() {
+        let scope = room[top];
         return Scope {
-            pending: 1,
-            depth: depth + bound,
-            top: free,
+            pending: (scope / SCOPE) as usize,
+            depth: scope % SCOPE,
+            top: top + 1,
         };
     }
     Scope {
-        pending: 1,
-        depth: depth + bound,
+        pending: 0,
+        depth,
         top,
     }
 }

@@ -5,3 +5,4 @@ pub mod Scan
 pub mod Stack
 pub mod IsTerm
 pub mod PlacedLaws
+pub mod RoomLaws

@@ -5,4 +5,5 @@ pub mod Frames
 pub mod Packed
 pub mod IsTerm
 pub mod Placed
+pub mod Room
 pub mod Types

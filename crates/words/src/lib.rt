@@ -91,13 +91,16 @@ impl Word {
         self.0 / Word::KIND_BASE % Word::COUNT_BASE
     }
 
-    // How many items follow the word.
+    // How many items follow the word: as many as the number of its kind for a variable, an abstraction and an application. Tested first, these cost
+    // less than a jump by a table of all kinds.
     pub fn arity(self) -> usize
         ensures { λ r. ⌜ r ≡ arity (self .0) ⌝ }
     {
-        match self.kind() {
-            Word::ABSTRACTION => 1,
-            Word::APPLICATION => 2,
+        let kind = self.kind();
+        if kind < Word::CONSTRUCTOR {
+            return kind as usize;
+        }
+        match kind {
             Word::CONSTRUCTOR => self.count() as usize,
             Word::CASE => self.payload() as usize + 1,
             Word::BRANCH => 1,
@@ -105,15 +108,21 @@ impl Word {
         }
     }
 
-    // How many binders stand around these items and not around the word.
+    // How many binders stand around these items and not around the word, by the same first test.
     pub fn bound(self) -> u32
         ensures { λ r. ⌜ r ≡ bound (self .0) ⌝ }
     {
-        match self.kind() {
-            Word::ABSTRACTION => 1,
-            Word::BRANCH => self.count(),
-            _ => 0,
+        let kind = self.kind();
+        if kind < Word::CONSTRUCTOR {
+            if kind == Word::ABSTRACTION {
+                return 1;
+            }
+            return 0;
         }
+        if kind == Word::BRANCH {
+            return self.count();
+        }
+        0
     }
 }
 

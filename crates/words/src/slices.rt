@@ -23,11 +23,11 @@ pub fn copy(src: &[u32], from: usize, to: usize, dst: &mut [u32], out: usize) ->
     ensures { λ r. ⌜ Placed (now (dst .entry)) out (slice from to (now (src .entry))) (now (dst .exit)) r ⌝ }
 {
     let mut i = from;
-    let mut o = out;
+    let mut next = out;
     while i < to {
-        dst[o] = src[i];
+        dst[next] = src[i];
         i += 1;
-        o += 1;
+        next += 1;
     }
-    o
+    next
 }

@@ -106,6 +106,7 @@ pub fn normal() -> Vec<Case> {
     cases.push(applications(1_023));
     cases.push(constructors(2_047));
     cases.push(stuck_cases(511));
+    cases.push(stuck_cases_in_branches(682));
     cases
 }
 
@@ -272,6 +273,13 @@ fn stuck_cases(n: usize) -> Case {
     let side = |last| format!("?#1[{inner}]{{1.0:{last}}}");
     let name = format!("{n} stuck cases");
     different(name, &side(0), &side(1), 4 * n + 1)
+}
+
+/// Stuck cases, each in the only branch of the next one, which is of another tag.
+fn stuck_cases_in_branches(n: usize) -> Case {
+    let side = |last| format!("{}{last}{}", "?#1{2.0:".repeat(n), "}".repeat(n));
+    let name = format!("{n} stuck cases in branches");
+    different(name, &side(0), &side(1), 3 * n + 1)
 }
 
 #[cfg(test)]

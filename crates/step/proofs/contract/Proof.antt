@@ -18,15 +18,15 @@ substitute-requires c κs = (substitutes (c .before .before .before .before .bef
 add-move-words : tie.Need-add-move-words
 add-move-words c =
     let h = c .before .before .before .before .before .before .before .before .before .before .before .before .pre in
-    omega (arith, tail-fits h (c .before .before .before .before .before .substitute .ensures) .fits, h .plan .redex .holds .limit)
+    omega (arith, tail-fits h (c .before .before .before .before .before .substitute .ensures .0) .fits, h .plan .redex .holds .limit)
 
 -- src/lib.rt:63:5
 move-words-requires : tie.Need-move-words-requires
-move-words-requires c κs = tail-fits (c .before .before .before .before .before .before .before .before .before .before .before .before .pre) (c .before .before .before .before .before .substitute .ensures)
+move-words-requires c κs = tail-fits (c .before .before .before .before .before .before .before .before .before .before .before .before .pre) (c .before .before .before .before .before .substitute .ensures .0)
 
 -- src/lib.rt:64:5
 copy-requires : tie.Need-copy-requires
-copy-requires c κs = back-fits (c .before .before .before .before .before .before .before .before .before .before .before .before .before .before .before .before .before .pre) (c .before .before .before .before .before .before .before .before .before .before .substitute .ensures) (c .before .before .before .before .move-words .ensures)
+copy-requires c κs = back-fits (c .before .before .before .before .before .before .before .before .before .before .before .before .before .before .before .before .before .pre) (c .before .before .before .before .before .before .before .before .before .before .substitute .ensures .0) (c .before .before .before .before .move-words .ensures)
 
 -- src/lib.rt:51:1
 same-length : tie.Need-same-length
@@ -42,7 +42,7 @@ same-length-3 c = search needs
 
 -- src/lib.rt:51:1
 returns : tie.Need-returns
-returns c = contracted (c .before .before .before .before .before .before .before .before .before .before .before .before .before .before .before .before .before .before .before .before .pre) (c .before .before .before .before .before .before .before .before .before .before .before .before .before .substitute .ensures) (c .before .before .before .before .before .before .before .move-words .ensures) (c .before .before .copy .ensures)
+returns c = contracted (c .before .before .before .before .before .before .before .before .before .before .before .before .before .before .before .before .before .before .before .before .pre) (c .before .before .before .before .before .before .before .before .before .before .before .before .before .substitute .ensures .0) (c .before .before .before .before .before .before .before .move-words .ensures) (c .before .before .copy .ensures)
 
 pub contract-spec : {M : Type 1} → statement M
 contract-spec =

@@ -1,6 +1,6 @@
 -- `raise` meets its contract: a term that no binders are crossed for is copied as it is.
 use Prim.Native.Nat.{_-_, _≤_}
-use mathlib.Core.Path.{_≡_, sym, _∙_, ap}
+use mathlib.Core.Path.{_≡_, refl, sym, _∙_, ap}
 use native.Mathlib.Omega.{arith}
 use borrow.Author.Needs.{needs}
 use lib.IntN.{pos}
@@ -13,6 +13,7 @@ use Rattle.calculus.specs.Words.{words, size}
 use Rattle.calculus.specs.First.{firstTerm}
 use Rattle.calculus.proofs.SizeLaws.{size-shift}
 use Rattle.calculus.proofs.Substitution.{shift-zero}
+use Rattle.words.proofs.RoomLaws.{room-of-length}
 use Rattle.substitution.specs.Results.{shifted}
 use Rattle.substitution.proofs.ItemLaws.{Item, item-size, item-words, item-within}
 use Rattle.substitution.proofs.RewritingLaws.{placed-as}
@@ -37,7 +38,10 @@ same-length-2 : tie.Need-same-length-2
 same-length-2 c = search needs
 
 returns : tie.Need-returns
-returns c = placed-as (ap (λ z. words (shifted (c .before .before .before .before .before .before .before .before .before .before .before .before .args .src .now) (c .before .before .before .before .before .before .before .before .before .before .before .before .args .at) z)) (distance (c .before .before .before .before .before .before .before))) (c .before .before .before .before .shift .ensures)
+returns c =
+    let s = c .before .before .before .before .before .before .before .before .before .before .before .before in
+    let e = c .before .before .before .before .shift .ensures in
+    (placed-as (ap (λ z. words (shifted (s .args .src .now) (s .args .at) z)) (distance (c .before .before .before .before .before .before .before))) (e .0), e .1)
 
 -- The term as it is.
 module _ (s : tie.Start) where
@@ -67,7 +71,8 @@ same-length-3 : tie.Need-same-length-3
 same-length-3 c = search needs
 
 returns-2 : tie.Need-returns-2
-returns-2 c = placed-as (unmoved (c .before .before .before .before .before .before .before .before) (c .before .before .before .before .if1 .left)) (c .before .before .copy .ensures)
+returns-2 c =
+    (placed-as (unmoved (c .before .before .before .before .before .before .before .before) (c .before .before .before .before .if1 .left)) (c .before .before .copy .ensures), room-of-length refl)
 
 pub raise-spec : {M : Type 1} → statement M
 raise-spec =

@@ -5,21 +5,21 @@ use native.Mathlib.Omega.{arith}
 use borrow.Author.Needs.{needs}
 use lib.ListN.{length, length-set}
 use Rattle.calculus.specs.Accepted.{argumentLimit}
-use Rattle.substitution.proofs.StartLaws.{Placed, placed-first, placed-next, placed-last}
+use Rattle.substitution.proofs.StartLaws.{Offsets, offsets-first, offsets-next, offsets-last}
 use Rattle.substitution.proofs.starts.Statement.{statement}
 use Rattle.substitution.proofs.starts.Tie as tie
 
 abbrev Inv-loop : tie.InvT-loop
-Inv-loop src args after n starts₀ j₀ starts j = (length starts ≡ suc argumentLimit) × (j ≤ n) × Placed src args starts j
+Inv-loop src args after count starts₀ j₀ starts j = (length starts ≡ suc argumentLimit) × (j ≤ count) × Offsets src args starts j
 
 abbrev μ-loop : tie.MeasureT-loop
-μ-loop src args after n starts₀ j₀ starts j = n - j
+μ-loop src args after count starts₀ j₀ starts j = count - j
 
 array-write-starts : tie.Need-array-write-starts Inv-loop μ-loop
 array-write-starts c = omega arith
 
 loop-holds : tie.Need-loop-holds Inv-loop μ-loop
-loop-holds c = (refl, omega arith, placed-first (c .before .args .src .now) (c .before .args .args) _ refl)
+loop-holds c = (refl, omega arith, offsets-first (c .before .args .src .now) (c .before .args .args) _ refl)
 
 add-loop : tie.Need-add-loop Inv-loop μ-loop
 add-loop c = omega arith
@@ -54,7 +54,7 @@ loop-again c =
     let s = c .before .before .before .before in (
       simp length-set (l .inv .0),
       omega arith,
-      placed-next (s .args .src .now) (s .args .args) (l .starts) (l .j) (c .extent .result) (omega arith) (l .inv .2) (c .extent .ensures),
+      offsets-next (s .args .src .now) (s .args .args) (l .starts) (l .j) (c .extent .result) (omega arith) (l .inv .2) (c .extent .ensures),
     )
 
 mul-starts-2 : tie.Need-mul-starts-2 Inv-loop μ-loop
@@ -67,7 +67,7 @@ returns : tie.Need-returns Inv-loop μ-loop
 returns c after-is =
     let l = c .before .loop in
     let s = c .before .before .before in
-    placed-last (s .args .src .now) (s .args .args) (l .starts) (l .j) (s .args .n) (s .args .after) (omega arith) (omega arith) (l .inv .2) after-is .placed
+    offsets-last (s .args .src .now) (s .args .args) (l .starts) (l .j) (s .args .count) (s .args .after) (omega arith) (omega arith) (l .inv .2) after-is .offsets
 
 pub starts-spec : {M : Type 1} → statement M
 starts-spec =

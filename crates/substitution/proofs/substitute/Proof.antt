@@ -13,22 +13,23 @@ use Rattle.calculus.specs.Term.{Terms}
 use Rattle.calculus.specs.Words.{workspaceMost, countBase, words}
 use Rattle.calculus.specs.Accepted.{argumentLimit}
 use Rattle.calculus.specs.First.{firstTerms}
+use Rattle.words.proofs.RoomLaws.{room-of-length}
 use Rattle.substitution.specs.Rewritten.{shifting, substituting, rewritten, place}
 use Rattle.substitution.specs.Results.{shifted}
 use Rattle.substitution.proofs.Walking.{walking-depth, walking-number, walking-enters, walking-free}
 use Rattle.substitution.proofs.RewritingLaws.{placed-as, Rewriting, rewriting-start, rewriting-some, rewriting-within, rewriting-room, rewriting-lent, rewriting-next, rewriting-done}
-use Rattle.substitution.proofs.StartLaws.{Placed}
+use Rattle.substitution.proofs.StartLaws.{Offsets}
 use Rattle.substitution.proofs.ArgumentLaws.{rewritten-body, movable-body}
 use Rattle.substitution.proofs.Chosen.{chosen-shiftable, chosen-words, chosen-end, chosen-part}
 use Rattle.substitution.proofs.substitute.Statement.{statement}
 use Rattle.substitution.proofs.substitute.Tie as tie
 
 abbrev Inv-loop : tie.InvT-loop
-Inv-loop src body stop args after n dst₀ out room₀ starts lowered o₀ i₀ at₀ dst room o i at =
-    Rewriting (substituting (firstTerms n (drop args src))) src body stop dst₀ out room₀ dst room o i (at .pending) (at .depth) (at .top)
+Inv-loop src body stop args after count dst₀ out room₀ starts lowered next₀ i₀ at₀ dst room next i at =
+    Rewriting (substituting (firstTerms count (drop args src))) src body stop dst₀ out room₀ dst room next i (at .pending) (at .depth) (at .top)
 
 abbrev μ-loop : tie.MeasureT-loop
-μ-loop src body stop args after n dst₀ out room₀ starts lowered o₀ i₀ at₀ dst room o i at = stop - i
+μ-loop src body stop args after count dst₀ out room₀ starts lowered next₀ i₀ at₀ dst room next i at = stop - i
 
 starts-requires : tie.Need-starts-requires Inv-loop μ-loop
 starts-requires c κs = let p = c .before .before .before .pre .0 in (p .substitutable .short, p .substitutable .few)
@@ -53,7 +54,7 @@ module _ (c : tie.In-loop Inv-loop μ-loop) where
   src = start .args .src .now
 
   abbrev xs : Terms
-  xs = firstTerms (start .args .n) (drop (start .args .args) src)
+  xs = firstTerms (start .args .count) (drop (start .args .args) src)
 
   abbrev depth : ℕ
   depth = c .before .loop .at .depth
@@ -70,14 +71,14 @@ module _ (c : tie.In-loop Inv-loop μ-loop) where
   few-binders : depth ≤ countBase * workspaceMost
   few-binders = omega (arith, walking-depth (c .before .loop .inv .walking) some)
 
-  room-left : c .before .loop .o + length (rewritten (substituting xs) depth word) ≤ length (c .before .loop .dst)
+  room-left : c .before .loop .next + length (rewritten (substituting xs) depth word) ≤ length (c .before .loop .dst)
   room-left = omega (arith, rewriting-room (c .before .loop .inv) (c .loop-test .taken), start .pre .1, c .before .loop .inv .kept)
 
-mul-w : tie.Need-mul-w Inv-loop μ-loop
-mul-w c = omega (arith, inside c)
+mul-t23 : tie.Need-mul-t23 Inv-loop μ-loop
+mul-t23 c = omega (arith, inside c)
 
-shared-slice-read-w : tie.Need-shared-slice-read-w Inv-loop μ-loop
-shared-slice-read-w c = inside (c .before) .0
+shared-slice-read-t25 : tie.Need-shared-slice-read-t25 Inv-loop μ-loop
+shared-slice-read-t25 c = inside (c .before) .0
 
 argument-requires : tie.Need-argument-requires Inv-loop μ-loop
 argument-requires c κs = omega (arith, few-binders (c .before))
@@ -87,12 +88,12 @@ few-arguments c = omega (arith, start (c .before .before .before) .pre .0 .subst
 
 -- An argument stands for the word, so where the arguments end was told.
 placed : (c : tie.Then1 Inv-loop μ-loop)
-    → let t = c .before .before .before in Placed (src t) (start t .args .args) (t .before .before .before .starts .result) (start t .args .n)
+    → let t = c .before .before .before in Offsets (src t) (start t .args .args) (t .before .before .before .starts .result) (start t .args .count)
 placed c =
     let t = c .before .before .before in
     let v = t .before .loop .inv in
     record {
-      placed =
+      offsets =
           t .before .before .before .starts .ensures
           (start t .pre .0 .after-is (t .before .loop .i) (inside t .2) (t .loop-test .taken)
           (rw (walking-number (v .walking) (some t), ← c .before .argument .ensures) (c .if1 .taken)));
@@ -165,13 +166,15 @@ module _ (c : tie.After-raise Inv-loop μ-loop) where
   raised-length : length raised ≡ top
   raised-length = c .raise .kept .1 .1 .1 .1 .1 .1 .0 ∙ length-take-le top (turn .before .loop .room) (turn .before .loop .inv .walking .stands .within)
 
-  lent : Rewriting (substituting (xs turn)) (src turn) (start turn .args .body) (start turn .args .stop) (start turn .args .dst .now) (start turn .args .out) (start turn .args .room .now) (turn .before .loop .dst) (raised ++ drop top (turn .before .loop .room)) (turn .before .loop .o) (turn .before .loop .i) (turn .before .loop .at .pending) (depth turn) top
+  lent : Rewriting (substituting (xs turn)) (src turn) (start turn .args .body) (start turn .args .stop) (start turn .args .dst .now) (start turn .args .out) (start turn .args .room .now) (turn .before .loop .dst) (raised ++ drop top (turn .before .loop .room)) (turn .before .loop .next) (turn .before .loop .i) (turn .before .loop .at .pending) (depth turn) top
   lent =
       rewriting-lent (turn .before .loop .inv) (length-front (turn .before .loop .room) raised top (c .raise .kept .1 .1 .1 .1 .1 .1 .0))
       (drop-at raised (drop top (turn .before .loop .room)) top raised-length)
 
 enter-requires : tie.Need-enter-requires Inv-loop μ-loop
-enter-requires c κs = walking-enters (lent (c .before .before .before .before .before) .walking) (some (c .before .before .before .before .before .before .before .before .before .before .before))
+enter-requires c κs =
+    let t = turn (c .before .before .before .before .before) in
+    walking-enters (lent (c .before .before .before .before .before) .walking) (some t) (c .before .before .before .before .before .before .before .before .before .before .shared-slice-known2 .given (t .before .loop .i) .fits)
 
 add-i : tie.Need-add-i Inv-loop μ-loop
 add-i c = omega arith
@@ -181,35 +184,35 @@ loop-less c = omega arith
 
 loop-again : tie.Need-loop-again Inv-loop μ-loop
 loop-again c =
-    rewriting-next (lent (c .before .before .before .before .before .before .before .before)) (c .before .before .before .before .before .before .before .before .before .before .before .before .before .before .loop-test .taken) (placed-as (argument-words (c .before .before .before .before .before .before .before .before .before .before .before)) (c .before .before .before .before .before .before .before .before .raise .ensures)) (c .before .before .enter .ensures) (c .before .before .enter .kept .1 .1 .0)
+    rewriting-next (lent (c .before .before .before .before .before .before .before .before)) (c .before .before .before .before .before .before .before .before .before .before .before .before .before .before .loop-test .taken) (placed-as (argument-words (c .before .before .before .before .before .before .before .before .before .before .before)) (c .before .before .before .before .before .before .before .before .raise .ensures .0)) (c .before .before .enter .ensures) (c .before .before .enter .kept .1 .1 .0)
 
 -- No argument stands for the word.
 module _ (c : tie.Else1 Inv-loop μ-loop) where
   abbrev t : tie.In-loop Inv-loop μ-loop
   t = c .before .before .before
 
-  distance : toZ w32 (ofZ w32 (c .before .before .before .before .before .down .result)) ≡ negℤ (pos (start t .args .n))
+  distance : toZ w32 (ofZ w32 (c .before .before .before .before .before .down .result)) ≡ negℤ (pos (start t .args .count))
   distance = toZ-ofZ w32 (c .before .before .before .before .before .down .result) (record { sfits = c .before .before .before .before .before .down .ok }) ∙ c .before .before .before .before .before .down .ensures
 
-  none-stands : start t .args .n ≤ place (start t .args .n) (depth t) (word t)
+  none-stands : start t .args .count ≤ place (start t .args .count) (depth t) (word t)
   none-stands = omega (arith, c .before .argument .ensures, c .if1 .left)
 
 shift-word-requires : tie.Need-shift-word-requires Inv-loop μ-loop
 shift-word-requires c κs =
     rw (distance c)
-    (movable-body (start (t c) .args .n) (depth (t c)) (word (t c)) (none-stands c) (c .before .before .shared-slice-known2 .given (c .before .before .before .before .loop .i) .fits))
+    (movable-body (start (t c) .args .count) (depth (t c)) (word (t c)) (none-stands c) (c .before .before .shared-slice-known2 .given (c .before .before .before .before .loop .i) .fits))
 
 module _ (c : tie.After-shift-word Inv-loop μ-loop) where
   abbrev u : tie.In-loop Inv-loop μ-loop
   u = t (c .before)
 
-  one-word : rewritten (substituting (xs u)) (depth u) (word u) ≡ c .shift-word .result ∷ []
+  one-word : rewritten (substituting (xs u)) (depth u) (word u) ≡ c .shift-word .result .0 ∷ []
   one-word =
-      rewritten-body (start u .args .n) (depth u) (word u) (none-stands (c .before)) (xs u) (start u .pre .0 .substitutable .args-count)
+      rewritten-body (start u .args .count) (depth u) (word u) (none-stands (c .before)) (xs u) (start u .pre .0 .substitutable .args-count)
       ∙ ap (λ z. rewritten (shifting z) (depth u) (word u)) (sym (distance (c .before)))
       ∙ c .shift-word .ensures
 
-  room-here : u .before .loop .o < length (u .before .loop .dst)
+  room-here : u .before .loop .next < length (u .before .loop .dst)
   room-here = omega (arith, room-left u, ap length one-word)
 
 mul-dst : tie.Need-mul-dst Inv-loop μ-loop
@@ -219,13 +222,15 @@ slice-write-dst : tie.Need-slice-write-dst Inv-loop μ-loop
 slice-write-dst c = room-here c
 
 enter-requires-2 : tie.Need-enter-requires-2 Inv-loop μ-loop
-enter-requires-2 c κs = walking-enters (c .before .before .before .before .before .before .loop .inv .walking) (some (c .before .before .before .before .before))
+enter-requires-2 c κs =
+    let t = c .before .before .before .before .before in
+    walking-enters (t .before .loop .inv .walking) (some t) (c .before .before .before .before .shared-slice-known2 .given (t .before .loop .i) .fits)
 
 add-i-2 : tie.Need-add-i-2 Inv-loop μ-loop
 add-i-2 c = omega arith
 
-add-o : tie.Need-add-o Inv-loop μ-loop
-add-o c = omega (arith, room-here (c .before .before .before .before), u (c .before .before .before .before) .before .loop .inv .kept, start (u (c .before .before .before .before)) .good .1 .1 .1 .1 .1 .1 .0 .1)
+add-next : tie.Need-add-next Inv-loop μ-loop
+add-next c = omega (arith, room-here (c .before .before .before .before), u (c .before .before .before .before) .before .loop .inv .kept, start (u (c .before .before .before .before)) .good .1 .1 .1 .1 .1 .1 .0 .1)
 
 loop-less-2 : tie.Need-loop-less-2 Inv-loop μ-loop
 loop-less-2 c = omega arith
@@ -241,7 +246,9 @@ same-length-2 : tie.Need-same-length-2 Inv-loop μ-loop
 same-length-2 c = c .before .loop .inv .walking .same-length
 
 returns : tie.Need-returns Inv-loop μ-loop
-returns c = rewriting-done (c .before .loop .inv) (c .loop-test .left)
+returns c =
+    let v = c .before .loop .inv in
+    (rewriting-done v (c .loop-test .left), room-of-length (v .walking .same-length))
 
 pub substitute-spec : {M : Type 1} → statement M
 substitute-spec =
@@ -253,8 +260,8 @@ substitute-spec =
     cast-down
     down-requires
     loop-holds
-    mul-w
-    shared-slice-read-w
+    mul-t23
+    shared-slice-read-t25
     argument-requires
     mul-raise
     array-read-raise
@@ -273,7 +280,7 @@ substitute-spec =
     slice-write-dst
     enter-requires-2
     add-i-2
-    add-o
+    add-next
     loop-less-2
     loop-again-2
     same-length

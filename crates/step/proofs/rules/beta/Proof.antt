@@ -33,7 +33,7 @@ array-read-times c = search needs
 argument-end-requires : tie.Need-argument-end-requires
 argument-end-requires c κs =
     let s = c .before .before .before .before .before .before .before in
-    let m = c .before .before .before .measure .ensures in
+    let m = c .before .before .before .measure .ensures .0 in
     let d = drop (s .args .at + 2) (s .args .ws .now) in
     (s .pre .place .holds .limit, omega (arith, m .ends), omega (arith, m .ends, span-bounded 1 d, length-drop (s .args .at + 2) (s .args .ws .now), s .pre .further))
 
@@ -68,7 +68,7 @@ module _ (c : tie.After-argument-end) where
   times = getD (c .before .before .before .before .measure .result .occurs) 0 0
 
   measures : Measures ws body 1 args (c .before .before .before .before .measure .result .last) (c .before .before .before .before .measure .result .occurs)
-  measures = c .before .before .before .before .measure .ensures
+  measures = c .before .before .before .before .measure .ensures .0
 
   found : parts (s .args .at) (drop (s .args .at) ws) ≡ parted body args 1
   found = applied-parts (s .pre) ∙ ap (λ a. parted body a 1) (sym (measures .ends))

@@ -25,7 +25,7 @@ short : (s : tie.Start) → s .args .n ≤ workspaceMost
 short s = length-short (redex-found (s .pre .parted-is .place) (s .pre .parted-is .parts-are))
 
 substituted-length-requires : tie.Need-substituted-length-requires
-substituted-length-requires c κs = ((contraction (c .before .before .before .before .before .before .before) .substitutable, c .before .before .before .before .before .before .before .pre .after-is), c .before .before .before .measure .ensures)
+substituted-length-requires c κs = ((contraction (c .before .before .before .before .before .before .before) .substitutable, c .before .before .before .before .before .before .before .pre .after-is), c .before .before .before .measure .ensures .0)
 
 add-length : tie.Need-add-length
 add-length c = omega (arith, contraction (c .before .before .before .before .before .before .before .before) .short, c .substituted-length .ensures, c .before .before .before .before .before .before .before .before .pre .parted-is .place .within, short (c .before .before .before .before .before .before .before .before))
@@ -43,7 +43,7 @@ returns : tie.Need-returns
 returns c =
     let s = c .before .before .before .before .before .before .before .before in
     let p = s .pre .parted-is in
-    (plans (p .place) (p .parts-are) (c .before .before .before .before .measure .ensures .ends) (s .pre .after-is) (c .before .skip .ensures ∙ sym (s .pre .end-is)) (rw (c .substituted-length .ensures)), refl)
+    (plans (p .place) (p .parts-are) (c .before .before .before .before .measure .ensures .0 .ends) (s .pre .after-is) (c .before .skip .ensures ∙ sym (s .pre .end-is)) (rw (c .substituted-length .ensures)), refl)
 
 pub selected-spec : {M : Type 1} → statement M
 selected-spec =

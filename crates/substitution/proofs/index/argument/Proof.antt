@@ -30,10 +30,10 @@ module _ (c : tie.After-down) where
   abbrev start : tie.Start
   start = c .before .before .before .before .before
 
-  variable : kindOf (start .args .w) ≡ variableKind
+  variable : kindOf (start .args .word .0) ≡ variableKind
   variable = sym (c .before .before .before .kind .ensures) ∙ c .before .before .if1 .taken
 
-  free : start .args .depth ≤ payloadOf (start .args .w)
+  free : start .args .depth ≤ payloadOf (start .args .word .0)
   free = rw (c .before .before .before .before .payload .ensures) at (c .before .if2 .taken)
 
   distance : toZ w32 (ofZ w32 (c .down .result)) ≡ negℤ (pos (start .args .depth))
@@ -42,16 +42,16 @@ module _ (c : tie.After-down) where
 moved-requires : tie.Need-moved-requires
 moved-requires c κs =
     subst₂ Moves (sym (distance c)) (sym (c .before .before .before .before .payload .ensures))
-    (moves-down (start c .args .depth) (payloadOf (start c .args .w)) (free c) (omega (arith, start c .fits .w .fits)))
+    (moves-down (start c .args .depth) (payloadOf (start c .args .word .0)) (free c) (omega (arith, start c .good .0)))
 
 cast-k : tie.Need-cast-k
 cast-k c = search needs
 
-counted : (c : tie.After-moved) → c .moved .result ≡ payloadOf (start (c .before) .args .w) - start (c .before) .args .depth
+counted : (c : tie.After-moved) → c .moved .result ≡ payloadOf (start (c .before) .args .word .0) - start (c .before) .args .depth
 counted c =
     c .moved .ensures
     ∙ ap₂ move (distance (c .before)) (c .before .before .before .before .before .payload .ensures)
-    ∙ move-down (start (c .before) .args .depth) (payloadOf (start (c .before) .args .w))
+    ∙ move-down (start (c .before) .args .depth) (payloadOf (start (c .before) .args .word .0))
 
 sub-result : tie.Need-sub-result
 sub-result c = search needs
@@ -63,25 +63,25 @@ returns : tie.Need-returns
 returns c =
     let d = c .before .before in
     let a = start d .args in
-    ap (λ k. a .n - 1 - k) (counted (c .before)) ∙ sym (place-argument (a .n) (a .depth) (a .w) (variable d) (free d) (omega (arith, counted (c .before))))
+    ap (λ k. a .count - 1 - k) (counted (c .before)) ∙ sym (place-argument (a .count) (a .depth) (a .word .0) (variable d) (free d) (omega (arith, counted (c .before))))
 
 returns-2 : tie.Need-returns-2
 returns-2 c =
     let d = c .before .before in
     let a = start d .args in
-    sym (place-past (a .n) (a .depth) (a .w) (variable d) (free d) (omega (arith, counted (c .before))))
+    sym (place-past (a .count) (a .depth) (a .word .0) (variable d) (free d) (omega (arith, counted (c .before))))
 
 returns-3 : tie.Need-returns-3
 returns-3 c =
     let a = c .before .before .before .before .args in
-    sym (place-bound (a .n) (a .depth) (a .w)
+    sym (place-bound (a .count) (a .depth) (a .word .0)
     (sym (c .before .before .kind .ensures) ∙ c .before .if1 .taken)
     (rw (c .before .before .before .payload .ensures) at (c .if2 .left)))
 
 returns-4 : tie.Need-returns-4
 returns-4 c =
     let a = c .before .before .before .args in
-    sym (place-other (a .n) (a .depth) (a .w) (λ q. c .if1 .left (c .before .kind .ensures ∙ q)))
+    sym (place-other (a .count) (a .depth) (a .word .0) (λ q. c .if1 .left (c .before .kind .ensures ∙ q)))
 
 pub argument-spec : {M : Type 1} → statement M
 argument-spec =

@@ -25,13 +25,13 @@ module _ (c : tie.Then2) where
   abbrev start : tie.Start
   start = c .before .before .before .before
 
-  variable : kindOf (start .args .w) ≡ variableKind
+  variable : kindOf (start .args .word .0) ≡ variableKind
   variable = sym (c .before .before .kind .ensures) ∙ c .before .if1 .taken
 
-  free : start .args .depth ≤ payloadOf (start .args .w)
+  free : start .args .depth ≤ payloadOf (start .args .word .0)
   free = rw (c .before .before .before .payload .ensures) at (c .if2 .taken)
 
-  same : move (toZ w32 (ofZ w32 (start .args .distance))) (c .before .before .before .payload .result) ≡ move (start .args .distance) (payloadOf (start .args .w))
+  same : move (toZ w32 (ofZ w32 (start .args .distance))) (c .before .before .before .payload .result) ≡ move (start .args .distance) (payloadOf (start .args .word .0))
   same = ap₂ move (toZ-ofZ w32 (start .args .distance) (start .fits .distance)) (c .before .before .before .payload .ensures)
 
 moved-requires : tie.Need-moved-requires
@@ -45,20 +45,20 @@ new-requires c κs =
 returns : tie.Need-returns
 returns c =
     let t = c .before .before in
-    shifting-free (start t .args .distance) (start t .args .depth) (start t .args .w) (variable t) (free t)
+    shifting-free (start t .args .distance) (start t .args .depth) (start t .args .word .0) (variable t) (free t)
     ∙ ap (λ v. v ∷ []) (sym (c .new .ensures ∙ ap (word variableKind) (c .before .moved .ensures ∙ same t)))
 
 returns-2 : tie.Need-returns-2
 returns-2 c =
     let s = c .before .before .before .before in
-    shifting-bound (s .args .distance) (s .args .depth) (s .args .w)
+    shifting-bound (s .args .distance) (s .args .depth) (s .args .word .0)
     (sym (c .before .before .kind .ensures) ∙ c .before .if1 .taken)
     (rw (c .before .before .before .payload .ensures) at (c .if2 .left))
 
 returns-3 : tie.Need-returns-3
 returns-3 c =
     let s = c .before .before .before in
-    rewritten-other (shifting (s .args .distance)) (s .args .depth) (s .args .w) (λ q. c .if1 .left (c .before .kind .ensures ∙ q))
+    rewritten-other (shifting (s .args .distance)) (s .args .depth) (s .args .word .0) (λ q. c .if1 .left (c .before .kind .ensures ∙ q))
 
 pub shift-word-spec : {M : Type 1} → statement M
 shift-word-spec =

@@ -6,10 +6,10 @@ use Rattle.substitution.proofs.measure.substituted_length.Statement.{st
 use Rattle.substitution.proofs.measure.substituted_length.Tie as tie
 
 abbrev Inv-loop : tie.InvT-loop
-Inv-loop src body args after n occurs starts total₀ j₀ total j = Adding src body args n occurs starts total j
+Inv-loop src body args after count occurs starts total₀ j₀ total j = Adding src body args count occurs starts total j
 
 abbrev μ-loop : tie.MeasureT-loop
-μ-loop src body args after n occurs starts total₀ j₀ total j = n - j
+μ-loop src body args after count occurs starts total₀ j₀ total j = count - j
 
 starts-requires : tie.Need-starts-requires Inv-loop μ-loop
 starts-requires c κs = let p = c .before .before .pre .0 in (p .0 .short, p .0 .few)
@@ -18,13 +18,13 @@ sub-total : tie.Need-sub-total Inv-loop μ-loop
 sub-total c = omega (arith, c .before .before .before .before .pre .1 .ends)
 
 loop-holds : tie.Need-loop-holds Inv-loop μ-loop
-loop-holds c = adding-start (c .before .before .before .before .pre .0 .0) (record { placed = c .before .starts .ensures (c .before .before .before .before .pre .0 .1) }) (c .before .before .before .before .pre .1)
+loop-holds c = adding-start (c .before .before .before .before .pre .0 .0) (record { offsets = c .before .starts .ensures (c .before .before .before .before .pre .0 .1) }) (c .before .before .before .before .pre .1)
 
-mul-o : tie.Need-mul-o Inv-loop μ-loop
-mul-o c = omega (arith, c .before .loop .inv .needs .few)
+mul-times : tie.Need-mul-times Inv-loop μ-loop
+mul-times c = omega (arith, c .before .loop .inv .needs .few)
 
-array-read-o : tie.Need-array-read-o Inv-loop μ-loop
-array-read-o c = omega (arith, c .before .loop .inv .needs .few)
+array-read-times : tie.Need-array-read-times Inv-loop μ-loop
+array-read-times c = omega (arith, c .before .loop .inv .needs .few)
 
 sub-total-2 : tie.Need-sub-total-2 Inv-loop μ-loop
 sub-total-2 c = taken (c .before .loop .inv) (c .loop-test .taken) .0
@@ -74,8 +74,8 @@ substituted-length-spec =
     starts-requires
     sub-total
     loop-holds
-    mul-o
-    array-read-o
+    mul-times
+    array-read-times
     sub-total-2
     add-total
     mul-total

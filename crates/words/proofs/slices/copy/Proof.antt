@@ -6,10 +6,10 @@ use Rattle.words.proofs.slices.copy.Statement.{statement}
 use Rattle.words.proofs.slices.copy.Tie as tie
 
 abbrev Inv-loop : tie.InvT-loop
-Inv-loop src from to dst₀ out i₀ o₀ dst i o = Copying src from to dst₀ out dst i o
+Inv-loop src from to dst₀ out i₀ next₀ dst i next = Copying src from to dst₀ out dst i next
 
 abbrev μ-loop : tie.MeasureT-loop
-μ-loop src from to dst₀ out i₀ o₀ dst i o = to - i
+μ-loop src from to dst₀ out i₀ next₀ dst i next = to - i
 
 loop-holds : tie.Need-loop-holds Inv-loop μ-loop
 loop-holds c = copying-starts (c .pre)
@@ -29,8 +29,8 @@ slice-write-dst c = omega arith
 add-i : tie.Need-add-i Inv-loop μ-loop
 add-i c = omega arith
 
-add-o : tie.Need-add-o Inv-loop μ-loop
-add-o c = omega arith
+add-next : tie.Need-add-next Inv-loop μ-loop
+add-next c = omega arith
 
 loop-less : tie.Need-loop-less Inv-loop μ-loop
 loop-less c = omega arith
@@ -56,7 +56,7 @@ copy-spec =
     mul-dst-2
     slice-write-dst
     add-i
-    add-o
+    add-next
     loop-less
     loop-again
     same-length
