@@ -1,8 +1,9 @@
 // Refusal 5: the children of every record, and the root.
+use crate::every::Question;
+use crate::every::every;
 use crate::records::Declared;
 use crate::records::Form;
 use crate::records::Record;
-use crate::records::count;
 use crate::records::root;
 use words::Word;
 ghost use mathlib.Core.Path.{_≡_};
@@ -112,7 +113,7 @@ fn agrees(declared: Declared, number: usize) -> bool
 }
 
 // Whether record i has the children that it declares and that its kind wants.
-fn record_fits(table: &[u32], form: Form, i: usize) -> bool
+pub fn record_fits(table: &[u32], form: Form, i: usize) -> bool
     requires { ⌜ Walkable (stored form (now table)) i × (1 ≤ i) ⌝ }
     ensures { λ r. ⌜ r ≡ recordFits (viewed form (now (table .entry))) i ⌝ }
 {
@@ -134,13 +135,8 @@ pub fn wrong_children(table: &[u32], form: Form) -> bool
     requires { ⌜ Walkable (stored form (now table)) (viewed form (now table) .root) × (1 ≤ viewed form (now table) .root) ⌝ }
     ensures { λ r. ⌜ r ≡ wrongChildren (viewed form (now (table .entry))) ⌝ }
 {
-    let n = count(table);
-    let mut i = 0;
-    while i < n {
-        i += 1;
-        if !record_fits(table, form, i) {
-            return true;
-        }
+    if !every(table, form, Question::Children) {
+        return true;
     }
     let top = Record::at(table, form, root(table));
     top.kind == Word::BRANCH || top.next != 0
