@@ -1,7 +1,7 @@
 -- The number of records that hang at a link: the record that it names, all that belongs to it, and its later siblings with theirs. Where links name
 -- later records and every record is named once, all records hang at the root.
 use Prim.Native.Nat.{ℕ, suc, _+_, _*_, _≤_}
-use mathlib.Core.Path.{_≡_, refl, ap, ap₂, sym, _∙_}
+use mathlib.Core.Path.{_≡_, ap, ap₂, sym, _∙_}
 use mathlib.Core.List.{[]}
 use mathlib.Core.Logic.{_⊎_, inl, inr}
 use native.Mathlib.Nat.{one-mul, add-mul}

@@ -1,9 +1,9 @@
 -- The plain kinds, those of records that are no case and no branch: for each law one line a kind. Elsewhere a plain record is a `Node`.
 use Prim.Native.Nat.{ℕ, zero, suc, _+_, _≤_, _<_}
-use mathlib.Core.Path.{_≡_, refl, ap, sym}
+use mathlib.Core.Path.{_≡_, refl, ap}
 use mathlib.Core.Bool.{true, and-eq-true-iff}
-use mathlib.Core.List.{[], _∷_, append-nil}
-use mathlib.Core.Option.{Option, some, Option·map}
+use mathlib.Core.List.{_∷_, append-nil}
+use mathlib.Core.Option.{some, Option·map}
 use native.Mathlib.Omega.{arith}
 use lib.Dec.{leb}
 use lib.ListN.{length}

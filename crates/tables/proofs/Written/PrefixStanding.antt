@@ -1,11 +1,11 @@
 -- Where the records of a table are in prefix order, those that a meaning is read from are the records of what is meant, where they stand.
 use Prim.Native.Nat.{ℕ, suc, _+_, _≤_}
 use mathlib.Core.Path.{_≡_, refl, sym, _∙_}
-use mathlib.Core.List.{[], _++_, append-nil}
+use mathlib.Core.List.{[], append-nil}
 use mathlib.Core.Logic.{_⊎_, inl, inr}
 use native.Mathlib.Omega.{arith}
 use lib.ListN.{length-append}
-use Rattle.calculus.specs.Term.{Sort, term, terms, branches, Exp, nil, cons, Term}
+use Rattle.calculus.specs.Term.{Sort, term, terms, branches, Exp, nil, Term}
 use Rattle.calculus.specs.Words.{words, size, branchKind, pack, tagOf, countOf}
 use Rattle.calculus.proofs.WordLaws.{pack-of-parts}
 use Rattle.tables.specs.Records.{Table}

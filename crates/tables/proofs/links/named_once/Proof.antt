@@ -1,5 +1,5 @@
 -- `named_once` meets its contract: the counts are those of the definition.
-use Prim.Native.Nat.{ℕ, _+_}
+use Prim.Native.Nat.{_+_}
 use mathlib.Core.Path.{_≡_, refl, ap, _∙_}
 use lib.Dec.{eqb}
 use lib.ListN.{replicate}

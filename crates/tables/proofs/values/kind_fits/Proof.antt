@@ -8,12 +8,6 @@ use Rattle.tables.proofs.values.kind_fits.Tie as tie
 returns : tie.Need-returns
 returns c = rw (lt-leb _ _ (c .if1 .taken))
 
-is-tag-requires : tie.Need-is-tag-requires
-is-tag-requires c κs = search needs
-
-is-tagged-requires : tie.Need-is-tagged-requires
-is-tagged-requires c κs = search needs
-
 returns-2 : tie.Need-returns-2
 unfolding valueFits
 returns-2 c = rw (c .match .keys1)
@@ -34,4 +28,4 @@ returns-5 c =
 
 pub kind-fits-spec : {M : Type 1} → statement M
 kind-fits-spec =
-    tie.close (tie.spec returns is-tag-requires is-tagged-requires returns-2 returns-3 returns-4 returns-5)
+    tie.close (tie.spec returns (λ c κs. search needs) (λ c κs. search needs) returns-2 returns-3 returns-4 returns-5)
