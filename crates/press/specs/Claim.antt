@@ -35,7 +35,7 @@ pub data Reply : Type 0 where
 
 abbrev pub replyOf : Answer → Reply
 replyOf (refused why) = refuses why
-replyOf (shown a) = spends (a .spent)
+replyOf (shown what) = spends (what .spent)
 
 -- Where a list of calls stands: the session's total and the two current terms, whose lengths are those last returned.
 pub record Progress : Type 0 where
@@ -46,70 +46,74 @@ pub record Progress : Type 0 where
 -- For workspaces of C words: refusals 7 and 9 by the table, 10 for lengths other than those last returned (until then those of the first terms);
 -- otherwise what the rounds spend.
 abbrev pub replyTo : (C : ℕ) → Progress → Call → Reply
-replyTo C s c =
-    cond (not (sized (C ∷ C ∷ length (c .scratch) ∷ []))) (refuses WrongWorkspace)
-    (cond (ltb budgetLimit (c .budget) || ltb totalLimit (s .total + c .budget)) (refuses OverBudget)
-    (cond (not (eqb (c .leftLength) (size (s .left))) || not (eqb (c .rightLength) (size (s .right)))) (refuses NoTerm)
-    (spends (rounds C (c .budget) (s .left) (s .right) .spent))))
+replyTo C here call =
+    cond (not (sized (C ∷ C ∷ length (call .scratch) ∷ []))) (refuses WrongWorkspace)
+    (cond (ltb budgetLimit (call .budget) || ltb totalLimit (here .total + call .budget)) (refuses OverBudget)
+    (cond (not (eqb (call .leftLength) (size (here .left))) || not (eqb (call .rightLength) (size (here .right)))) (refuses NoTerm)
+    (spends (rounds C (call .budget) (here .left) (here .right) .spent))))
 
 -- Where the list stands after a call with this reply, and the replies to a whole list.
 abbrev pub advance : (C : ℕ) → Progress → Call → Reply → Progress
-advance C s c (refuses why) = s
-advance C s c (spends p) =
+advance C here call (refuses why) = here
+advance C here call (spends spent) =
     record {
-      total = s .total + p;
-      left = rounds C (c .budget) (s .left) (s .right) .left;
-      right = rounds C (c .budget) (s .left) (s .right) .right;
+      total = here .total + spent;
+      left = rounds C (call .budget) (here .left) (here .right) .left;
+      right = rounds C (call .budget) (here .left) (here .right) .right;
     }
 
 abbrev pub repliesTo : (C : ℕ) → Progress → List Call → List Reply
-repliesTo C s [] = []
-repliesTo C s (c ∷ cs) = replyTo C s c ∷ repliesTo C (advance C s c (replyTo C s c)) cs
+repliesTo C here [] = []
+repliesTo C here (call ∷ calls) = replyTo C here call ∷ repliesTo C (advance C here call (replyTo C here call)) calls
 
 -- A refused press leaves all as it was; an unrefused one leaves the scratch all zeros.
 abbrev pub LeavesBy : Memory → Call → Pressed → Answer → Type 0
-LeavesBy m c p (refused why) =
-    (p .memory .left ≡ m .left) × (p .memory .right ≡ m .right) × (p .memory .session ≡ m .session) × (p .scratch ≡ c .scratch)
-LeavesBy m c p (shown a) = p .scratch ≡ replicate (length (c .scratch)) 0
+LeavesBy memory call pressed (refused why) =
+    (pressed .memory .left ≡ memory .left) × (pressed .memory .right ≡ memory .right) × (pressed .memory .session ≡ memory .session)
+    × (pressed .scratch ≡ call .scratch)
+LeavesBy memory call pressed (shown what) = pressed .scratch ≡ replicate (length (call .scratch)) 0
 
 abbrev pub EachLeaves : Memory → List Call → Type 0
-EachLeaves m [] = Unit {0}
-EachLeaves m (c ∷ cs) = LeavesBy m c (press m c) (press m c .answer) × EachLeaves (press m c .memory) cs
+EachLeaves memory [] = Unit {0}
+EachLeaves memory (call ∷ calls) =
+    LeavesBy memory call (press memory call) (press memory call .answer) × EachLeaves (press memory call .memory) calls
 
--- After the list all is as the rounds made in one go from the first terms give it: `o` is what they end in. What the last unrefused press itself
+-- After the list all is as the rounds made in one go from the first terms give it: `whole` is what they end in. What the last unrefused press itself
 -- spent is among the `replies`.
-pub record InOneGo (C : ℕ) (o : Outcome) (start end : Memory) (es : List (Call × Answer)) : Type 0 where
-  pub left-words : end .left ≡ words (o .left) ++ replicate (C - size (o .left)) 0
-  pub right-words : end .right ≡ words (o .right) ++ replicate (C - size (o .right)) 0
+pub record InOneGo (C : ℕ) (whole : Outcome) (start end : Memory) (entries : List (Call × Answer)) : Type 0 where
+  pub left-words : end .left ≡ words (whole .left) ++ replicate (C - size (whole .left)) 0
+  pub right-words : end .right ≡ words (whole .right) ++ replicate (C - size (whole .right)) 0
   pub last-spent : ℕ
-  pub last-shown : lastShown es ≡ some (withSpent last-spent (shows o))
-  pub session-total : end .session .total ≡ start .session .total + o .spent
-  pub session-left : end .session .left ≡ size (o .left)
-  pub session-right : end .session .right ≡ size (o .right)
-  pub session-verdict : end .session .verdict ≡ o .verdict
-  pub spent : spentIn es ≡ o .spent
+  pub last-shown : lastShown entries ≡ some (withSpent last-spent (shows whole))
+  pub session-total : end .session .total ≡ start .session .total + whole .spent
+  pub session-left : end .session .left ≡ size (whole .left)
+  pub session-right : end .session .right ≡ size (whole .right)
+  pub session-verdict : end .session .verdict ≡ whole .verdict
+  pub spent : spentIn entries ≡ whole .spent
 
 -- Every unrefused press shows this.
 abbrev pub Again : Shown → List (Call × Answer) → Type 0
-Again a [] = Unit {0}
-Again a (e ∷ es) = (((why : Refusal) × (e .1 ≡ refused why)) ⊎ (e .1 ≡ shown a)) × Again a es
+Again last [] = Unit {0}
+Again last (entry ∷ entries) = (((why : Refusal) × (entry .1 ≡ refused why)) ⊎ (entry .1 ≡ shown last)) × Again last entries
 
 -- The list's last unrefused press showed this.
 abbrev pub Ended : Memory → List Call → Shown → Type 0
-Ended m cs a = lastShown (history m cs) ≡ some a
+Ended start calls last = lastShown (history start calls) ≡ some last
 
 -- What a list spent in all, with what its last unrefused press showed besides.
 abbrev pub inAll : Memory → List Call → Shown → Shown
-inAll m cs a = withSpent (spentIn (history m cs)) a
+inAll start calls last = withSpent (spentIn (history start calls)) last
 
 -- Both workspaces start with the same terms, of the lengths that are shown.
 abbrev pub SameTerms : Shown → Memory → Memory → Type 0
-SameTerms a m n = (take (a .left) (m .left) ≡ take (a .left) (n .left)) × (take (a .right) (m .right) ≡ take (a .right) (n .right))
+SameTerms last one other =
+    (take (last .left) (one .left) ≡ take (last .left) (other .left)) × (take (last .right) (one .right) ≡ take (last .right) (other .right))
 
 pub record Claim (C : ℕ) (t u : Term) (start : Memory) (calls : List Call) : Type 0 where
   -- Which presses are refused, and what the others spend, follows from the calls alone.
   pub replies :
-      map (λ e. replyOf (e .1)) (history start calls) ≡ repliesTo C (record { total = start .session .total; left = t; right = u }) calls
+      map (λ entry. replyOf (entry .1)) (history start calls)
+      ≡ repliesTo C (record { total = start .session .total; left = t; right = u }) calls
   pub leaves : EachLeaves start calls
   -- If all are refused, all is as at the start.
   pub all-refused : budgetInOneGo (history start calls) ≡ none → final start calls ≡ start
@@ -117,24 +121,27 @@ pub record Claim (C : ℕ) (t u : Term) (start : Memory) (calls : List Call) : T
   pub in-one-go : (B : ℕ) → budgetInOneGo (history start calls) ≡ some B
       → InOneGo C (rounds C B t u) start (final start calls) (history start calls)
   -- After Same or Different every later unrefused press spends 0, gives it again and leaves all as it was.
-  pub stays : (a : Shown) → Ended start calls a → Decided (a .verdict)
-      → (later : List Call) → Again (withSpent 0 a) (history (final start calls) later) × (final (final start calls) later ≡ final start calls)
+  pub stays : (last : Shown) → Ended start calls last → Decided (last .verdict)
+      → (later : List Call)
+      → Again (withSpent 0 last) (history (final start calls) later) × (final (final start calls) later ≡ final start calls)
   -- An unrefused press on the first terms, with any session, at least that spent as budget and workspaces of at least C words, gives that
   -- verdict, that spent and the same terms.
-  pub on-first-terms : (a : Shown) → Ended start calls a → Decided (a .verdict)
-      → (C′ : ℕ) (m : Memory) (c : Call) → C ≤ C′ → Contains C′ t (m .left) → Contains C′ u (m .right) → spentIn (history start calls) ≤ c .budget
-      → (a′ : Shown) → press m c .answer ≡ shown a′ → (a′ ≡ inAll start calls a) × SameTerms a (press m c .memory) (final start calls)
+  pub on-first-terms : (last : Shown) → Ended start calls last → Decided (last .verdict)
+      → (C′ : ℕ) (memory : Memory) (call : Call) → C ≤ C′ → Contains C′ t (memory .left) → Contains C′ u (memory .right)
+      → spentIn (history start calls) ≤ call .budget
+      → (last′ : Shown) → press memory call .answer ≡ shown last′
+      → (last′ ≡ inAll start calls last) × SameTerms last (press memory call .memory) (final start calls)
   -- Two lists from the same first terms, whatever their budgets and their C, that each give Same or Different agree in verdict, spent and terms.
-  pub agree : (a : Shown) → Ended start calls a → Decided (a .verdict)
+  pub agree : (last : Shown) → Ended start calls last → Decided (last .verdict)
       → (C′ : ℕ) (start′ : Memory) (calls′ : List Call) → Contains C′ t (start′ .left) → Contains C′ u (start′ .right)
-      → (a′ : Shown) → Ended start′ calls′ a′ → Decided (a′ .verdict)
-      → (inAll start calls a ≡ inAll start′ calls′ a′) × SameTerms a (final start calls) (final start′ calls′)
+      → (last′ : Shown) → Ended start′ calls′ last′ → Decided (last′ .verdict)
+      → (inAll start calls last ≡ inAll start′ calls′ last′) × SameTerms last (final start calls) (final start′ calls′)
   -- Same: one term stands on both sides that contractions reach from each first term.
-  pub same : (a : Shown) → Ended start calls a → a .verdict ≡ Same
+  pub same : (last : Shown) → Ended start calls last → last .verdict ≡ Same
       → (w : Term) × Reaches t w × Reaches u w × (final start calls .left ≡ words w ++ replicate (C - size w) 0)
-      × (final start calls .right ≡ words w ++ replicate (C - size w) 0) × (a .left ≡ size w) × (a .right ≡ size w)
+      × (final start calls .right ≡ words w ++ replicate (C - size w) 0) × (last .left ≡ size w) × (last .right ≡ size w)
   -- Different: no chain joins the first terms.
-  pub different : (a : Shown) → Ended start calls a → a .verdict ≡ Different → Joined t u → ⊥
+  pub different : (last : Shown) → Ended start calls last → last .verdict ≡ Different → Joined t u → ⊥
 
 -- Demand 3: over every length C, first terms, workspaces that hold them, session and list of calls.
 abbrev pub Every-list-of-presses : Type 0
@@ -144,13 +151,13 @@ Every-list-of-presses =
 -- Two presses, neither refused, the second on what the first left and with the lengths it returned, end in the terms, verdict and session of one
 -- press whose budget is the first's spent plus the second's budget, if that is at most 1,000,000. Its scratch may be any of that length.
 abbrev pub together : Call → (scratch : List ℕ) (spent budget : ℕ) → Call
-together c scratch spent budget =
-    record { scratch = scratch; leftLength = c .leftLength; rightLength = c .rightLength; budget = spent + budget }
+together call scratch spent budget =
+    record { scratch = scratch; leftLength = call .leftLength; rightLength = call .rightLength; budget = spent + budget }
 
 abbrev pub Two-presses : Type 0
 Two-presses =
-    (m : Memory) (c d : Call) (scratch : List ℕ) (a a′ : Shown) → length scratch ≡ length (c .scratch)
-    → press m c .answer ≡ shown a → d .leftLength ≡ a .left → d .rightLength ≡ a .right
-    → press (press m c .memory) d .answer ≡ shown a′ → a .spent + d .budget ≤ budgetLimit
-    → (press m (together c scratch (a .spent) (d .budget)) .answer ≡ shown (withSpent (a .spent + a′ .spent) a′))
-    × (press m (together c scratch (a .spent) (d .budget)) .memory ≡ press (press m c .memory) d .memory)
+    (memory : Memory) (first second : Call) (scratch : List ℕ) (earlier later : Shown) → length scratch ≡ length (first .scratch)
+    → press memory first .answer ≡ shown earlier → second .leftLength ≡ earlier .left → second .rightLength ≡ earlier .right
+    → press (press memory first .memory) second .answer ≡ shown later → earlier .spent + second .budget ≤ budgetLimit
+    → (press memory (together first scratch (earlier .spent) (second .budget)) .answer ≡ shown (withSpent (earlier .spent + later .spent) later))
+    × (press memory (together first scratch (earlier .spent) (second .budget)) .memory ≡ press (press memory first .memory) second .memory)

@@ -14,34 +14,40 @@ use Rattle.press.specs.Answer.{refused, shown, Memory, Call, Pressed}
 
 -- A refused press changes nothing.
 abbrev pub refuse : Memory → Call → Refusal → Pressed
-refuse m c why = record { answer = refused why; memory = m; scratch = c .scratch }
+refuse memory call why = record { answer = refused why; memory = memory; scratch = call .scratch }
 
 -- What the rounds leave: both current terms with zeros after them, the scratch all zeros, and the session renewed, of which only the total is
 -- read.
 abbrev pub conclude : (C : ℕ) → Session → Outcome → Pressed
-conclude C s o =
+conclude C session end =
     record {
-      answer = shown (shows o);
+      answer = shown (shows end);
       memory =
           record {
-            left = padded C (words (o .left));
-            right = padded C (words (o .right));
+            left = padded C (words (end .left));
+            right = padded C (words (end .right));
             session =
-                record { total = s .total + o .spent; left = size (o .left); right = size (o .right); verdict = o .verdict };
+                record {
+                  total = session .total + end .spent;
+                  left = size (end .left);
+                  right = size (end .right);
+                  verdict = end .verdict;
+                };
           };
       scratch = replicate C 0;
     }
 
 -- Refusal 10 on the left, then on the right, then the rounds.
 abbrev pub pressTerms : Memory → Call → Option Term → Option Term → Pressed
-pressTerms m c none u = refuse m c NoTerm
-pressTerms m c (some t) none = refuse m c NoTerm
-pressTerms m c (some t) (some u) = conclude (length (m .left)) (m .session) (rounds (length (m .left)) (c .budget) t u)
+pressTerms memory call none u = refuse memory call NoTerm
+pressTerms memory call (some t) none = refuse memory call NoTerm
+pressTerms memory call (some t) (some u) =
+    conclude (length (memory .left)) (memory .session) (rounds (length (memory .left)) (call .budget) t u)
 
 unfoldable pub press : Memory → Call → Pressed
-press m c =
-    cond (sized (length (m .left) ∷ length (m .right) ∷ length (c .scratch) ∷ []))
-    (cond (affordable (c .budget) (m .session .total))
-    (pressTerms m c (termAt (m .left) (c .leftLength)) (termAt (m .right) (c .rightLength)))
-    (refuse m c OverBudget))
-    (refuse m c WrongWorkspace)
+press memory call =
+    cond (sized (length (memory .left) ∷ length (memory .right) ∷ length (call .scratch) ∷ []))
+    (cond (affordable (call .budget) (memory .session .total))
+    (pressTerms memory call (termAt (memory .left) (call .leftLength)) (termAt (memory .right) (call .rightLength)))
+    (refuse memory call OverBudget))
+    (refuse memory call WrongWorkspace)

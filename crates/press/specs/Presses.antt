@@ -9,43 +9,44 @@ use Rattle.press.specs.Press.{press}
 
 -- What the list leaves.
 abbrev pub final : Memory → List Call → Memory
-final m [] = m
-final m (c ∷ cs) = final (press m c .memory) cs
+final memory [] = memory
+final memory (call ∷ calls) = final (press memory call .memory) calls
 
 -- The calls with their answers, in order.
 abbrev pub history : Memory → List Call → List (Call × Answer)
-history m [] = []
-history m (c ∷ cs) = (c, press m c .answer) ∷ history (press m c .memory) cs
+history memory [] = []
+history memory (call ∷ calls) = (call, press memory call .answer) ∷ history (press memory call .memory) calls
 
 abbrev pub spentOf : Answer → ℕ
 spentOf (refused why) = 0
-spentOf (shown a) = a .spent
+spentOf (shown what) = what .spent
 
 -- The sum of what the unrefused presses answered as spent.
 abbrev pub spentIn : List (Call × Answer) → ℕ
 spentIn [] = 0
-spentIn (e ∷ es) = spentOf (e .1) + spentIn es
+spentIn (entry ∷ entries) = spentOf (entry .1) + spentIn entries
 
 -- What the unrefused presses but the last spent, plus the last one's budget, if one is unrefused; `spent` was spent and `found` was found so far.
 abbrev pub noteBudget : (spent : ℕ) → Option ℕ → Call → Answer → Option ℕ
-noteBudget spent found c (refused why) = found
-noteBudget spent found c (shown a) = some (spent + c .budget)
+noteBudget spent found call (refused why) = found
+noteBudget spent found call (shown what) = some (spent + call .budget)
 
 abbrev pub budgetFrom : (spent : ℕ) → Option ℕ → List (Call × Answer) → Option ℕ
 budgetFrom spent found [] = found
-budgetFrom spent found (e ∷ es) = budgetFrom (spent + spentOf (e .1)) (noteBudget spent found (e .0) (e .1)) es
+budgetFrom spent found (entry ∷ entries) =
+    budgetFrom (spent + spentOf (entry .1)) (noteBudget spent found (entry .0) (entry .1)) entries
 
 abbrev pub budgetInOneGo : List (Call × Answer) → Option ℕ
-budgetInOneGo es = budgetFrom 0 none es
+budgetInOneGo entries = budgetFrom 0 none entries
 
 -- What the last unrefused press showed; `found` was found so far.
 abbrev pub noteShown : Option Shown → Answer → Option Shown
 noteShown found (refused why) = found
-noteShown found (shown a) = some a
+noteShown found (shown what) = some what
 
 abbrev pub shownFrom : Option Shown → List (Call × Answer) → Option Shown
 shownFrom found [] = found
-shownFrom found (e ∷ es) = shownFrom (noteShown found (e .1)) es
+shownFrom found (entry ∷ entries) = shownFrom (noteShown found (entry .1)) entries
 
 abbrev pub lastShown : List (Call × Answer) → Option Shown
-lastShown es = shownFrom none es
+lastShown entries = shownFrom none entries

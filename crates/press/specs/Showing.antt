@@ -17,26 +17,29 @@ pub record Part : Type 0 where
   pub side : Side
   pub count : ℕ
 
-abbrev pub shorter : (l r : ℕ) → Part
-shorter l r = cond (leb l r) (record { side = left; count = l }) (record { side = right; count = r })
+abbrev pub shorter : (leftLength rightLength : ℕ) → Part
+shorter leftLength rightLength =
+    cond (leb leftLength rightLength) (record { side = left; count = leftLength }) (record { side = right; count = rightLength })
 
 abbrev pub nothing : Part
 nothing = record { side = left; count = 0 }
 
-abbrev pub showTerms : (l r : ℕ) → Option Term → Option Term → Part
-showTerms l r none u = nothing
-showTerms l r (some t) none = nothing
-showTerms l r (some t) (some u) = shorter l r
+abbrev pub showTerms : (leftLength rightLength : ℕ) → Option Term → Option Term → Part
+showTerms leftLength rightLength none u = nothing
+showTerms leftLength rightLength (some t) none = nothing
+showTerms leftLength rightLength (some t) (some u) = shorter leftLength rightLength
 
 -- The part that showing hands back, by both workspaces and the length of each side's term.
-unfoldable pub show : (left right : List ℕ) (l r : ℕ) → Part
-show ws vs l r =
-    cond (sized (length ws ∷ length vs ∷ [])) (showTerms l r (termAt ws l) (termAt vs r)) nothing
+unfoldable pub show : (left right : List ℕ) (leftLength rightLength : ℕ) → Part
+show ws vs leftLength rightLength =
+    cond (sized (length ws ∷ length vs ∷ []))
+    (showTerms leftLength rightLength (termAt ws leftLength) (termAt vs rightLength))
+    nothing
 
 -- What is handed back of two slices, each by the pointer to its first word and its words: the pointer and the words of the part.
 abbrev pub partBy : {A : Type 0} → Side → (onLeft onRight : A) → A
-partBy left a b = a
-partBy right a b = b
+partBy left onLeft onRight = onLeft
+partBy right onLeft onRight = onRight
 
 abbrev pub partOf : (leftAt rightAt : ℕ × ℕ) (ws vs : List ℕ) → Part → (ℕ × ℕ) × List ℕ
-partOf leftAt rightAt ws vs p = (partBy (p .side) leftAt rightAt, take (p .count) (partBy (p .side) ws vs))
+partOf leftAt rightAt ws vs part = (partBy (part .side) leftAt rightAt, take (part .count) (partBy (part .side) ws vs))

@@ -12,12 +12,13 @@ use Rattle.press.specs.Session.{Session}
 use Rattle.press.specs.Answer.{Answer, refused, shown, Memory, Call, Pressed}
 
 abbrev pub sessionOf : codeSession.Session → Session
-sessionOf s = record { total = s .total; left = s .left; right = s .right; verdict = verdictOf (s .verdict) }
+sessionOf session =
+    record { total = session .total; left = session .left; right = session .right; verdict = verdictOf (session .verdict) }
 
 -- A refusal, or verdict, spent and both lengths.
 abbrev pub answerOf : codeAnswer.Answer → Answer
 answerOf (answer.Refused why) = refused (refusalOf why)
-answerOf (answer.Shown a) = shown (shownOf a)
+answerOf (answer.Shown what) = shown (shownOf what)
 
 abbrev pub memoryOf : (left right : List ℕ) → codeSession.Session → Memory
 memoryOf left right session = record { left = left; right = right; session = sessionOf session }
@@ -28,7 +29,8 @@ callOf scratch leftLength rightLength budget =
 
 -- Everything at exit of the covered press: its result and the three lent slices.
 abbrev pub pressedOf : codePressed.Pressed → (left right scratch : List ℕ) → Pressed
-pressedOf p left right scratch = record { answer = answerOf (p .answer); memory = memoryOf left right (p .session); scratch = scratch }
+pressedOf pressed left right scratch =
+    record { answer = answerOf (pressed .answer); memory = memoryOf left right (pressed .session); scratch = scratch }
 
 -- A refusal of the covered press, with the session as it was.
 abbrev pub refusedWith : codeRefusal.Refusal → codeSession.Session → codePressed.Pressed

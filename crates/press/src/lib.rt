@@ -28,16 +28,16 @@ fn press_terms(
     left: &mut [u32],
     right: &mut [u32],
     scratch: &mut [u32],
-    l: usize,
-    r: usize,
+    left_length: usize,
+    right_length: usize,
     budget: u32,
     session: Session,
 ) -> Pressed
-    requires { ⌜ Ready (now left) (now right) (now scratch) l r ⌝ }
+    requires { ⌜ Ready (now left) (now right) (now scratch) «left_length» «right_length» ⌝ }
     requires { ⌜ session .total + budget ≤ totalLimit ⌝ }
-    ensures { λ p. ⌜ pressedOf p (now (left .exit)) (now (right .exit)) (now (scratch .exit)) ≡ conclude (length (now (left .entry))) (sessionOf session) (rounds (length (now (left .entry))) budget (held (now (left .entry)) l) (held (now (right .entry)) r)) ⌝ }
+    ensures { λ p. ⌜ pressedOf p (now (left .exit)) (now (right .exit)) (now (scratch .exit)) ≡ conclude (length (now (left .entry))) (sessionOf session) (rounds (length (now (left .entry))) budget (held (now (left .entry)) «left_length») (held (now (right .entry)) «right_length»)) ⌝ }
 {
-    let shown = run(left, right, scratch, l, r, budget);
+    let shown = run(left, right, scratch, left_length, right_length, budget);
     clear(left, shown.left);
     clear(right, shown.right);
     clear(scratch, 0);

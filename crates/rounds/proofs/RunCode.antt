@@ -1,5 +1,5 @@
 -- The rounds as the code makes them: what a side's plan tells of the workspace that holds its term, and a turn of the loop.
-use Prim.Native.Nat.{ℕ, _-_}
+use Prim.Native.Nat.{ℕ}
 use mathlib.Core.Path.{_≡_, sym, _∙_, ap}
 use mathlib.Core.List.{List, _++_}
 use mathlib.Core.Option.{Option, some, none, Option·none-ne-some, Option·some-ne-none, Option·some-injective}
@@ -81,7 +81,7 @@ module _ {ws scratch room : List ℕ} {n : ℕ} {todo : code.Plan} (h : Advances
         let long : r .length ≡ size (next (held ws n)) = found .1 .length-is ∙ ap size to in
         record { plan = found .1; fits = rw long (h .fits); scratch-fits = rw long (h .scratch-fits); room-fits = h .room-fits }
 
-    pub advance-contracted : {m from : ℕ} {ws′ scratch′ : List ℕ} → step.Contracted ws n r scratch m ws′ scratch′ → from ≡ r .at - 1
+    pub advance-contracted : {m from : ℕ} {ws′ scratch′ : List ℕ} → step.Contracted ws n r scratch m ws′ scratch′ → from ≡ resumeAt m (planOf (plan.Contract r))
         → Advanced ws n todo scratch m from ws′ scratch′
     advance-contracted {m} d k =
         record {

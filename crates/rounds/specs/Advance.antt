@@ -13,22 +13,22 @@ use Rattle.step.specs.Plan.{Planned, contractum}
 use Rattle.rounds.specs.Turn.{planned}
 use Rattle.rounds.specs.Resume.{resumeAt}
 
--- The workspace holds a term, the plan is the one for it, the next term fits the workspace and the scratch, and a walk the room.
-pub record Advances (ws : List ℕ) (n : ℕ) (todo : Plan) (scratch room : List ℕ) : Type 0 where
-  pub holds : Holds ws n
-  pub plan : Planned ws n todo
-  pub fits : size (next (held ws n)) ≤ length ws
-  pub scratch-fits : size (next (held ws n)) ≤ length scratch
+-- The workspace holds a term of so many words, the plan is the one for it, the next term fits the workspace and the scratch, and a walk the room.
+pub record Advances (ws : List ℕ) (wordCount : ℕ) (todo : Plan) (scratch room : List ℕ) : Type 0 where
+  pub holds : Holds ws wordCount
+  pub plan : Planned ws wordCount todo
+  pub fits : size (next (held ws wordCount)) ≤ length ws
+  pub scratch-fits : size (next (held ws wordCount)) ≤ length scratch
   pub room-fits : workspaceMost ≤ 2 * length room
 
 -- The scratch after it: what a contraction wrote, over its old words.
 abbrev pub scratchAfter : Plan → (ws scratch : List ℕ) → List ℕ
 scratchAfter Normal ws scratch = scratch
-scratchAfter (Contract r) ws scratch = sets scratch 0 (contractum ws r)
+scratchAfter (Contract redex) ws scratch = sets scratch 0 (contractum ws redex)
 
--- The answer is the next term's length r and where the search goes on in it, and the workspace ws′ holds the next term and after it its old words.
-pub record Advanced (ws : List ℕ) (n : ℕ) (todo : Plan) (scratch : List ℕ) (r from : ℕ) (ws′ scratch′ : List ℕ) : Type 0 where
-  pub returned : r ≡ size (next (held ws n))
-  pub resumes : from ≡ resumeAt r (planned (held ws n))
-  pub workspace : ws′ ≡ words (next (held ws n)) ++ drop (size (next (held ws n))) ws
+-- The answer is the next term's length and where the search goes on in it, and the workspace ws′ holds the next term and after it its old words.
+pub record Advanced (ws : List ℕ) (wordCount : ℕ) (todo : Plan) (scratch : List ℕ) (nextSize from : ℕ) (ws′ scratch′ : List ℕ) : Type 0 where
+  pub returned : nextSize ≡ size (next (held ws wordCount))
+  pub resumes : from ≡ resumeAt nextSize (planned (held ws wordCount))
+  pub workspace : ws′ ≡ words (next (held ws wordCount)) ++ drop (size (next (held ws wordCount))) ws
   pub written : scratch′ ≡ scratchAfter todo ws scratch

@@ -18,8 +18,8 @@ pub record Agrees (k : ℕ) (ws vs : List ℕ) : Type 0 where
   pub right-has : k ≤ length vs
   pub same : take k ws ≡ take k vs
 
--- The first n words of one workspace and the first m of another, of which the first `from` are the same.
-pub record Compares (ws : List ℕ) (n : ℕ) (vs : List ℕ) (m from : ℕ) : Type 0 where
-  pub left-fits : n ≤ length ws
-  pub right-fits : m ≤ length vs
-  pub agrees : Agrees from (take n ws) (take m vs)
+-- So many first words of each of two workspaces, of which the first `from` are the same.
+pub record Compares (left : List ℕ) (leftLength : ℕ) (right : List ℕ) (rightLength from : ℕ) : Type 0 where
+  pub left-fits : leftLength ≤ length left
+  pub right-fits : rightLength ≤ length right
+  pub agrees : Agrees from (take leftLength left) (take rightLength right)

@@ -9,25 +9,26 @@ use Rattle.calculus.specs.Skip.{span}
 use Rattle.step.specs.Held.{held, Holds}
 use Rattle.rounds.specs.Turn.{Plan, normal, contract, planned}
 
--- From where the search goes on, on a side with a next term of n words: no redex starts before.
-abbrev pub resumeAt : (n : ℕ) → Plan → ℕ
-resumeAt n normal = n
-resumeAt n (contract p m) = p - 1
+-- From where the search goes on, on a side with a next term of `wordCount` words: no redex starts before.
+abbrev pub resumeAt : (wordCount : ℕ) → Plan → ℕ
+resumeAt wordCount normal = wordCount
+resumeAt wordCount (contract position nextSize) = position - 1
 
--- How many first words agree after a round, of which k agreed before it, by both sides' plans; the left side has the n first words of ws. A
--- contraction changes no word before its position. Where both sides contract at the same position, and the redex is within the k words, what
--- follows it there agrees still.
-abbrev pub agreeBoth : (ws : List ℕ) (n k p m q : ℕ) → ℕ
-agreeBoth ws n k p m q = cond (eqb p q && leb (p + span 1 (drop p ws)) k) (m - (n - k)) (min k (min p q))
+-- How many first words agree after a round, of which `agree` did before it, by both sides' plans; the left side has the `wordCount` first words of ws.
+-- A contraction changes no word before its position. Where both sides contract at the same position, and the redex is within the words that agree,
+-- what follows it there agrees still.
+abbrev pub agreeBoth : (ws : List ℕ) (wordCount agree position nextSize other : ℕ) → ℕ
+agreeBoth ws wordCount agree position nextSize other =
+    cond (eqb position other && leb (position + span 1 (drop position ws)) agree) (nextSize - (wordCount - agree)) (min agree (min position other))
 
-abbrev pub agreeAfter : (ws : List ℕ) (n k : ℕ) → Plan → Plan → ℕ
-agreeAfter ws n k normal normal = k
-agreeAfter ws n k (contract p m) normal = min k p
-agreeAfter ws n k normal (contract q o) = min k q
-agreeAfter ws n k (contract p m) (contract q o) = agreeBoth ws n k p m q
+abbrev pub agreeAfter : (ws : List ℕ) (wordCount agree : ℕ) → Plan → Plan → ℕ
+agreeAfter ws wordCount agree normal normal = agree
+agreeAfter ws wordCount agree (contract position nextSize) normal = min agree position
+agreeAfter ws wordCount agree normal (contract other nextSize) = min agree other
+agreeAfter ws wordCount agree (contract position nextSize) (contract other nextSize′) = agreeBoth ws wordCount agree position nextSize other
 
--- The left side holds a term of which k words agree, and this is the plan for it.
-pub record Agreeing (ws : List ℕ) (n k : ℕ) (plan : Plan) : Type 0 where
-  pub holds : Holds ws n
-  pub within : k ≤ n
-  pub plan-is : plan ≡ planned (held ws n)
+-- The left side holds a term of which so many words agree, and this is the plan for it.
+pub record Agreeing (ws : List ℕ) (wordCount agree : ℕ) (plan : Plan) : Type 0 where
+  pub holds : Holds ws wordCount
+  pub within : agree ≤ wordCount
+  pub plan-is : plan ≡ planned (held ws wordCount)

@@ -8,19 +8,19 @@ use Rattle.calculus.specs.Rounds.{Outcome, Shown, shows}
 use Rattle.step.specs.Held.{Holds}
 
 -- Both workspaces hold terms, and the three lengths are equal.
-pub record Ready (left right scratch : List ℕ) (l r : ℕ) : Type 0 where
-  pub left-holds : Holds left l
-  pub right-holds : Holds right r
+pub record Ready (left right scratch : List ℕ) (leftLength rightLength : ℕ) : Type 0 where
+  pub left-holds : Holds left leftLength
+  pub right-holds : Holds right rightLength
   pub right-length : length right ≡ length left
   pub scratch-length : length scratch ≡ length left
 
 -- The workspaces hold the two terms that the rounds with a budget end in. The words after a term, and those of the scratch, are any: the press
 -- clears them.
-pub record Ran (budget : ℕ) (o : Outcome) (a : Shown) (left right scratch : List ℕ) : Type 0 where
-  pub shown-is : a ≡ shows o
-  pub within : a .spent ≤ budget
+pub record Ran (budget : ℕ) (end : Outcome) (shown : Shown) (left right scratch : List ℕ) : Type 0 where
+  pub shown-is : shown ≡ shows end
+  pub within : shown .spent ≤ budget
   pub left-others : List ℕ
-  pub left-words : left ≡ words (o .left) ++ left-others
+  pub left-words : left ≡ words (end .left) ++ left-others
   pub right-others : List ℕ
-  pub right-words : right ≡ words (o .right) ++ right-others
+  pub right-words : right ≡ words (end .right) ++ right-others
   pub scratch-length : length scratch ≡ length left

@@ -9,16 +9,16 @@ use Rattle.calculus.specs.Rounds.{next}
 -- Nothing where it is normal, or contract the redex at a position, to a term of so many words.
 pub data Plan : Type 0 where
   normal : Plan
-  contract : (position length : ℕ) → Plan
+  contract : (position nextSize : ℕ) → Plan
 
 -- The length of the next term, none where the side is normal.
 abbrev pub lengthIn : Plan → Option ℕ
 lengthIn normal = none
-lengthIn (contract p n) = some n
+lengthIn (contract position nextSize) = some nextSize
 
 abbrev pub planAt : Term → Option ℕ → Plan
 planAt t none = normal
-planAt t (some p) = contract p (size (next t))
+planAt t (some position) = contract position (size (next t))
 
 abbrev pub planned : Term → Plan
 planned t = planAt t (redexAt t)

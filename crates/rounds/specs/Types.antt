@@ -17,12 +17,12 @@ verdictOf verdict.Budget = Budget
 verdictOf verdict.Full = Full
 
 abbrev pub shownOf : codeShown.Shown → Shown
-shownOf a = record { verdict = verdictOf (a .verdict); spent = a .spent; left = a .left; right = a .right }
+shownOf shown = record { verdict = verdictOf (shown .verdict); spent = shown .spent; left = shown .left; right = shown .right }
 
 abbrev pub planOf : codePlan.Plan → Plan
 planOf plan.Normal = normal
-planOf (plan.Contract r) = contract (r .at) (r .length)
+planOf (plan.Contract redex) = contract (redex .at) (redex .length)
 
 abbrev pub roundOf : codeRound.Round → Round
-roundOf (round.Ends v) = ends (verdictOf v)
-roundOf (round.Goes p) = goes p
+roundOf (round.Ends verdict) = ends (verdictOf verdict)
+roundOf (round.Goes count) = goes count

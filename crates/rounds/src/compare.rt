@@ -4,24 +4,30 @@ ghost use Prim.Native.Nat.{min};
 ghost use lib.ListN.{take};
 ghost use Rattle.rounds.specs.Compare.{common, Compares};
 
-pub fn least(a: usize, b: usize) -> usize
-    ensures { λ r. ⌜ r ≡ min a b ⌝ }
+pub fn least(first: usize, second: usize) -> usize
+    ensures { λ r. ⌜ r ≡ min first second ⌝ }
 {
-    if a < b {
-        return a;
+    if first < second {
+        return first;
     }
-    b
+    second
 }
 
-// How many of their first words the first n words of one workspace and the first m of another share; the first `from` are known to be the same.
-pub fn agreeing(ws: &[u32], n: usize, vs: &[u32], m: usize, from: usize) -> usize
-    requires { ⌜ Compares (now ws) n (now vs) m from ⌝ }
-    ensures { λ r. ⌜ r ≡ common (take n (now (ws .entry))) (take m (now (vs .entry))) ⌝ }
+// How many of their first words the terms in two workspaces share, each by its length; the first `from` are known to be the same.
+pub fn agreeing(
+    left: &[u32],
+    left_length: usize,
+    right: &[u32],
+    right_length: usize,
+    from: usize,
+) -> usize
+    requires { ⌜ Compares (now left) «left_length» (now right) «right_length» from ⌝ }
+    ensures { λ r. ⌜ r ≡ common (take «left_length» (now (left .entry))) (take «right_length» (now (right .entry))) ⌝ }
 {
-    let shorter = least(n, m);
+    let shorter = least(left_length, right_length);
     let mut i = from;
     while i < shorter {
-        if ws[i] != vs[i] {
+        if left[i] != right[i] {
             return i;
         }
         i += 1;

@@ -39,36 +39,48 @@ pub fn run(
     left: &mut [u32],
     right: &mut [u32],
     scratch: &mut [u32],
-    l: usize,
-    r: usize,
+    left_length: usize,
+    right_length: usize,
     budget: u32,
 ) -> Shown
-    requires { ⌜ Ready (now left) (now right) (now scratch) l r ⌝ }
-    ensures { λ o. ⌜ Ran budget (rounds (length (now (left .entry))) budget (held (now (left .entry)) l) (held (now (right .entry)) r)) (shownOf o) (now (left .exit)) (now (right .exit)) (now (scratch .exit)) ⌝ }
+    requires { ⌜ Ready (now left) (now right) (now scratch) «left_length» «right_length» ⌝ }
+    ensures { λ shown. ⌜ Ran budget (rounds (length (now (left .entry))) budget (held (now (left .entry)) «left_length») (held (now (right .entry)) «right_length»)) (shownOf shown) (now (left .exit)) (now (right .exit)) (now (scratch .exit)) ⌝ }
 {
-    let mut a = Side { length: l, from: 0 };
-    let mut b = Side { length: r, from: 0 };
+    let mut left_side = Side {
+        length: left_length,
+        from: 0,
+    };
+    let mut right_side = Side {
+        length: right_length,
+        from: 0,
+    };
     let mut room = [0u32; ROOM];
     let mut agree: usize = 0;
     let mut spent: u32 = 0;
     loop {
-        let shared = agreeing(left, a.length, right, b.length, agree);
-        let p = find(left, a.length, a.from, scratch);
-        let q = find(right, b.length, b.from, scratch);
+        let shared = agreeing(left, left_side.length, right, right_side.length, agree);
+        let left_plan = find(left, left_side.length, left_side.from, scratch);
+        let right_plan = find(right, right_side.length, right_side.from, scratch);
         // No term's words are the start of another's, so a term whose words are all shared is the other one.
-        match judge(shared == a.length, p, q, budget - spent, left.len()) {
+        match judge(
+            shared == left_side.length,
+            left_plan,
+            right_plan,
+            budget - spent,
+            left.len(),
+        ) {
             Round::Ends(verdict) => {
                 return Shown {
                     verdict,
                     spent,
-                    left: a.length,
-                    right: b.length,
+                    left: left_side.length,
+                    right: right_side.length,
                 };
             }
             Round::Goes(count) => {
-                agree = agreed(left, a.length, shared, p, q);
-                a = advance(left, a, p, scratch, &mut room);
-                b = advance(right, b, q, scratch, &mut room);
+                agree = agreed(left, left_side.length, shared, left_plan, right_plan);
+                left_side = advance(left, left_side, left_plan, scratch, &mut room);
+                right_side = advance(right, right_side, right_plan, scratch, &mut room);
                 spent += count;
             }
         }

@@ -45,18 +45,18 @@ fn next_length(plan: Plan) -> usize
     }
 }
 
-fn longer(n: usize, m: usize) -> usize
-    ensures { λ r. ⌜ r ≡ max n m ⌝ }
+fn longer(first: usize, second: usize) -> usize
+    ensures { λ r. ⌜ r ≡ max first second ⌝ }
 {
-    if n < m {
-        return m;
+    if first < second {
+        return second;
     }
-    n
+    first
 }
 
-// One round, points 1 to 5 in this order, with `rest` left of the budget and workspaces of c words.
-pub fn judge(equal: bool, left: Plan, right: Plan, rest: u32, c: usize) -> Round
-    ensures { λ r. ⌜ roundOf r ≡ round (cond equal (some Same) none) c rest (lengthIn (planOf left)) (lengthIn (planOf right)) ⌝ }
+// One round, points 1 to 5 in this order, with `rest` left of the budget and workspaces of `capacity` words.
+pub fn judge(equal: bool, left: Plan, right: Plan, rest: u32, capacity: usize) -> Round
+    ensures { λ r. ⌜ roundOf r ≡ round (cond equal (some Same) none) capacity rest (lengthIn (planOf left)) (lengthIn (planOf right)) ⌝ }
 {
     if equal {
         return Round::Ends(Verdict::Same);
@@ -68,7 +68,7 @@ pub fn judge(equal: bool, left: Plan, right: Plan, rest: u32, c: usize) -> Round
     if rest < count {
         return Round::Ends(Verdict::Budget);
     }
-    if c < longer(next_length(left), next_length(right)) {
+    if capacity < longer(next_length(left), next_length(right)) {
         return Round::Ends(Verdict::Full);
     }
     Round::Goes(count)
@@ -107,10 +107,10 @@ pub fn advance(
     }
 }
 
-// How many first words of both sides agree after a round, of which `agree` do before it, by what the sides do; the left one has n words.
-pub fn agreed(ws: &[u32], n: usize, agree: usize, left: Plan, right: Plan) -> usize
-    requires { ⌜ Agreeing (now ws) n agree (planOf left) ⌝ }
-    ensures { λ r. ⌜ r ≡ agreeAfter (now (ws .entry)) n agree (planOf left) (planOf right) ⌝ }
+// How many first words of both sides agree after a round, of which `agree` do before it, by what the sides do; the left one has `length` words.
+pub fn agreed(ws: &[u32], length: usize, agree: usize, left: Plan, right: Plan) -> usize
+    requires { ⌜ Agreeing (now ws) length agree (planOf left) ⌝ }
+    ensures { λ r. ⌜ r ≡ agreeAfter (now (ws .entry)) length agree (planOf left) (planOf right) ⌝ }
 {
     match left {
         Plan::Normal => match right {
@@ -119,22 +119,36 @@ pub fn agreed(ws: &[u32], n: usize, agree: usize, left: Plan, right: Plan) -> us
         },
         Plan::Contract(redex) => match right {
             Plan::Normal => least(agree, redex.at),
-            Plan::Contract(other) => agreed_both(ws, n, agree, redex.at, redex.length, other.at),
+            Plan::Contract(other) => agreed_both(
+                ws,
+                length,
+                agree,
+                redex.at,
+                redex.length,
+                other.at,
+            ),
         },
     }
 }
 
-// Both sides contract, the left one at a position to a term of `length` words.
-fn agreed_both(ws: &[u32], n: usize, agree: usize, at: usize, length: usize, other: usize) -> usize
-    requires { ⌜ Agreeing (now ws) n agree (contract at length) ⌝ }
-    ensures { λ r. ⌜ r ≡ agreeBoth (now (ws .entry)) n agree at length other ⌝ }
+// Both sides contract, the left one at a position to a term of `next` words.
+fn agreed_both(
+    ws: &[u32],
+    length: usize,
+    agree: usize,
+    at: usize,
+    next: usize,
+    other: usize,
+) -> usize
+    requires { ⌜ Agreeing (now ws) length agree (contract at next) ⌝ }
+    ensures { λ r. ⌜ r ≡ agreeBoth (now (ws .entry)) length agree at next other ⌝ }
 {
     if at != other {
         return least(agree, least(at, other));
     }
     if at < agree {
         if extent(ws, at) <= agree {
-            return length - (n - agree);
+            return next - (length - agree);
         }
         return at;
     }

@@ -20,7 +20,7 @@ pub fn press(
     ensures { λ a. ⌜ pressedOf (record { answer = a; session = now (session .exit) }) (now (left .exit)) (now (right .exit)) (now (scratch .exit))
         ≡ press (memoryOf (now (left .entry)) (now (right .entry)) (now (session .entry))) (callOf (now (scratch .entry)) «left_length» «right_length» budget) ⌝ }
 {
-    let p = press::press(
+    let pressed = press::press(
         left,
         right,
         scratch,
@@ -29,8 +29,8 @@ pub fn press(
         budget,
         *session,
     );
-    *session = p.session;
-    p.answer
+    *session = pressed.session;
+    pressed.answer
 }
 
 // The same with the session by value: it is lent to the press above, and handed back. Its contract names no reference to a session, so code that

@@ -1,6 +1,9 @@
 -- `press_terms` meets its contract: the rounds leave the two terms, and clearing leaves zeros after them. Assumes nothing.
 use mathlib.Core.Path.{_∙_}
+use lib.ListN.{length}
 use borrow.Author.Needs.{needs}
+use Rattle.calculus.specs.Rounds.{rounds}
+use Rattle.step.specs.Held.{held}
 use Rattle.press.specs.Types.{sessionOf}
 use Rattle.press.proofs.PressCode.{ran-left-fits, ran-right-fits, ran-concludes}
 use Rattle.press.proofs.press_terms.Statement.{statement}
@@ -37,7 +40,9 @@ returns c =
     let clear = c .before .before .before .before .before .before .before .before .before .before .before .before .clear in
     let ran = c .before .before .before .before .before .before .before .before .before .before .before .before .before .before .before .before .before .before .before .before .run in
     let start = c .before .before .before .before .before .before .before .before .before .before .before .before .before .before .before .before .before .before .before .before .before .before .before .before .before .before .before in
-    ran-concludes (ran .ensures) _ (sessionOf (start .args .session)) (ran .kept .0) (ran .kept .1 .0 ∙ start .pre .0 .right-length)
+    let a = start .args in
+    let C = length (a .left .now) in
+    ran-concludes {o = rounds C (a .budget) (held (a .left .now) (a .left-length)) (held (a .right .now) (a .right-length))} (ran .ensures) C (sessionOf (start .args .session)) (ran .kept .0) (ran .kept .1 .0 ∙ start .pre .0 .right-length)
     (clear .ensures) (clear2 .ensures) (clear3 .ensures)
 
 pub press-terms-spec : {M : Type 1} → statement M

@@ -16,11 +16,11 @@ use Rattle.rounds.proofs.run.Statement.{statement}
 use Rattle.rounds.proofs.run.Tie as tie
 
 abbrev Inv-loop : tie.InvT-loop
-Inv-loop left₀ right₀ scratch₀ l r budget a₀ b₀ room₀ agree₀ spent₀ left right scratch a b room agree spent =
-    Going left₀ right₀ scratch₀ l r budget left right scratch room (a .length) (a .from) (b .length) (b .from) agree spent
+Inv-loop left₀ right₀ scratch₀ left-length right-length budget left-side₀ right-side₀ room₀ agree₀ spent₀ left right scratch left-side right-side room agree spent =
+    Going left₀ right₀ scratch₀ left-length right-length budget left right scratch room (left-side .length) (left-side .from) (right-side .length) (right-side .from) agree spent
 
 abbrev μ-loop : tie.MeasureT-loop
-μ-loop left₀ right₀ scratch₀ l r budget a₀ b₀ room₀ agree₀ spent₀ left right scratch a b room agree spent = budget - spent
+μ-loop left₀ right₀ scratch₀ left-length right-length budget left-side₀ right-side₀ room₀ agree₀ spent₀ left right scratch left-side right-side room agree spent = budget - spent
 
 loop-holds : tie.Need-loop-holds Inv-loop μ-loop
 loop-holds c = going-first (c .before .before .before .args .budget) (c .before .before .before .pre) (omega arith)
@@ -52,14 +52,14 @@ module _ (c : tie.After-judge Inv-loop μ-loop) where
   call = c .before .before .before .before .before .before .before .before .before .before .before .before .before .before .before .before .before .before .before
 
   shares : c .before .before .before .before .before .before .before .before .before .before .before .before .agreeing .result
-      ≡ common (take (turn .loop .a .length) (turn .loop .left)) (take (turn .loop .b .length) (turn .loop .right))
+      ≡ common (take (turn .loop .left-side .length) (turn .loop .left)) (take (turn .loop .right-side .length) (turn .loop .right))
   shares = c .before .before .before .before .before .before .before .before .before .before .before .before .agreeing .ensures
 
-  left-plan : planOf (c .before .before .before .before .before .before .before .before .before .find .result) ≡ planned (held (turn .loop .left) (turn .loop .a .length))
-  left-plan = plan-is (turn .loop .left) (turn .loop .a .length) (c .before .before .before .before .before .before .before .before .before .find .result) (c .before .before .before .before .before .before .before .before .before .find .ensures .0)
+  left-plan : planOf (c .before .before .before .before .before .before .before .before .before .find .result) ≡ planned (held (turn .loop .left) (turn .loop .left-side .length))
+  left-plan = plan-is (turn .loop .left) (turn .loop .left-side .length) (c .before .before .before .before .before .before .before .before .before .find .result) (c .before .before .before .before .before .before .before .before .before .find .ensures .0)
 
-  right-plan : planOf (c .before .before .before .before .find2 .result) ≡ planned (held (turn .loop .right) (turn .loop .b .length))
-  right-plan = plan-is (turn .loop .right) (turn .loop .b .length) (c .before .before .before .before .find2 .result) (c .before .before .before .before .find2 .ensures .0)
+  right-plan : planOf (c .before .before .before .before .find2 .result) ≡ planned (held (turn .loop .right) (turn .loop .right-side .length))
+  right-plan = plan-is (turn .loop .right) (turn .loop .right-side .length) (c .before .before .before .before .find2 .result) (c .before .before .before .before .find2 .ensures .0)
 
   -- The searches keep the scratch's length.
   scratch-same : length (c .before .before .before .before .find2 .last .1 .1 .1 .0) ≡ length (turn .loop .scratch)
@@ -68,8 +68,8 @@ module _ (c : tie.After-judge Inv-loop μ-loop) where
   -- The judged round of the rounds' definition.
   abbrev Judged : Round → Type 0
   Judged x =
-      roundBy same (length (call .args .left .now)) (call .args .budget - turn .loop .spent) (held (turn .loop .left) (turn .loop .a .length))
-      (held (turn .loop .right) (turn .loop .b .length)) ≡ x
+      roundBy same (length (call .args .left .now)) (call .args .budget - turn .loop .spent) (held (turn .loop .left) (turn .loop .left-side .length))
+      (held (turn .loop .right) (turn .loop .right-side .length)) ≡ x
 
   the-round : {x : Round} → roundOf (c .judge .result) ≡ x → Judged x
   the-round e = judged (turn .loop .inv) shares left-plan right-plan (sym e ∙ c .judge .ensures)

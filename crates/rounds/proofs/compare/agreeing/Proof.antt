@@ -8,10 +8,10 @@ use Rattle.rounds.proofs.compare.agreeing.Statement.{statement}
 use Rattle.rounds.proofs.compare.agreeing.Tie as tie
 
 abbrev Inv-loop : tie.InvT-loop
-Inv-loop ws n vs m from shorter i₀ i = Agrees i (take n ws) (take m vs)
+Inv-loop left left-length right right-length from shorter i₀ i = Agrees i (take left-length left) (take right-length right)
 
 abbrev μ-loop : tie.MeasureT-loop
-μ-loop ws n vs m from shorter i₀ i = shorter - i
+μ-loop left left-length right right-length from shorter i₀ i = shorter - i
 
 least-requires : tie.Need-least-requires Inv-loop μ-loop
 least-requires c κs = tt
@@ -22,7 +22,7 @@ loop-holds c = c .before .before .before .pre .agrees
 abbrev entry : tie.At-loop Inv-loop μ-loop → tie.Start Inv-loop μ-loop
 entry l = l .before .before .before .before
 
-fits : (c : tie.In-loop Inv-loop μ-loop) → (c .before .loop .i < entry (c .before) .args .n) × (c .before .loop .i < entry (c .before) .args .m)
+fits : (c : tie.In-loop Inv-loop μ-loop) → (c .before .loop .i < entry (c .before) .args .left-length) × (c .before .loop .i < entry (c .before) .args .right-length)
 fits c = let e = c .before .before .least .ensures in (omega arith, omega arith)
 
 mul-if1 : tie.Need-mul-if1 Inv-loop μ-loop
