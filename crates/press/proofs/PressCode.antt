@@ -166,11 +166,14 @@ module _ (m : Memory) (c : Call) where
             by-terms
             ∙ ap₂ (pressTerms m c) (is-held (m .left) (c .leftLength) limit is-left .term) (not-term (m .right) (c .rightLength) right-limit e)
 
-        pub pressed-terms : isTerm (m .right) (c .rightLength) ≡ true
-            → press m c
+        pub pressed-terms : isTerm (m .right) (c .rightLength) ≡ true → {p : Pressed}
+            → p
             ≡ conclude (length (m .left)) (m .session)
             (rounds (length (m .left)) (c .budget) (held (m .left) (c .leftLength)) (held (m .right) (c .rightLength)))
-        pressed-terms e =
-            by-terms
+            → p ≡ press m c
+        pressed-terms e q =
+            q
+            ∙ sym
+            (by-terms
             ∙ ap₂ (pressTerms m c) (is-held (m .left) (c .leftLength) limit is-left .term)
-            (is-held (m .right) (c .rightLength) right-limit e .term)
+            (is-held (m .right) (c .rightLength) right-limit e .term))
