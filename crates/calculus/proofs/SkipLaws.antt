@@ -101,3 +101,16 @@ pub span-bounded : (k : ℕ) (ws : List ℕ) → span k ws ≤ length ws
 span-bounded k [] = omega arith
 span-bounded zero (w ∷ ws) = omega arith
 span-bounded (suc k) (w ∷ ws) = omega (arith, span-bounded (arity w + k) ws)
+
+-- More items end no earlier, and an item that starts inside others ends inside them.
+span-more : (j k : ℕ) (ws : List ℕ) → j ≤ k → span j ws ≤ span k ws
+span-more j k [] h = omega arith
+span-more zero k (w ∷ ws) h = omega arith
+span-more (suc j) zero (w ∷ ws) h = absurd (omega arith)
+span-more (suc j) (suc k) (w ∷ ws) h = omega (arith, span-more (arity w + j) (arity w + k) ws (omega arith))
+
+pub span-inside : (k i : ℕ) (ws : List ℕ) → i < span k ws → i + span 1 (drop i ws) ≤ span k ws
+span-inside k i [] h = absurd (omega arith)
+span-inside zero i (w ∷ ws) h = absurd (omega arith)
+span-inside (suc k) zero (w ∷ ws) h = omega (arith, span-more (arity w + 0) (arity w + k) ws (omega arith))
+span-inside (suc k) (suc i) (w ∷ ws) h = omega (arith, span-inside (arity w + k) i ws (omega arith))

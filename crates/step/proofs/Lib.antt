@@ -5,4 +5,5 @@ pub mod SearchLaws
 pub mod NextLaws
 pub mod PlanLaws
 pub mod TailLaws
+pub mod EndsLaws
 pub mod ContractLaws

@@ -1,9 +1,9 @@
 -- The contraction of the held term in the words of the workspace: the parts found at the redex's position are those that substitution asks for,
 -- and the next term's words are those before the redex, the substituted body's and those behind the redex.
-use Prim.Native.Nat.{ℕ, _+_, _-_, _*_, _≤_, _<_}
+use Prim.Native.Nat.{ℕ, suc, _+_, _-_, _*_, _≤_, _<_}
 use mathlib.Core.Path.{_≡_, refl, sym, _∙_, ap}
 use mathlib.Core.List.{List, _++_, append-assoc}
-use mathlib.Core.Option.{some, Option·none-ne-some}
+use mathlib.Core.Option.{Option, some, Option·map, Option·none-ne-some, Option·some-injective}
 use native.Mathlib.Nat.{add-zero}
 use native.Mathlib.Omega.{arith}
 use lib.ListN.{length, take, drop, length-append, length-drop}
@@ -12,6 +12,8 @@ use Rattle.calculus.specs.Term.{Sort, Exp, Term, Terms, count}
 use Rattle.calculus.specs.Words.{countBase, workspaceMost, words, size}
 use Rattle.calculus.specs.Skip.{span}
 use Rattle.calculus.specs.Substitution.{subst}
+use Rattle.calculus.specs.Contraction.{Rule}
+use Rattle.calculus.specs.Position.{contractAt}
 use Rattle.calculus.specs.Theorems.{Packable, IndicesWithin}
 use Rattle.calculus.proofs.WordLaws.{accepted-packable}
 use Rattle.calculus.proofs.SizeLaws.{size-subst}
@@ -33,10 +35,12 @@ use Rattle.step.proofs.RedexLaws.{From, Stands, stands, Root, contracts
 abbrev pub endAt : List ℕ → ℕ → ℕ
 endAt ws at = at + span 1 (drop at ws)
 
--- What is known where the parts of the redex at `at` were found at b and a, with m arguments: they may be substituted, and from the redex on the
--- next term's words are those of the substituted body and those behind the redex.
-pub record Contraction (ws : List ℕ) (n at b a m : ℕ) : Type 0 where
+-- What is known where the parts of the redex at `at` were found at b and a, with m arguments and so many items left behind the body: the arguments
+-- may be substituted, the redex ends with the last item, and from the redex on the next term's words are those of the substituted body and those
+-- behind the redex.
+pub record Contraction (ws : List ℕ) (n at b a m left : ℕ) : Type 0 where
   pub substitutable : Substitutable ws b a m
+  pub ends-left : b + span (suc left) (drop b ws) ≡ endAt ws at
   pub ends : endAt ws at ≤ n
   pub rest : nextFrom ws n at ≡ words (substituted ws b a m) ++ slice (endAt ws at) n ws
   pub short : size (substituted ws b a m) ≤ workspaceMost * workspaceMost
@@ -46,7 +50,7 @@ stands-short : {s : Sort} {e : Exp s} {W : List ℕ} {p : ℕ} → Stands W p e 
 stands-short {e = e} {W} {p} s = omega (arith, ap length (s .words-at .from), length-append (words e) (s .after), length-drop p W)
 
 -- The parts of a term that contracts.
-record Apart (W : List ℕ) (t c : Term) (b a m : ℕ) : Type 0 where
+record Apart (W : List ℕ) (at : ℕ) (t c : Term) (b a m left : ℕ) : Type 0 where
   body : Term
   arguments : Terms
   body-stands : Stands W b body
@@ -55,10 +59,12 @@ record Apart (W : List ℕ) (t c : Term) (b a m : ℕ) : Type 0 where
   few : m < countBase
   indices : (limit : ℕ) → IndicesWithin limit t → IndicesWithin limit arguments
   smaller : size body + size arguments ≤ size t
+  ends-left : b + span (suc left) (drop b W) ≡ at + size t
   contracted : c ≡ subst arguments 0 body
 
-apart : {W : List ℕ} {t c : Term} {b a m : ℕ} → Root W t (some c) (parted b a m) → Apart W t c b a m
-apart (contracts {e = e} {xs = xs} s s′ l i m) =
+apart : {W : List ℕ} {at : ℕ} {t c : Term} {o : Option (Rule × Term)} {rule : Rule} {b a m left : ℕ} → Root W at t o (parted rule b a m left)
+    → Option·map (λ s. s .1) o ≡ some c → Apart W at t c b a m left
+apart (contracts {e = e} {xs = xs} s s′ l i m q) p =
     record {
       body = e;
       arguments = xs;
@@ -68,7 +74,8 @@ apart (contracts {e = e} {xs = xs} s s′ l i m) =
       few = l;
       indices = i;
       smaller = m;
-      contracted = refl;
+      ends-left = q;
+      contracted = sym (Option·some-injective _ _ p);
     }
 
 module _ {ws : List ℕ} {n at : ℕ} (here : HoldsRedex ws n at) where
@@ -146,9 +153,10 @@ module _ {ws : List ℕ} {n at : ℕ} (here : HoldsRedex ws n at) where
       let f = focused in
       omega (arith, end-is, start .long, ap length (f .from ∙ sym (append-assoc (f .before) (words (f .redex)) (f .after))), length-append (f .before ++ words (f .redex)) (f .after))
 
-  module _ {b a m : ℕ} (found : parts at (drop at ws) ≡ parted b a m) where
-    at-parts : Apart ws (focused .redex) (focused .contractum) b a m
-    at-parts = apart (rw (focused .contracts, found) at (root redex-stands))
+  module _ {rule : Rule} {b a m left : ℕ} (found : parts at (drop at ws) ≡ parted rule b a m left) where
+    at-parts : Apart ws at (focused .redex) (focused .contractum) b a m left
+    unfolding contractAt
+    at-parts = apart (rw found at (root redex-stands)) (focused .contracts)
 
     substituted-is : substituted ws b a m ≡ focused .contractum
     substituted-is =
@@ -158,7 +166,7 @@ module _ {ws : List ℕ} {n at : ℕ} (here : HoldsRedex ws n at) where
         substituted-at ws b a m (q .body) (q .arguments) (s .after) (s′ .after) (s .words-at .from) (s .packable) (s′ .words-at .from) (s′ .packable) (q .counted)
         ∙ sym (q .contracted)
 
-    pub contraction : Contraction ws n at b a m
+    pub contraction : Contraction ws n at b a m left
     contraction =
         let q = at-parts in
         let s = q .body-stands in
@@ -167,6 +175,7 @@ module _ {ws : List ℕ} {n at : ℕ} (here : HoldsRedex ws n at) where
           substitutable =
               substitutable-at ws b a m (q .body) (q .arguments) (s .after) (s′ .after) (s .words-at .from) (s .packable) (s′ .words-at .from) (s′ .packable)
               (q .counted) (here .holds .limit) (omega (arith, q .few)) (q .indices indexLimit (focused .indices));
+          ends-left = omega (arith, q .ends-left, redex-span);
           ends = end-within;
           rest = rw (after-is, substituted-is) next-rest;
           short =

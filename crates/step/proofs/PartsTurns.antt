@@ -1,8 +1,8 @@
 -- The parts of a redex, by the words at a position of a workspace: what each turn and each branch of the code finds.
 use Prim.Native.Nat.{ℕ, zero, suc, _+_, _-_, _≤_, _<_}
 use mathlib.Core.Path.{_≡_, refl, _∙_, ap}
-use mathlib.Core.Bool.{cond}
-use mathlib.Core.List.{List, _∷_}
+use mathlib.Core.Bool.{Bool, true, false, cond}
+use mathlib.Core.List.{List, [], _∷_}
 use native.Mathlib.Numerals.{add-one}
 use native.Mathlib.Omega.{arith}
 use lib.Dec.{eqb}
@@ -10,7 +10,8 @@ use borrow.Author.Tests.{eq-eqb, ne-eqb}
 use lib.ListN.{length, getD, drop, drop-of-length-le}
 use lib.Seq.{drop-cons, drop-drop}
 use Rattle.calculus.specs.Words.{abstractionKind, applicationKind, constructorKind, caseKind, kindOf, payloadOf, tagOf, countOf}
-use Rattle.calculus.specs.Skip.{span}
+use Rattle.calculus.specs.Skip.{skip, span}
+use Rattle.calculus.specs.Contraction.{by-beta}
 use Rattle.calculus.proofs.SkipLaws.{skip-drop}
 use Rattle.step.specs.declared.rules.Found.{Found}
 use Rattle.step.specs.declared.rules.Found.the-variants as found
@@ -29,7 +30,7 @@ branchBody-past (suc k) t n i ws h = rw (drop-of-length-le ws h)
 branchBody-step : (k t n i : ℕ) (ws : List ℕ) → i < length ws → (k ≡ 0 → ⊥)
     → branchBody k t n i (drop i ws)
     ≡ cond (eqb t (tagOf (payloadOf (getD ws i 0))))
-    (cond (eqb n (countOf (payloadOf (getD ws i 0)))) (found.At (i + 1)) found.Nothing)
+    (cond (eqb n (countOf (payloadOf (getD ws i 0)))) (found.At (i + 1) (k - 1)) found.Nothing)
     (branchBody (k - 1) t n (i + 1 + span 1 (drop (i + 1) ws)) (drop (i + 1 + span 1 (drop (i + 1) ws)) ws))
 unfolding branchBody
 branchBody-step zero t n i ws h z = absurd (z refl)
@@ -39,7 +40,7 @@ branchBody-step (suc k) t n i ws h z =
 
 -- The branch at i has the tag and binds n variables, or another number; or it has another tag.
 module _ (k t n i : ℕ) (ws : List ℕ) (within : i < length ws) (left : k ≡ 0 → ⊥) where
-  pub branchBody-fits : t ≡ tagOf (payloadOf (getD ws i 0)) → n ≡ countOf (payloadOf (getD ws i 0)) → branchBody k t n i (drop i ws) ≡ found.At (i + 1)
+  pub branchBody-fits : t ≡ tagOf (payloadOf (getD ws i 0)) → n ≡ countOf (payloadOf (getD ws i 0)) → branchBody k t n i (drop i ws) ≡ found.At (i + 1) (k - 1)
   branchBody-fits p q = branchBody-step k t n i ws within left ∙ rw (eq-eqb _ _ p, eq-eqb _ _ q)
 
   pub branchBody-other : t ≡ tagOf (payloadOf (getD ws i 0)) → (n ≡ countOf (payloadOf (getD ws i 0)) → ⊥) → branchBody k t n i (drop i ws) ≡ found.Nothing
@@ -47,6 +48,32 @@ module _ (k t n i : ℕ) (ws : List ℕ) (within : i < length ws) (left : k ≡ 
 
   pub branchBody-later : (t ≡ tagOf (payloadOf (getD ws i 0)) → ⊥) → {j : ℕ} → j ≡ i + 1 + span 1 (drop (i + 1) ws) → branchBody k t n i (drop i ws) ≡ branchBody (k - 1) t n j (drop j ws)
   branchBody-later p q = branchBody-step k t n i ws within left ∙ rw (ne-eqb _ _ p, q)
+
+-- Fewer branches than all are behind the one that was found.
+data Behind (k : ℕ) : Found → Type 0 where
+  absent : Behind k found.Nothing
+  fewer : {b left : ℕ} → left < k → Behind k (found.At b left)
+
+behind-cond : {k : ℕ} (c : Bool) {r x : Found} → Behind k r → Behind k x → Behind k (cond c r x)
+behind-cond true r x = r
+behind-cond false r x = x
+
+behind-more : {k : ℕ} {r : Found} → Behind k r → Behind (suc k) r
+behind-more absent = absent
+behind-more (fewer {left = left} l) = fewer {left = left} (omega arith)
+
+branchBody-behind : (k t n i : ℕ) (ws : List ℕ) → Behind k (branchBody k t n i ws)
+unfolding branchBody
+branchBody-behind zero t n i ws = absent
+branchBody-behind (suc k) t n i [] = absent
+branchBody-behind (suc k) t n i (w ∷ ws) =
+    behind-cond (eqb t (tagOf (payloadOf w))) (behind-cond (eqb n (countOf (payloadOf w))) (fewer (omega arith)) absent) (behind-more (branchBody-behind k t n (i + 1 + span 1 ws) (skip 1 ws)))
+
+pub branchBody-left : (k t n i : ℕ) (ws : List ℕ) {b left : ℕ} → found.At b left ≡ branchBody k t n i ws → left < k
+branchBody-left k t n i ws e = go (rw (← e) at (branchBody-behind k t n i ws))
+  where
+    go : {b left : ℕ} → Behind k (found.At b left) → left < k
+    go (fewer l) = l
 
 -- The words from a position on, by the first, and by the first two.
 pub first-word : (i : ℕ) (ws : List ℕ) (j : ℕ) → i < length ws → j ≡ i + 1 → drop i ws ≡ getD ws i 0 ∷ drop j ws
@@ -71,7 +98,7 @@ parts-last i ws h l = rw (drop-cons ws i 0 h, drop-of-length-le ws {i = suc i} (
 -- The two first words are those of an application of an abstraction, of a case of a constructor, or others.
 module _ (i : ℕ) (ws : List ℕ) (within : i + 1 < length ws) where
   pub parts-beta : kindOf (getD ws i 0) ≡ applicationKind → kindOf (getD ws (i + 1) 0) ≡ abstractionKind
-      → parts i (drop i ws) ≡ parted (i + 2) (i + 2 + span 1 (drop (i + 2) ws)) 1
+      → parts i (drop i ws) ≡ parted by-beta (i + 2) (i + 2 + span 1 (drop (i + 2) ws)) 1 1
   unfolding parts
   parts-beta p q = rw (first-two i ws within, p, q)
 

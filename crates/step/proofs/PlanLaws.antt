@@ -2,12 +2,12 @@
 use Prim.Native.Nat.{ℕ, suc, _+_, _-_, _≤_, _<_}
 use mathlib.Core.Path.{_≡_, refl, sym, _∙_, ap}
 use mathlib.Core.List.{List, [], _∷_, _++_, append-assoc}
-use mathlib.Core.Option.{some}
+use mathlib.Core.Option.{some, Option·map}
 use native.Mathlib.Nat.{add-zero}
 use native.Mathlib.Omega.{arith}
 use lib.ListN.{length, getD, take, drop, take-append-drop}
-use lib.Seq.{slice, length-take-le, take-take, drop-append-le, drop-drop, getD-drop}
-use Rattle.calculus.specs.Term.{Terms, count}
+use lib.Seq.{slice, length-take-le, take-take, drop-append-le, getD-drop}
+use Rattle.calculus.specs.Term.{Term, Terms, count}
 use Rattle.calculus.specs.Words.{payloadOf, countOf, words, size}
 use Rattle.calculus.specs.Skip.{following, span}
 use Rattle.calculus.specs.First.{firstTerms}
@@ -19,20 +19,23 @@ use Rattle.substitution.proofs.DepthLaws.{span-depths}
 use Rattle.substitution.proofs.ItemLaws.{slice-taken}
 use Rattle.substitution.proofs.ResultLaws.{arguments-size}
 use Rattle.substitution.proofs.RewritingLaws.{standing-more, rewritten-alone, standing-substituted}
-use Rattle.substitution.proofs.StartLaws.{span-add}
 use Rattle.substitution.proofs.RewrittenLaws.{place-argument}
 use Rattle.substitution.proofs.CountLaws.{occurs-twice}
-use Rattle.calculus.specs.Position.{redexAt}
+use Rattle.calculus.specs.Contraction.{Rule as Calculus, by-beta}
+use Rattle.calculus.specs.Position.{stepAt, contractAt, redexAt}
 use Rattle.calculus.proofs.PositionLaws.{redex-first}
+use Rattle.step.specs.declared.Rule.{Rule}
+use Rattle.step.specs.declared.Rule.the-variants as rule
 use Rattle.step.specs.declared.Redex.{Redex}
 use Rattle.step.specs.Held.{held}
 use Rattle.step.specs.Search.{Searched}
 use Rattle.step.specs.Parts.{parted, parts}
 use Rattle.step.specs.Next.{next, HoldsRedex}
-use Rattle.step.specs.Plan.{Plans, At, Applied, EndTold, walked, stays, Inspected}
+use Rattle.step.specs.Plan.{ruleOf, Plans, At, Applied, EndTold, walked, stays, Inspected}
 use Rattle.step.proofs.HeldLaws.{next-term}
-use Rattle.step.proofs.PartsTurns.{first-word, first-two, parts-beta}
+use Rattle.step.proofs.PartsTurns.{first-word, parts-beta}
 use Rattle.step.proofs.SearchLaws.{redex-here}
+use Rattle.step.proofs.EndsLaws.{span-first}
 use Rattle.step.proofs.NextLaws.{endAt, start, length-short, next-size, Contraction, contraction, rest-length}
 
 -- Words from a position to an end, parted between.
@@ -45,18 +48,24 @@ slice-split l a e n h k m =
     ∙ drop-append-le a (take e t) (drop e t) (omega arith)
     ∙ ap (λ xs. drop a xs ++ drop e t) (take-take e n l k)
 
--- A redex starts where its parts are found.
-pub redex-found : {ws room : List ℕ} {n at b a m : ℕ} → At ws n at room → parts at (drop at ws) ≡ parted b a m → HoldsRedex ws n at
-redex-found {ws} {n = n} {at} h e =
-    let u = redex-here (h .holds) (h .within) e in
-    record { holds = h .holds; redex = u .1 ∙ ap some (sym (next-term ws n at (u .0) (u .1))) }
+-- A redex starts where its parts are found, and contracts by their rule.
+module _ {ws room : List ℕ} {n at : ℕ} {rule : Calculus} {b a m left : ℕ} (h : At ws n at room) (found : parts at (drop at ws) ≡ parted rule b a m left) where
+  stepped : (u : Term) × (stepAt at (held ws n) ≡ some (rule, u)) × (contractAt at (held ws n) ≡ some u)
+  unfolding contractAt
+  stepped = let u = redex-here (h .holds) (h .within) found in (u .0, u .1, ap (Option·map (λ c. c .1)) (u .1))
 
-module _ {ws room : List ℕ} {n at b a m : ℕ} (h : At ws n at room) (found : parts at (drop at ws) ≡ parted b a m) where
-  here : HoldsRedex ws n at
-  here = redex-found h found
+  next-is : next ws n at ≡ stepped .0
+  next-is = next-term ws n at (stepped .0) (stepped .2)
 
-  pub contracts : Contraction ws n at b a m
-  contracts = contraction here found
+  pub redex-found : HoldsRedex ws n at
+  redex-found = record { holds = h .holds; redex = rw next-is (stepped .2) }
+
+  -- The next term is what the rule makes of the held one.
+  pub rule-found : stepAt at (held ws n) ≡ some (rule, next ws n at)
+  rule-found = rw next-is (stepped .1)
+
+  pub contracts : Contraction ws n at b a m left
+  contracts = contraction redex-found found
 
   pub measurable : Measurable ws b m room
   measurable =
@@ -67,33 +76,38 @@ module _ {ws room : List ℕ} {n at b a m : ℕ} (h : At ws n at room) (found : 
         enough = omega (arith, contracts .small, h .room-fits);
       }
 
+  -- The items left behind the body end where the redex does.
+  pub left-end : {stop : ℕ} → stop ≡ b + span 1 (drop b ws) → stop + span left (drop stop ws) ≡ endAt ws at
+  left-end e = span-first ws b left e ∙ contracts .ends-left
+
   -- The whole body is rewritten, and what is behind the redex stays.
-  module _ {stop after end len : ℕ} (stop-is : stop ≡ b + span 1 (drop b ws)) (after-is : after ≡ a + span m (drop a ws)) (end-is : end ≡ endAt ws at)
+  module _ {ρ : Rule} {stop after end len : ℕ} (rule-is : ruleOf ρ ≡ rule) (stop-is : stop ≡ b + span 1 (drop b ws)) (after-is : after ≡ a + span m (drop a ws)) (end-is : end ≡ endAt ws at)
       (length-is : len ≡ at + size (substituted ws b a m) + (n - end)) where
-    pub plans : Plans ws n (record { at = at; body = b; stop = stop; args = a; after = after; count = m; end = end; length = len })
+    pub plans : Plans ws n (record { rule = ρ; at = at; body = b; stop = stop; args = a; after = after; count = m; end = end; length = len })
     plans =
         record {
-          redex = here;
+          redex = redex-found;
+          rule-is = rw rule-is rule-found;
           substitutable = contracts .substitutable;
           from = omega arith;
           to = omega arith;
           after-is = λ i l m q. after-is;
-          small = omega (arith, contracts .small, length-short here);
+          small = omega (arith, contracts .small, length-short redex-found);
           ends = omega (arith, contracts .ends);
           rest = rw (standing-substituted (contracts .substitutable) stop-is, end-is) (contracts .rest);
-          length-is = omega (arith, next-size here, rest-length here found);
+          length-is = omega (arith, next-size redex-found, rest-length redex-found found);
         }
 
 -- The only argument stays where it is: it stands for the last word of the body, under no binder.
-module _ {ws room : List ℕ} {n at b a : ℕ} (h : At ws n at room) (found : parts at (drop at ws) ≡ parted b a 1)
+module _ {ws room : List ℕ} {n at b a : ℕ} (h : At ws n at room) (found : parts at (drop at ws) ≡ parted by-beta b a 1 1)
     {stop times last after len : ℕ} (stop-is : stop + 1 ≡ b + span 1 (drop b ws)) (occur : times ≡ occurrences 1 0 (0 ∷ []) (drop b ws))
     (told : EndTold ws a times last after) (end-is : a + span 1 (drop a ws) ≡ endAt ws at)
     (length-is : len ≡ at + size (substituted ws b a 1) + (n - (a + span 1 (drop a ws)))) (some : b ≤ stop)
     (bare : getD (depths (0 ∷ []) (drop b ws)) (stop - b) 0 ≡ 0) (index : getD ws stop 0 ≡ 0) where
-  abbrev here′ : HoldsRedex ws n at
-  here′ = redex-found h found
+  abbrev here : HoldsRedex ws n at
+  here = redex-found h found
 
-  abbrev c : Contraction ws n at b a 1
+  abbrev c : Contraction ws n at b a 1 1
   c = contracts h found
 
   abbrev xs : Terms
@@ -145,24 +159,25 @@ module _ {ws room : List ℕ} {n at b a : ℕ} (h : At ws n at room) (found : pa
   argument-stays : words xs ++ slice (endAt ws at) n ws ≡ slice a n ws
   argument-stays =
       rw (← argument-words, ← end-is)
-      (sym (slice-split ws a behind n (omega arith) (omega (arith, c .ends)) (start here′ .within)))
+      (sym (slice-split ws a behind n (omega arith) (omega (arith, c .ends)) (start here .within)))
 
-  pub plans-left : Plans ws n (record { at = at; body = b; stop = stop; args = a; after = after; count = 1; end = a; length = len })
+  pub plans-left : Plans ws n (record { rule = rule.Beta; at = at; body = b; stop = stop; args = a; after = after; count = 1; end = a; length = len })
   plans-left =
       record {
-        redex = here′;
+        redex = here;
+        rule-is = rule-found h found;
         substitutable = c .substitutable;
         from = some;
         to = omega arith;
         after-is = after-is;
-        small = omega (arith, c .small, length-short here′);
+        small = omega (arith, c .small, length-short here);
         ends = omega (arith, c .ends, end-is);
         rest =
             c .rest
             ∙ ap (λ vs. vs ++ slice (endAt ws at) n ws) body-words
             ∙ append-assoc front (words xs) (slice (endAt ws at) n ws)
             ∙ ap (λ vs. front ++ vs) argument-stays;
-        length-is = omega (arith, next-size here′, rest-length here′ found, end-is);
+        length-is = omega (arith, next-size here, rest-length here found, end-is);
       }
 
 -- The search stops at the first redex that it finds.
@@ -171,52 +186,19 @@ planned-here {ws} {n} {i} {r} s p =
     let e = p .1 in
     (redex-first (held ws n) (r .at) .1 ((next ws n (r .at), p .0 .redex .redex), rw e (s .before)), p .0)
 
--- Where an application of an abstraction ends.
+-- Where an application of an abstraction has its parts.
 module _ {ws room : List ℕ} {n at : ℕ} (h : Applied ws n at room) where
   abbrev pub argumentAt : ℕ
   argumentAt = at + 2 + span 1 (drop (at + 2) ws)
 
-  pub applied-parts : parts at (drop at ws) ≡ parted (at + 2) argumentAt 1
+  pub applied-parts : parts at (drop at ws) ≡ parted by-beta (at + 2) argumentAt 1 1
   applied-parts = parts-beta at ws (h .further) (h .application) (h .abstraction)
 
-  pub applied-end : {after : ℕ} → after ≡ argumentAt + span 1 (drop argumentAt ws) → after ≡ endAt ws at
-  unfolding following
-  applied-end e =
-      let vs = drop (at + 2) ws in
-      let s : span 1 (drop at ws) ≡ suc (suc (span 2 vs)) =
-      ap (span 1) (first-two at ws (h .further)) ∙ rw (h .application, h .abstraction) in
-      omega (
-        arith,
-        e,
-        s,
-        span-add vs 1 1,
-        ap (span 1) (drop-drop (span 1 vs) (at + 2) ws),
-      )
-
--- Where the parts of a case of a constructor end.
-module _ {ws room : List ℕ} {n at w v : ℕ} (h : Inspected ws n at w v room) where
-  pub inspected-after : {count after : ℕ} → count ≡ countOf (payloadOf v) → after ≡ at + 2 + span count (drop (at + 2) ws) → after ≡ at + 1 + span 1 (drop (at + 1) ws)
-  unfolding following
-  inspected-after {count} e f =
-      let vs = drop (at + 2) ws in
-      let s : span 1 (drop (at + 1) ws) ≡ suc (span count vs) =
-      ap (span 1) (first-word (at + 1) ws (at + 2) (h .further) (omega arith)) ∙ rw (← h .constructor-is, h .constructor, add-zero, ← e) in
-      omega arith
-
-  pub inspected-end : {count branches after : ℕ} → count ≡ countOf (payloadOf v) → branches ≡ payloadOf w → after ≡ at + 2 + span count (drop (at + 2) ws)
-      → at + span 1 (drop at ws) ≡ after + span branches (drop after ws)
-  unfolding following
-  inspected-end {count} {branches} {after} e f g =
-      let vs = drop (at + 1) ws in
-      let one : suc branches ≡ 1 + branches = omega arith in
-      let from : after ≡ at + 1 + span 1 vs = inspected-after e g in
-      let s : span 1 (drop at ws) ≡ suc (span (suc branches) vs) =
-      ap (span 1) (first-word at ws (at + 1) (omega (arith, h .further)) refl) ∙ rw (← h .case-is, h .case, add-zero, ← f) in
-      omega (
-        arith,
-        s,
-        ap (λ k. span k vs) one,
-        span-add vs 1 branches,
-        ap (span branches) (drop-drop (span 1 vs) (at + 1) ws),
-        ap (λ k. span branches (drop k ws)) from,
-      )
+-- Where the arguments of a case's constructor end: where the constructor does.
+pub inspected-after : {ws room : List ℕ} {n at w v count after : ℕ} → Inspected ws n at w v room → count ≡ countOf (payloadOf v) → after ≡ at + 1 + span 1 (drop (at + 1) ws)
+    → after ≡ at + 2 + span count (drop (at + 2) ws)
+unfolding following
+inspected-after {ws} {at = at} {count = count} h e f =
+    let s : span 1 (drop (at + 1) ws) ≡ suc (span count (drop (at + 2) ws)) =
+    ap (span 1) (first-word (at + 1) ws (at + 2) (h .further) (omega arith)) ∙ rw (← h .constructor-is, h .constructor, add-zero, ← e) in
+    omega arith

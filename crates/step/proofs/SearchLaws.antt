@@ -1,6 +1,6 @@
 -- A redex starts at a position of a term exactly where its parts are found in the words there.
 use Prim.Native.Nat.{ℕ, zero, suc, _+_, _-_, _≤_, _<_}
-use mathlib.Core.Path.{_≡_, refl, sym, subst}
+use mathlib.Core.Path.{_≡_, refl, sym, subst, _∙_, ap}
 use mathlib.Core.Bool.{Bool, true, false, cond}
 use mathlib.Core.List.{List, _++_, append-assoc}
 use mathlib.Core.Option.{Option, some, none, Option·map}
@@ -11,44 +11,46 @@ use borrow.Author.Count.{below-more}
 use borrow.Author.Tests.{ltb-true, ltb-false}
 use Rattle.calculus.specs.Term.{Sort, Exp, Term, var, lam, app, con, case, nil, cons, end, branch}
 use Rattle.calculus.specs.Words.{branchKind, pack, words, size}
+use Rattle.calculus.specs.Skip.{span}
+use Rattle.calculus.specs.Contraction.{Rule}
 use Rattle.calculus.specs.Position.{through, stepAt, contractAt, redexAt}
 use Rattle.calculus.specs.Theorems.{Packable}
 use Rattle.step.specs.Held.{held, Holds}
+use Rattle.step.specs.Ends.{Ends, Filled}
 use Rattle.step.specs.Search.{Searched}
 use Rattle.step.specs.Parts.{Parts, nothing, parted, parts}
 use Rattle.calculus.proofs.PositionLaws.{redex-absent}
 use Rattle.calculus.proofs.WordLaws.{accepted-packable}
+use Rattle.calculus.proofs.SkipLaws.{span-inside}
+use Rattle.calculus.proofs.FirstLaws.{span-items}
+use Rattle.step.proofs.EndsLaws.{ends-none, ends-later}
 use Rattle.step.proofs.HeldLaws.{termAt-start}
 use Rattle.step.proofs.RedexLaws.{From, behind-word, behind, Root, stuck, contracts, root, stands, other-first}
 
--- A contraction and its parts are both there, or neither is.
-pub data Agrees {A : Type 0} : Option A → Parts → Type 0 where
+-- A contraction and its parts are both there, by the same rule, or neither is.
+pub data Agrees {A : Type 0} : Option (Rule × A) → Parts → Type 0 where
   neither : Agrees none nothing
-  both : {a : A} {b x n : ℕ} → Agrees (some a) (parted b x n)
+  both : {rule : Rule} {a : A} {b x n l : ℕ} → Agrees (some (rule, a)) (parted rule b x n l)
 
-agrees-map : {A B : Type 0} (f : A → B) {o : Option A} {r : Parts} → Agrees o r → Agrees (Option·map f o) r
-agrees-map f neither = neither
-agrees-map f both = both
+agrees-through : {A B : Type 0} (f : A → B) {o : Option (Rule × A)} {r : Parts} → Agrees o r → Agrees (Option·map (through f) o) r
+agrees-through f neither = neither
+agrees-through f both = both
 
-agrees-back : {A B : Type 0} (f : A → B) (o : Option A) {r : Parts} → Agrees (Option·map f o) r → Agrees o r
-agrees-back f none neither = neither
-agrees-back f (some a) both = both
-
-agrees-ltb : {A : Type 0} (m n : ℕ) {x y : Option A} {r : Parts} → (m < n → Agrees x r) → (n ≤ m → Agrees y r) → Agrees (cond (ltb m n) x y) r
+agrees-ltb : {A : Type 0} (m n : ℕ) {x y : Option (Rule × A)} {r : Parts} → (m < n → Agrees x r) → (n ≤ m → Agrees y r) → Agrees (cond (ltb m n) x y) r
 agrees-ltb m n {x} {y} {r} f g = go (ltb m n) refl
   where
     go : (b : Bool) → ltb m n ≡ b → Agrees (cond b x y) r
     go true e = f (ltb-true m n e)
     go false e = g (ltb-false m n e)
 
-agrees-root : {W : List ℕ} {t : Term} {o : Option Term} {r : Parts} → Root W t o r → Agrees o r
+agrees-root : {W : List ℕ} {at : ℕ} {t : Term} {o : Option (Rule × Term)} {r : Parts} → Root W at t o r → Agrees o r
 agrees-root stuck = neither
-agrees-root (contracts b a l i m) = both
+agrees-root (contracts b a l i m e) = both
 
-agrees-some : {A : Type 0} {o : Option A} {b x n : ℕ} → Agrees o (parted b x n) → (a : A) × (o ≡ some a)
+agrees-some : {A : Type 0} {o : Option (Rule × A)} {rule : Rule} {b x n l : ℕ} → Agrees o (parted rule b x n l) → (a : A) × (o ≡ some (rule, a))
 agrees-some (both {a = a}) = (a, refl)
 
-agrees-none : {A : Type 0} {o : Option A} → Agrees o nothing → o ≡ none
+agrees-none : {A : Type 0} {o : Option (Rule × A)} → Agrees o nothing → o ≡ none
 agrees-none neither = refl
 
 -- The contractions at p of an expression, beside the parts found at the position q of a workspace.
@@ -56,34 +58,33 @@ abbrev FoundAt : {s : Sort} → List ℕ → (q p : ℕ) → Exp s → Type 0
 FoundAt W q p e = Agrees (stepAt p e) (parts q (drop q W))
 
 found-root : (t : Term) {W : List ℕ} (at : ℕ) {q : ℕ} (vs : List ℕ) → Packable t → From W at (words t ++ vs) → at ≡ q → FoundAt W q 0 t
-unfolding contractAt
-found-root t {W} at vs h s e = subst (λ q. FoundAt W q 0 t) e (agrees-back (λ c. c .1) (stepAt 0 t) (agrees-root (root (stands t vs s h))))
+found-root t {W} at vs h s e = subst (λ q. FoundAt W q 0 t) e (agrees-root (root (stands t vs s h)))
 
 found-at : {s : Sort} (e : Exp s) {W : List ℕ} (at p : ℕ) {q : ℕ} (vs : List ℕ) → Packable e → From W at (words e ++ vs) → p < size e → at + p ≡ q → FoundAt W q p e
 unfolding stepAt
 found-at (var i) at p vs h s l e = found-root (var i) at vs h s (omega arith)
 found-at (lam b) at zero vs h s l e = found-root (lam b) at vs h s (omega arith)
-found-at (lam b) at (suc p) vs h s l e = agrees-map (through lam) (found-at b (at + 1) p vs h (behind-word s) (omega arith) (omega arith))
+found-at (lam b) at (suc p) vs h s l e = agrees-through lam (found-at b (at + 1) p vs h (behind-word s) (omega arith) (omega arith))
 found-at (app f a) at zero vs h s l e = found-root (app f a) at vs h s (omega arith)
 found-at (app f a) at (suc p) vs h s l e =
     let s′ = rw (append-assoc (words f) (words a) vs) at (behind-word s) in
     agrees-ltb p (size f)
-    (λ m. agrees-map (through (λ f′. app f′ a)) (found-at f (at + 1) p (words a ++ vs) (h .0) s′ m (omega arith)))
-    (λ m. agrees-map (through (app f)) (found-at a (at + 1 + size f) (p - size f) vs (h .1) (behind (words f) s′) (omega (arith, length-append (words f) (words a))) (omega arith)))
+    (λ m. agrees-through (λ f′. app f′ a) (found-at f (at + 1) p (words a ++ vs) (h .0) s′ m (omega arith)))
+    (λ m. agrees-through (app f) (found-at a (at + 1 + size f) (p - size f) vs (h .1) (behind (words f) s′) (omega (arith, length-append (words f) (words a))) (omega arith)))
 found-at (con t xs) at zero vs h s l e = found-root (con t xs) at vs h s (omega arith)
-found-at (con t xs) at (suc p) vs h s l e = agrees-map (through (con t)) (found-at xs (at + 1) p vs (h .1) (behind-word s) (omega arith) (omega arith))
+found-at (con t xs) at (suc p) vs h s l e = agrees-through (con t) (found-at xs (at + 1) p vs (h .1) (behind-word s) (omega arith) (omega arith))
 found-at (case c bs) at zero vs h s l e = found-root (case c bs) at vs h s (omega arith)
 found-at (case c bs) at (suc p) vs h s l e =
     let s′ = rw (append-assoc (words c) (words bs) vs) at (behind-word s) in
     agrees-ltb p (size c)
-    (λ m. agrees-map (through (λ c′. case c′ bs)) (found-at c (at + 1) p (words bs ++ vs) (h .1) s′ m (omega arith)))
-    (λ m. agrees-map (through (case c)) (found-at bs (at + 1 + size c) (p - size c) vs (h .2) (behind (words c) s′) (omega (arith, length-append (words c) (words bs))) (omega arith)))
+    (λ m. agrees-through (λ c′. case c′ bs) (found-at c (at + 1) p (words bs ++ vs) (h .1) s′ m (omega arith)))
+    (λ m. agrees-through (case c) (found-at bs (at + 1 + size c) (p - size c) vs (h .2) (behind (words c) s′) (omega (arith, length-append (words c) (words bs))) (omega arith)))
 found-at nil at p vs h s l e = absurd (omega arith)
 found-at (cons a xs) at p vs h s l e =
     let s′ = rw (append-assoc (words a) (words xs) vs) at s in
     agrees-ltb p (size a)
-    (λ m. agrees-map (through (λ a′. cons a′ xs)) (found-at a at p (words xs ++ vs) (h .0) s′ m e))
-    (λ m. agrees-map (through (cons a)) (found-at xs (at + size a) (p - size a) vs (h .1) (behind (words a) s′) (omega (arith, length-append (words a) (words xs))) (omega arith)))
+    (λ m. agrees-through (λ a′. cons a′ xs) (found-at a at p (words xs ++ vs) (h .0) s′ m e))
+    (λ m. agrees-through (cons a) (found-at xs (at + size a) (p - size a) vs (h .1) (behind (words a) s′) (omega (arith, length-append (words a) (words xs))) (omega arith)))
 found-at end at p vs h s l e = absurd (omega arith)
 found-at (branch t n b bs) at zero {q} vs h s l e =
     let z : q ≡ at = omega arith in
@@ -91,8 +92,8 @@ found-at (branch t n b bs) at zero {q} vs h s l e =
 found-at (branch t n b bs) at (suc p) vs h s l e =
     let s′ = rw (append-assoc (words b) (words bs) vs) at (behind-word s) in
     agrees-ltb p (size b)
-    (λ m. agrees-map (through (λ b′. branch t n b′ bs)) (found-at b (at + 1) p (words bs ++ vs) (h .1) s′ m (omega arith)))
-    (λ m. agrees-map (through (branch t n b)) (found-at bs (at + 1 + size b) (p - size b) vs (h .2) (behind (words b) s′) (omega (arith, length-append (words b) (words bs))) (omega arith)))
+    (λ m. agrees-through (λ b′. branch t n b′ bs) (found-at b (at + 1) p (words bs ++ vs) (h .1) s′ m (omega arith)))
+    (λ m. agrees-through (branch t n b) (found-at bs (at + 1 + size b) (p - size b) vs (h .2) (behind (words b) s′) (omega (arith, length-append (words b) (words bs))) (omega arith)))
 
 -- At each position of the held term.
 module _ {ws : List ℕ} {n : ℕ} (holds : Holds ws n) {p : ℕ} (within : p < n) where
@@ -102,25 +103,47 @@ module _ {ws : List ℕ} {n : ℕ} (holds : Holds ws n) {p : ℕ} (within : p < 
       found-at (held ws n) 0 p (drop n ws) (accepted-packable 0 (held ws n) (h .accepted)) (record { from = sym (h .start) })
       (omega arith) (omega arith)
 
-  pub redex-here : {b x m : ℕ} → parts p (drop p ws) ≡ parted b x m → (u : Term) × (contractAt p (held ws n) ≡ some u)
-  unfolding contractAt
-  redex-here e = agrees-some (agrees-map (λ c. c .1) (rw e at found-here))
+  pub redex-here : {rule : Rule} {b x m l : ℕ} → parts p (drop p ws) ≡ parted rule b x m l → (u : Term) × (stepAt p (held ws n) ≡ some (rule, u))
+  redex-here e = agrees-some (rw e at found-here)
 
   pub no-redex-here : parts p (drop p ws) ≡ nothing → contractAt p (held ws n) ≡ none
   unfolding contractAt
-  no-redex-here e = agrees-none (agrees-map (λ c. c .1) (rw e at found-here))
+  no-redex-here e = ap (Option·map (λ c. c .1)) (agrees-none (rw e at found-here))
 
--- The turns of the search.
-module _ {ws : List ℕ} {n i : ℕ} (searched : Searched ws n i) where
+  -- The item there ends inside the term.
+  pub ends-inside : p + span 1 (drop p ws) ≤ n
+  ends-inside =
+      let h = termAt-start ws n (held ws n) (holds .term) in
+      let whole : span 1 ws ≡ n = ap (span 1) (sym (h .start)) ∙ span-items (held ws n) (drop n ws) refl (accepted-packable 0 (held ws n) (h .accepted)) ∙ h .long in
+      omega (arith, whole, span-inside 1 p ws (omega arith))
+
+-- The search: no redex starts before i, and from there on the scratch tells the ends before `known`.
+pub record Searching (ws : List ℕ) (n : ℕ) (scratch₀ scratch : List ℕ) (i known : ℕ) : Type 0 where
+  pub searched : Searched ws n i
+  pub table : Ends ws i known scratch
+  pub kept : length scratch ≡ length scratch₀
+
+pub searching-starts : {ws : List ℕ} {n from : ℕ} (scratch : List ℕ) → Searched ws n from → Searching ws n scratch scratch from 0
+searching-starts scratch s = record { searched = s; table = ends-none _ _ scratch; kept = refl }
+
+module _ {ws : List ℕ} {n : ℕ} {scratch₀ scratch : List ℕ} {i known : ℕ} (v : Searching ws n scratch₀ scratch i known) where
   pub search-within : n ≤ length ws
-  search-within = termAt-start ws n (held ws n) (searched .holds .term) .within
+  search-within = termAt-start ws n (held ws n) (v .searched .holds .term) .within
 
-  pub search-goes-on : i < n → parts i (drop i ws) ≡ nothing → Searched ws n (i + 1)
+  search-goes-on : i < n → parts i (drop i ws) ≡ nothing → Searched ws n (i + 1)
   search-goes-on l e =
       record {
-        holds = searched .holds;
-        before = below-more _ _ (searched .before) (no-redex-here (searched .holds) l e);
+        holds = v .searched .holds;
+        before = below-more _ _ (v .searched .before) (no-redex-here (v .searched .holds) l e);
       }
 
+  -- A turn that sees nothing, and one that sees a stuck case and fills in the ends inside it.
+  pub searching-on : {scratch′ : List ℕ} → i < n → (parts i (drop i ws) ≡ nothing) × (scratch′ ≡ scratch) → Searching ws n scratch₀ scratch′ (i + 1) known
+  searching-on l h = record { searched = search-goes-on l (h .0); table = rw (h .1) (ends-later (v .table) (omega arith)); kept = ap length (h .1) ∙ v .kept }
+
+  pub searching-stuck : {scratch′ filled : List ℕ} {end : ℕ} → i < n → (parts i (drop i ws) ≡ nothing) × (scratch′ ≡ scratch) × (known ≤ i)
+      → Filled ws i scratch′ end filled → length filled ≡ length scratch′ → Searching ws n scratch₀ filled (i + 1) end
+  searching-stuck l h f k = record { searched = search-goes-on l (h .0); table = ends-later (f .table) (omega arith); kept = k ∙ ap length (h .1) ∙ v .kept }
+
   pub search-ends : n ≤ i → redexAt (held ws n) ≡ none
-  search-ends l = redex-absent (held ws n) (λ p m. searched .before p (omega (arith, termAt-start ws n (held ws n) (searched .holds .term) .long)))
+  search-ends l = redex-absent (held ws n) (λ p m. v .searched .before p (omega (arith, termAt-start ws n (held ws n) (v .searched .holds .term) .long)))

@@ -36,6 +36,10 @@ lowering-turn {ws} {now = now} {i} {o} v l =
       kept = drop-set-lt (i + 1) now o (getD ws i 0) (omega (arith, v .behind)) ∙ dropped-more ws now i (v .kept);
     })
 
+-- Where two slices start with the same words, they do with fewer of them.
+pub taken-less : (xs ys : List ℕ) (j i : ℕ) → j ≤ i → take i xs ≡ take i ys → take j xs ≡ take j ys
+taken-less xs ys j i l e = sym (take-take j i xs l) ∙ ap (take j) e ∙ take-take j i ys l
+
 -- Up: the last words stand where they come, and before the first of them the slice is still as it was.
 pub record Raising (ws : List ℕ) (from to out : ℕ) (now : List ℕ) (left : ℕ) : Type 0 where
   pub copies : Copies ws from to ws out
@@ -82,13 +86,8 @@ module _ {ws : List ℕ} {from to out : ℕ} {now : List ℕ} {left : ℕ} (v : 
             ap (λ l. set l (out + p) (getD ws (from + p) 0)) (v .work)
             ∙ rw (e, f) (set-sets (slice (suc (from + p)) to ws) ws (out + p) (suc (out + p)) (getD ws (from + p) 0) (omega arith))
             ∙ sym (ap (sets ws (out + p)) (slice-cons (from + p) to ws 0 (omega (arith, v .fewer)) (v .copies .within)));
-        kept = take-set-le (out + p) now (out + p) (getD ws (from + p) 0) (omega arith) ∙ taken-less;
+        kept = take-set-le (out + p) now (out + p) (getD ws (from + p) 0) (omega arith) ∙ taken-less now ws (out + p) (out + left) (omega arith) (v .kept);
       })
-    where
-      taken-less : take (out + (left - 1)) now ≡ take (out + (left - 1)) ws
-      taken-less =
-          sym (take-take (out + (left - 1)) (out + left) now (omega arith)) ∙ ap (take (out + (left - 1))) (v .kept)
-          ∙ take-take (out + (left - 1)) (out + left) ws (omega arith)
 
 -- Words put where they stand change nothing.
 pub sets-same : (l : List ℕ) (f t : ℕ) → f ≤ t → t ≤ length l → sets l f (slice f t l) ≡ l

@@ -1,5 +1,6 @@
 -- What the contracts of the step's code cite beside the calculus.
 pub mod Held
+pub mod Ends
 pub mod Parts
 pub mod Search
 pub mod Next

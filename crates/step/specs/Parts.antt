@@ -1,6 +1,6 @@
--- Where the parts of a redex stand, found from the words alone: the rule's body, the arguments that replace together, and their number. A redex
--- is an application word and behind it an abstraction word, or a case word and behind it a constructor word with a branch of its tag that binds
--- as many variables as the constructor has arguments.
+-- The rule of a redex and where its parts stand, found from the words alone: the rule's body, the arguments that replace together and their number, and how many
+-- items of the redex are left behind the body. A redex is an application word and behind it an abstraction word, or a case word and behind it a
+-- constructor word with a branch of its tag that binds as many variables as the constructor has arguments.
 --
 -- The functions are total. They take the words of a workspace from the position `at` on.
 use Prim.Native.Nat.{ℕ, zero, suc, _+_}
@@ -9,27 +9,28 @@ use mathlib.Core.List.{List, [], _∷_}
 use lib.Dec.{eqb}
 use Rattle.calculus.specs.Words.{abstractionKind, applicationKind, constructorKind, caseKind, kindOf, payloadOf, tagOf, countOf}
 use Rattle.calculus.specs.Skip.{skip, span}
+use Rattle.calculus.specs.Contraction.{Rule, by-beta, by-case}
 use Rattle.step.specs.declared.rules.Found.{Found}
 use Rattle.step.specs.declared.rules.Found.the-variants as found
 
--- Where the parts stand, or that there are none.
+-- The rule and where the parts stand, or that there are none.
 pub data Parts : Type 0 where
   nothing : Parts
-  parted : (body args count : ℕ) → Parts
+  parted : (rule : Rule) (body args count left : ℕ) → Parts
 
--- The body of the first of k branches that has the tag, if it binds n variables.
+-- The body of the first of k branches that has the tag, if it binds n variables, and the number of branches behind it.
 unfoldable pub branchBody : (k tag n at : ℕ) → List ℕ → Found
 branchBody zero t n at ws = found.Nothing
 branchBody (suc k) t n at [] = found.Nothing
 branchBody (suc k) t n at (w ∷ ws) =
     cond (eqb t (tagOf (payloadOf w)))
-    (cond (eqb n (countOf (payloadOf w))) (found.At (at + 1)) found.Nothing)
+    (cond (eqb n (countOf (payloadOf w))) (found.At (at + 1) k) found.Nothing)
     (branchBody k t n (at + 1 + span 1 ws) (skip 1 ws))
 
--- The parts by the body that a search among the branches found.
+-- The parts of a case by the body that a search among the branches found.
 abbrev pub withBody : (args n : ℕ) → Found → Parts
 withBody args n found.Nothing = nothing
-withBody args n (found.At body) = parted body args n
+withBody args n (found.At body left) = parted by-case body args n left
 
 -- The parts of a case of a constructor, by its word, the constructor's word and the words from there on.
 unfoldable pub caseParts : (at w v : ℕ) → List ℕ → Parts
@@ -43,5 +44,5 @@ parts at [] = nothing
 parts at (w ∷ []) = nothing
 parts at (w ∷ v ∷ vs) =
     cond (eqb (kindOf w) applicationKind)
-    (cond (eqb (kindOf v) abstractionKind) (parted (at + 2) (at + 2 + span 1 vs) 1) nothing)
+    (cond (eqb (kindOf v) abstractionKind) (parted by-beta (at + 2) (at + 2 + span 1 vs) 1 1) nothing)
     (cond (eqb (kindOf w) caseKind) (cond (eqb (kindOf v) constructorKind) (caseParts at w v (v ∷ vs)) nothing) nothing)

@@ -1,4 +1,5 @@
--- The plan of a contraction: a record of positions in the workspace, found once by the search and tied to the next term by one law (`rest`).
+-- The plan of a contraction: the rule and a record of positions in the workspace, found once by the search and tied to the next term by one law
+-- (`rest`).
 --
 -- The next term's words are those before the redex, those that stand for the words of the rule's body before `stop`, and the words of the workspace
 -- from `end` on. Where the body ends with its argument's index, under no binder, the argument is among the last and `stop` is before that index.
@@ -11,13 +12,18 @@ use lib.Seq.{sets, slice}
 use Rattle.calculus.specs.Words.{abstractionKind, applicationKind, constructorKind, caseKind, kindOf, workspaceMost, words, size}
 use Rattle.calculus.specs.Skip.{span}
 use Rattle.calculus.specs.First.{firstTerms}
-use Rattle.calculus.specs.Position.{redexAt}
+use Rattle.calculus.specs.Contraction.{Rule as Calculus, by-beta, by-case}
+use Rattle.calculus.specs.Position.{stepAt, redexAt}
 use Rattle.words.specs.Limits.{payloadBound}
 use Rattle.substitution.specs.Rewritten.{substituting, standing}
 use Rattle.substitution.specs.Results.{Substitutable, Replaced}
+use Rattle.step.specs.declared.Rule.{Rule}
+use Rattle.step.specs.declared.Rule.the-variants as rule
 use Rattle.step.specs.declared.Redex.{Redex}
 use Rattle.step.specs.declared.Plan.{Plan}
 use Rattle.step.specs.declared.Plan.the-variants.{Normal, Contract}
+use Rattle.step.specs.declared.rules.Seen.{Seen}
+use Rattle.step.specs.declared.rules.Seen.the-variants as seen
 use Rattle.step.specs.Held.{held, Holds}
 use Rattle.step.specs.Parts.{nothing, parted, parts}
 use Rattle.step.specs.Next.{next, nextFrom, HoldsRedex}
@@ -26,8 +32,14 @@ use Rattle.step.specs.Next.{next, nextFrom, HoldsRedex}
 abbrev pub contractum : List ℕ → Redex → List ℕ
 contractum ws r = standing (substituting (firstTerms (r .count) (drop (r .args) ws))) (r .stop - r .body) (0 ∷ []) (drop (r .body) ws)
 
+-- The rule of the calculus that a plan names.
+abbrev pub ruleOf : Rule → Calculus
+ruleOf rule.Beta = by-beta
+ruleOf rule.Case = by-case
+
 pub record Plans (ws : List ℕ) (n : ℕ) (r : Redex) : Type 0 where
   pub redex : HoldsRedex ws n (r .at)
+  pub rule-is : stepAt (r .at) (held ws n) ≡ some (ruleOf (r .rule), next ws n (r .at))
   pub substitutable : Substitutable ws (r .body) (r .args) (r .count)
   pub from : r .body ≤ r .stop
   pub to : r .stop ≤ r .body + span 1 (drop (r .body) ws)
@@ -42,10 +54,12 @@ abbrev pub Planned : List ℕ → ℕ → Plan → Type 0
 Planned ws n Normal = redexAt (held ws n) ≡ none
 Planned ws n (Contract r) = (redexAt (held ws n) ≡ some (r .at)) × Plans ws n r
 
--- What is found at one position.
-abbrev pub PlannedAt : List ℕ → (n at : ℕ) → Plan → Type 0
-PlannedAt ws n at Normal = parts at (drop at ws) ≡ nothing
-PlannedAt ws n at (Contract r) = Plans ws n r × (r .at ≡ at)
+-- What is seen at one position, where the room was lent with a table of ends before `known`: it is as it was unless a redex is seen, and a stuck
+-- case is told only where the ends inside it are not known.
+abbrev pub SeenAt : List ℕ → (n at known : ℕ) → (room : List ℕ) → Seen → (room′ : List ℕ) → Type 0
+SeenAt ws n at known room seen.Nothing room′ = (parts at (drop at ws) ≡ nothing) × (room′ ≡ room)
+SeenAt ws n at known room seen.Stuck room′ = (parts at (drop at ws) ≡ nothing) × (room′ ≡ room) × (known ≤ at)
+SeenAt ws n at known room (seen.Redex r) room′ = Plans ws n r × (r .at ≡ at)
 
 -- A word of the held term stands at the position, and the room serves a walk over the term.
 pub record At (ws : List ℕ) (n at : ℕ) (room : List ℕ) : Type 0 where
@@ -54,9 +68,9 @@ pub record At (ws : List ℕ) (n at : ℕ) (room : List ℕ) : Type 0 where
   pub room-fits : n ≤ length room
 
 -- The parts of a redex stand there.
-pub record Parted (ws : List ℕ) (n at body args count : ℕ) (room : List ℕ) : Type 0 where
+pub record Parted (ws : List ℕ) (n at : ℕ) (rule : Calculus) (body args count left : ℕ) (room : List ℕ) : Type 0 where
   pub place : At ws n at room
-  pub parts-are : parts at (drop at ws) ≡ parted body args count
+  pub parts-are : parts at (drop at ws) ≡ parted rule body args count left
 
 -- An application of an abstraction stands there.
 pub record Applied (ws : List ℕ) (n at : ℕ) (room : List ℕ) : Type 0 where
@@ -79,12 +93,11 @@ pub record Inspected (ws : List ℕ) (n at w v : ℕ) (room : List ℕ) : Type 0
   pub case : kindOf w ≡ caseKind
   pub constructor : kindOf v ≡ constructorKind
 
--- One of its branches was selected: its body, the arguments' end, which is where the branches start.
-pub record Selected (ws : List ℕ) (n at branches body after count : ℕ) (room : List ℕ) : Type 0 where
-  pub parted-is : Parted ws n at body (at + 2) count room
+-- One of its branches was selected: its body, the arguments' end, and how many branches are left behind that one.
+pub record Selected (ws : List ℕ) (n at left body after count : ℕ) (room : List ℕ) : Type 0 where
+  pub parted-is : Parted ws n at by-case body (at + 2) count left room
   pub after-is : after ≡ at + 2 + span count (drop (at + 2) ws)
-  pub end-is : at + span 1 (drop at ws) ≡ after + span branches (drop after ws)
-  pub few : branches ≤ payloadBound
+  pub few : left ≤ payloadBound
 
 -- The next term fits the workspace, what stands before its last words the scratch, and the room the scopes of a walk.
 pub record HasRoom (ws : List ℕ) (n : ℕ) (r : Redex) (scratch room : List ℕ) : Type 0 where

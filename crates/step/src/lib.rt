@@ -1,7 +1,10 @@
 // One contraction of the term in a workspace: the plan of the leftmost redex's contraction, with the length of the next term, and the contraction.
+mod ends;
 mod rules;
 mod tail;
 
+use ends::fill_ends;
+use rules::Seen;
 use rules::plan_at;
 use substitution::substitute;
 use tail::move_words;
@@ -11,9 +14,16 @@ ghost use lib.ListN.{length};
 ghost use Rattle.step.specs.Search.{Searched};
 ghost use Rattle.step.specs.Plan.{Planned, HasRoom, Contracted};
 
-// A redex found once: where it starts, the rule's body and the word that its rewriting stops at, the arguments up to `after` (which means nothing
+// The rule by which a redex contracts.
+pub enum Rule {
+    Beta,
+    Case,
+}
+
+// A redex found once: its rule, where it starts, the rule's body and the word that its rewriting stops at, the arguments up to `after` (which means nothing
 // where none is put for a word before that) and their number, where the words start that stay behind the contractum, and the length of the next term.
 pub struct Redex {
+    pub rule: Rule,
     pub at: usize,
     pub body: usize,
     pub stop: usize,
@@ -30,17 +40,22 @@ pub enum Plan {
     Contract(Redex),
 }
 
-// The plan for the term, which has no redex before `from`. Nothing is written but the scratch, which is the room of the walks: its words mean
-// nothing afterwards.
+// The plan for the term, which has no redex before `from`. Nothing is written but the scratch: while the search goes on it is the table of ends, which
+// are known before `known`, and then the room of the walks over the redex. Its words mean nothing afterwards.
 pub fn find(ws: &[u32], n: usize, from: usize, scratch: &mut [u32]) -> Plan
     requires { ⌜ Searched (now ws) n from × (n ≤ length (now scratch)) ⌝ }
     ensures { λ r. ⌜ Planned (now (ws .entry)) n r ⌝ }
 {
     let mut i = from;
+    let mut known: usize = 0;
     while i < n {
-        match plan_at(ws, n, i, scratch) {
-            Plan::Contract(redex) => return Plan::Contract(redex),
-            Plan::Normal => i += 1,
+        match plan_at(ws, n, i, known, scratch) {
+            Seen::Redex(redex) => return Plan::Contract(redex),
+            Seen::Stuck => {
+                known = fill_ends(ws, i, scratch);
+                i += 1;
+            }
+            Seen::Nothing => i += 1,
         }
     }
     Plan::Normal

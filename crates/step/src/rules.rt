@@ -1,6 +1,7 @@
 // The redex that starts at a position, found from the words alone, and the plan of its contraction.
-use crate::Plan;
 use crate::Redex;
+use crate::Rule;
+use crate::ends::end_of;
 use substitution::measure::measure;
 use substitution::measure::substituted_length;
 use words::Word;
@@ -10,18 +11,34 @@ ghost use mathlib.Core.Path.{_≡_};
 ghost use Prim.Native.Nat.{_≤_, _<_};
 ghost use lib.ListN.{length, drop};
 ghost use Rattle.calculus.specs.Words.{workspaceMost};
+ghost use Rattle.step.specs.Ends.{Ends};
 ghost use Rattle.step.specs.Parts.{branchBody};
-ghost use Rattle.step.specs.Plan.{At, PlannedAt, Plans, EndTold, Applied, Inspected, Selected};
+ghost use Rattle.step.specs.Plan.{At, SeenAt, Plans, EndTold, Applied, Inspected, Selected};
 
-// A position, or that there is none.
+// What is seen at a position: nothing that contracts, a case that is stuck and whose ends inside are not known yet, or a redex with its plan.
+pub enum Seen {
+    Nothing,
+    Stuck,
+    Redex(Redex),
+}
+
+// The body of a branch with the number of branches behind it, or that there is none.
 pub enum Found {
-    At(usize),
+    At(usize, u32),
     Nothing,
 }
 
-// The body of the first of the branches at a position that has the tag, if it binds so many variables.
-fn branch_body(ws: &[u32], branches: u32, tag: u32, count: u32, at: usize) -> Found
-    requires { ⌜ length (now ws) ≤ workspaceMost ⌝ }
+// The body of the first of the branches at a position that has the tag, if it binds so many variables. Ends of items before `known` are in the table.
+fn branch_body(
+    ws: &[u32],
+    branches: u32,
+    tag: u32,
+    count: u32,
+    at: usize,
+    known: usize,
+    ends: &[u32],
+) -> Found
+    requires { ⌜ (length (now ws) ≤ workspaceMost) × Ends (now ws) at known (now ends) ⌝ }
     ensures { λ r. ⌜ r ≡ branchBody branches tag count at (drop at (now (ws .entry))) ⌝ }
 {
     let mut left = branches;
@@ -33,12 +50,12 @@ fn branch_body(ws: &[u32], branches: u32, tag: u32, count: u32, at: usize) -> Fo
         let w = Word(ws[i]);
         if tag == w.tag() {
             if count == w.count() {
-                return Found::At(i + 1);
+                return Found::At(i + 1, left - 1);
             }
             return Found::Nothing;
         }
         left -= 1;
-        i = extent(ws, i + 1);
+        i = end_of(ws, i + 1, known, ends);
     }
     Found::Nothing
 }
@@ -76,6 +93,7 @@ fn beta(ws: &[u32], n: usize, at: usize, room: &mut [u32]) -> Redex
         let stop = args - 1;
         if ws[stop] == Word::VARIABLE {
             return Redex {
+                rule: Rule::Beta,
                 at,
                 body,
                 stop,
@@ -88,6 +106,7 @@ fn beta(ws: &[u32], n: usize, at: usize, room: &mut [u32]) -> Redex
         }
     }
     Redex {
+        rule: Rule::Beta,
         at,
         body,
         stop: args,
@@ -99,26 +118,27 @@ fn beta(ws: &[u32], n: usize, at: usize, room: &mut [u32]) -> Redex
     }
 }
 
-// The plan for a case whose branch was selected: its body, the constructor's arguments up to `after`, where the branches start.
+// The plan for a case whose branch was selected: its body, the constructor's arguments up to `after`, and the number of branches behind it.
 fn selected(
     ws: &[u32],
     n: usize,
     at: usize,
-    branches: usize,
+    left: usize,
     body: usize,
     after: usize,
     count: usize,
     room: &mut [u32],
 ) -> Redex
-    requires { ⌜ Selected (now ws) n at branches body after count (now room) ⌝ }
+    requires { ⌜ Selected (now ws) n at left body after count (now room) ⌝ }
     ensures { λ r. ⌜ Plans (now (ws .entry)) n r × (r .at ≡ at) ⌝ }
 {
     let args = at + 2;
     let found = measure(ws, body, count, room);
     let stop = found.end;
-    let end = skip(ws, after, branches);
+    let end = skip(ws, stop, left);
     let length = at + substituted_length(ws, body, args, after, count, found) + (n - end);
     Redex {
+        rule: Rule::Case,
         at,
         body,
         stop,
@@ -130,52 +150,73 @@ fn selected(
     }
 }
 
-// The plan for a case of a constructor: `case` is its word, `constructor` the constructor's.
-fn inspect(ws: &[u32], n: usize, at: usize, case: Word, constructor: Word, room: &mut [u32]) -> Plan
-    requires { ⌜ Inspected (now ws) n at (case .0) (constructor .0) (now room) ⌝ }
-    ensures { λ r. ⌜ PlannedAt (now (ws .entry)) n at r ⌝ }
+// What is seen at a case of a constructor: `case` is its word, `constructor` the constructor's.
+fn inspect(
+    ws: &[u32],
+    n: usize,
+    at: usize,
+    case: Word,
+    constructor: Word,
+    known: usize,
+    room: &mut [u32],
+) -> Seen
+    requires { ⌜ Inspected (now ws) n at (case .0) (constructor .0) (now room) × Ends (now ws) at known (now room) ⌝ }
+    ensures { λ r. ⌜ SeenAt (now (ws .entry)) n at known (now (room .entry)) r (now (room .exit)) ⌝ }
 {
     let count = constructor.count();
-    let branches = case.payload();
-    let after = skip(ws, at + 2, count as usize);
-    match branch_body(ws, branches, constructor.tag(), count, after) {
-        Found::At(body) => Plan::Contract(selected(
+    let after = end_of(ws, at + 1, known, room);
+    match branch_body(
+        ws,
+        case.payload(),
+        constructor.tag(),
+        count,
+        after,
+        known,
+        room,
+    ) {
+        Found::At(body, left) => Seen::Redex(selected(
             ws,
             n,
             at,
-            branches as usize,
+            left as usize,
             body,
             after,
             count as usize,
             room,
         )),
-        Found::Nothing => Plan::Normal,
+        Found::Nothing => {
+            if at < known {
+                return Seen::Nothing;
+            }
+            Seen::Stuck
+        }
     }
 }
 
-// The plan for the redex that starts at a position, if one does.
-pub fn plan_at(ws: &[u32], n: usize, at: usize, room: &mut [u32]) -> Plan
-    requires { ⌜ At (now ws) n at (now room) ⌝ }
-    ensures { λ r. ⌜ PlannedAt (now (ws .entry)) n at r ⌝ }
+// What is seen at a position: the plan for the redex that starts there, if one does. Until then the room is a table of ends, and a redex's walks
+// take it for their scopes.
+pub fn plan_at(ws: &[u32], n: usize, at: usize, known: usize, room: &mut [u32]) -> Seen
+    requires { ⌜ At (now ws) n at (now room) × Ends (now ws) at known (now room) ⌝ }
+    ensures { λ r. ⌜ SeenAt (now (ws .entry)) n at known (now (room .entry)) r (now (room .exit)) ⌝ }
 {
     if ws.len() <= at + 1 {
-        return Plan::Normal;
+        return Seen::Nothing;
     }
     let first = Word(ws[at]);
     let second = Word(ws[at + 1]);
     match first.kind() {
         Word::APPLICATION => {
             if second.kind() == Word::ABSTRACTION {
-                return Plan::Contract(beta(ws, n, at, room));
+                return Seen::Redex(beta(ws, n, at, room));
             }
-            Plan::Normal
+            Seen::Nothing
         }
         Word::CASE => {
             if second.kind() == Word::CONSTRUCTOR {
-                return inspect(ws, n, at, first, second, room);
+                return inspect(ws, n, at, first, second, known, room);
             }
-            Plan::Normal
+            Seen::Nothing
         }
-        _ => Plan::Normal,
+        _ => Seen::Nothing,
     }
 }

@@ -17,7 +17,6 @@ use Rattle.tables.specs.Load.{returned, Loaded, checks, firstMet, loadSt
 use Rattle.tables.specs.Theorems.{Meant, NoneMet}
 use Rattle.words.specs.Placed.{Placed}
 use Rattle.tables.proofs.Refusal.LinkRules.{linked}
-use Rattle.tables.proofs.Refusal.Fits.{valued}
 use Rattle.tables.proofs.LoadLaws.{Passes, passes, unmet-means, load-returned}
 use Rattle.tables.proofs.Refusal.RecordLaws.{rooted}
 use Rattle.tables.proofs.Meaning.ReadingMeaning.{means-spelled}
@@ -53,7 +52,7 @@ module _ (S : Stored) (workspace : List ℕ) (h : firstMet (checks S (length wor
       )
 
   root-words : termWords (view S) (view S .root) ≡ words (meant .meant)
-  root-words = means-spelled (view S) (linked (view S) (passed .links-fit)) (valued (view S) (passed .values-fit)) (meant .means)
+  root-words = means-spelled (view S) (linked (view S) (passed .links-fit)) (meant .means)
 
   pub room : length (termWords (view S) (view S .root)) ≤ length workspace
   room = omega (arith, ap length root-words, meant .length-is, ltb-false (length workspace) (view S .n) (passed .short-enough))

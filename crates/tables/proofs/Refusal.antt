@@ -7,4 +7,3 @@ pub mod RecordLaws
 pub mod Loops
 pub mod Namings
 pub mod Walks
-pub mod ChildCounts

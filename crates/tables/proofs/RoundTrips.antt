@@ -15,7 +15,7 @@ use Rattle.tables.specs.Load.{load}
 use Rattle.tables.specs.Write.{entry, records, tableOf}
 use Rattle.tables.specs.Theorems.{Load-after-write, Write-after-load}
 use Rattle.tables.specs.PrefixOrder.{InPrefixOrder}
-use Rattle.tables.proofs.Refusal.Fits.{valued, fitted}
+use Rattle.tables.proofs.Refusal.Fits.{fitted}
 use Rattle.tables.proofs.Written.Standing.{records-length}
 use Rattle.tables.proofs.Written.TableWords.{entry-path, stand-words}
 use Rattle.tables.proofs.Written.PrefixStanding.{root-stands}
@@ -38,7 +38,7 @@ in-order-table : (table : List ℕ) (t : Term) (C : ℕ) → Passes (inForm1 tab
 in-order-table table t C p m size-is order =
     let T = view (inForm1 table) in
     let last = fitted T (p .children-fit) .root-last in
-    let stands = root-stands T t (T .root) (suc (T .n)) (valued T (p .values-fit)) last m order in
+    let stands = root-stands T t (T .root) (suc (T .n)) last m order in
     let header = and-eq-true-iff (eqb (getD table 0 0) (form1 .number)) (eqb (getD table 3 0) 0) .0 (header-words (inForm1 table) (p .header-fits) .0) in
     stand-words (entry (form1 .number) (size t) 1 0 ∷ records 1 0 t) table 0 T
     (omega (arith, table-length (inForm1 table) (p .length-fits), records-length t 1 0))

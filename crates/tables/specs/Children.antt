@@ -25,36 +25,39 @@ children T i = chain T (T .n) (T .at i .first)
 abbrev pub isBranch : Record → Bool
 isBranch r = eqb (r .kind) branchKind
 
-abbrev pub allTerms : List Record → Bool
-allTerms [] = true
-allTerms (r ∷ rs) = not (isBranch r) && allTerms rs
-
-abbrev pub allBranches : List Record → Bool
-allBranches [] = true
-allBranches (r ∷ rs) = isBranch r && allBranches rs
-
--- Each branch but the last has a tag below that of the next.
+-- The first of these records, if there is one, has a tag above t.
 abbrev pub startsAbove : ℕ → List Record → Bool
 startsAbove t [] = true
 startsAbove t (r ∷ rs) = ltb t (tagOf (r .value))
 
-abbrev pub rising : List Record → Bool
-rising [] = true
-rising (r ∷ rs) = startsAbove (tagOf (r .value)) rs && rising rs
+-- Whether a record may stand in a chain of terms, or of branches, with these records after it: a branch has a tag below that of the next.
+abbrev pub mayStand : (branches : Bool) → Record → (after : List Record) → Bool
+mayStand false r rs = not (isBranch r)
+mayStand true r rs = isBranch r && startsAbove (tagOf (r .value)) rs
 
--- A subject and then the branches.
-abbrev pub caseFits : List Record → Bool
-caseFits [] = false
-caseFits (r ∷ rs) = not (isBranch r) && allBranches rs && leb (length rs) branchLimit && rising rs
+abbrev pub chainFits : (branches : Bool) → List Record → Bool
+chainFits b [] = true
+chainFits b (r ∷ rs) = mayStand b r rs && chainFits b rs
 
--- Which children a kind has. The last line is for abstractions and branches.
+-- How many children a kind has; a case has its subject and the branches. The last line is for abstractions and branches.
+abbrev pub numberFits : (kind number : ℕ) → Bool
+numberFits k m =
+    cond (eqb k variableKind) (eqb m 0)
+    (cond (eqb k applicationKind) (eqb m 2)
+    (cond (eqb k constructorKind) (leb m argumentLimit)
+    (cond (eqb k caseKind) (leb 1 m && leb m (suc branchLimit))
+    (eqb m 1))))
+
+-- Which they are: of a case a term and then branches, of any other kind terms.
+abbrev pub subjectFirst : List Record → Bool
+subjectFirst [] = true
+subjectFirst (r ∷ rs) = not (isBranch r) && chainFits true rs
+
+abbrev pub sortsFit : (kind : ℕ) → List Record → Bool
+sortsFit k rs = cond (eqb k caseKind) (subjectFirst rs) (chainFits false rs)
+
 unfoldable pub childrenFit : (kind : ℕ) → List Record → Bool
-childrenFit k rs =
-    cond (eqb k variableKind) (eqb (length rs) 0)
-    (cond (eqb k applicationKind) (eqb (length rs) 2 && allTerms rs)
-    (cond (eqb k constructorKind) (leb (length rs) argumentLimit && allTerms rs)
-    (cond (eqb k caseKind) (caseFits rs)
-    (eqb (length rs) 1 && allTerms rs))))
+childrenFit k rs = numberFits k (length rs) && sortsFit k rs
 
 -- A declared number of children is their number.
 abbrev pub agrees : (declared : Option ℕ) (number : ℕ) → Bool
@@ -71,18 +74,6 @@ wrongChildren T = not (everyOf (T .n) (recordFits T) && not (isBranch (T .at (T 
 -- the table.
 abbrev pub chainFrom : Table → (link : ℕ) → List Record
 chainFrom T l = chain T (T .n) l
-
--- Branches with rising tags.
-abbrev pub branchesRise : List Record → Bool
-branchesRise rs = allBranches rs && rising rs
-
--- How many children a kind other than a case has.
-unfoldable pub numberFits : (kind number : ℕ) → Bool
-numberFits k m =
-    cond (eqb k variableKind) (eqb m 0)
-    (cond (eqb k applicationKind) (eqb m 2)
-    (cond (eqb k constructorKind) (leb m argumentLimit)
-    (eqb m 1)))
 
 -- The link is 0 or names a record of a table whose links name later records.
 pub record Walkable (S : Stored) (link : ℕ) : Type 0 where

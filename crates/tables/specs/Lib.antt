@@ -6,6 +6,7 @@ pub mod Header
 pub mod Values
 pub mod Links
 pub mod Children
+pub mod Every
 pub mod Reading
 pub mod FreeNumbers
 pub mod Load

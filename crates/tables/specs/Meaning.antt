@@ -5,6 +5,7 @@
 -- The relation is the definition of what a table means. `meaning` is how loading computes it; `Meaning-sound` and `Meaning-complete` state that
 -- it follows the relation.
 use Prim.Native.Nat.{ℕ, zero, suc, _*_}
+use mathlib.Core.Path.{_≡_}
 use mathlib.Core.Bool.{true, false, cond, _&&_}
 use mathlib.Core.Option.{Option, some, none, Option·map, bind}
 use lib.Dec.{eqb}
@@ -12,14 +13,17 @@ use Rattle.calculus.specs.Term.{Sort, term, terms, branches, Exp, var, lam, app
 use Rattle.calculus.specs.Words.{variableKind, abstractionKind, applicationKind, constructorKind, caseKind, branchKind, tagOf, countOf}
 use Rattle.tables.specs.Records.{Table, OfKind, isRecord}
 
+-- The term of a record that is no case, by its kind, its value and the terms that its children mean: the table of the kinds.
+pub data Node : (kind value : ℕ) → Terms → Term → Type 0 where
+  variable : {v : ℕ} → Node variableKind v nil (var v)
+  abstraction : {b : Term} → Node abstractionKind 0 (cons b nil) (lam b)
+  application : {f a : Term} → Node applicationKind 0 (cons f (cons a nil)) (app f a)
+  constructor : {v : ℕ} {xs : Terms} → Node constructorKind v xs (con v xs)
+
 pub data Means (T : Table) : (s : Sort) → ℕ → Exp s → Type 0 where
-  variable : {i : ℕ} → OfKind T variableKind i → Means T terms (T .at i .first) nil → Means T term i (var (T .at i .value))
-  abstraction : {i : ℕ} {b : Term} → OfKind T abstractionKind i → Means T terms (T .at i .first) (cons b nil) → Means T term i (lam b)
-  application : {i : ℕ} {f a : Term} → OfKind T applicationKind i → Means T terms (T .at i .first) (cons f (cons a nil))
-      → Means T term i (app f a)
-  constructor : {i : ℕ} {xs : Terms} → OfKind T constructorKind i → Means T terms (T .at i .first) xs
-      → Means T term i (con (T .at i .value) xs)
-  case-of : {i : ℕ} {e : Term} {bs : Branches} → OfKind T caseKind i → Means T term (T .at i .first) e
+  plain : {i kind : ℕ} {xs : Terms} {t : Term} → OfKind T kind i → Node kind (T .at i .value) xs t → Means T terms (T .at i .first) xs
+      → Means T term i t
+  case-of : {i : ℕ} {e : Term} {bs : Branches} → OfKind T caseKind i → T .at i .value ≡ 0 → Means T term (T .at i .first) e
       → Means T branches (T .at (T .at i .first) .next) bs → Means T term i (case e bs)
   no-term : Means T terms 0 nil
   a-term : {i : ℕ} {a : Term} {xs : Terms} → Means T term i a → Means T terms (T .at i .next) xs → Means T terms i (cons a xs)
@@ -27,7 +31,7 @@ pub data Means (T : Table) : (s : Sort) → ℕ → Exp s → Type 0 where
   a-branch : {i : ℕ} {b : Term} {bs : Branches} → OfKind T branchKind i → Means T terms (T .at i .first) (cons b nil)
       → Means T branches (T .at i .next) bs → Means T branches i (branch (tagOf (T .at i .value)) (countOf (T .at i .value)) b bs)
 
--- A record of one of the first four kinds with its children: a variable has none, an abstraction one, an application two, a constructor any.
+-- `Node` as a function, kind by kind: a variable has no child, an abstraction one, an application two, a constructor any number.
 abbrev pub variableOf : ℕ → Terms → Option Term
 variableOf v nil = some (var v)
 variableOf v (cons a xs) = none
@@ -43,11 +47,16 @@ applicationOf (cons f nil) = none
 applicationOf (cons f (cons a nil)) = some (app f a)
 applicationOf (cons f (cons a (cons b xs))) = none
 
+-- Where the value must be 0.
+abbrev pub valueless : (value : ℕ) → Option Term → Option Term
+valueless zero o = o
+valueless (suc v) o = none
+
 unfoldable pub termOf : (kind value : ℕ) → Terms → Option Term
 termOf k v xs =
     cond (eqb k variableKind) (variableOf v xs)
-    (cond (eqb k abstractionKind) (Option·map lam (onlyOne xs))
-    (cond (eqb k applicationKind) (applicationOf xs)
+    (cond (eqb k abstractionKind) (valueless v (Option·map lam (onlyOne xs)))
+    (cond (eqb k applicationKind) (valueless v (applicationOf xs))
     (cond (eqb k constructorKind) (some (con v xs))
     none)))
 
@@ -60,7 +69,8 @@ meantTerm T rec i =
     elim (isRecord T i) [
       | false ↦ none
       | true ↦ elim (eqb (T .at i .kind) caseKind) [
-        | true ↦ bind (rec term (T .at i .first)) (λ e. Option·map (case e) (rec branches (T .at (T .at i .first) .next)))
+        | true ↦ valueless (T .at i .value)
+            (bind (rec term (T .at i .first)) (λ e. Option·map (case e) (rec branches (T .at (T .at i .first) .next))))
         | false ↦ bind (rec terms (T .at i .first)) (termOf (T .at i .kind) (T .at i .value))
       ]
     ]

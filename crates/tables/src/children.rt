@@ -1,15 +1,19 @@
 // Refusal 5: the children of every record, and the root.
+use crate::every::Question;
+use crate::every::every;
 use crate::records::Declared;
 use crate::records::Form;
 use crate::records::Record;
-use crate::records::count;
 use crate::records::root;
 use words::Word;
 ghost use mathlib.Core.Path.{_≡_};
-ghost use Prim.Native.Nat.{_≤_};
+ghost use mathlib.Core.Bool.{_&&_};
+ghost use Prim.Native.Nat.{suc, _≤_};
+ghost use lib.Dec.{leb};
 ghost use lib.ListN.{length};
+ghost use Rattle.calculus.specs.Accepted.{branchLimit};
 ghost use Rattle.tables.specs.Types.{declaredOf, stored, viewed};
-ghost use Rattle.tables.specs.Children.{allTerms, startsAbove, caseFits, agrees, recordFits, wrongChildren, chainFrom, branchesRise, numberFits, Walkable};
+ghost use Rattle.tables.specs.Children.{startsAbove, mayStand, chainFits, numberFits, sortsFit, agrees, recordFits, wrongChildren, chainFrom, Walkable};
 
 // How many records a chain has.
 pub fn chain_length(table: &[u32], form: Form, link: usize) -> usize
@@ -25,22 +29,6 @@ pub fn chain_length(table: &[u32], form: Form, link: usize) -> usize
     passed
 }
 
-// Whether no record of a chain is a branch.
-fn all_terms(table: &[u32], form: Form, link: usize) -> bool
-    requires { ⌜ Walkable (stored form (now table)) link ⌝ }
-    ensures { λ r. ⌜ r ≡ allTerms (chainFrom (viewed form (now (table .entry))) link) ⌝ }
-{
-    let mut at = link;
-    while at != 0 {
-        let record = Record::at(table, form, at);
-        if record.kind == Word::BRANCH {
-            return false;
-        }
-        at = record.next;
-    }
-    true
-}
-
 // Whether a chain has no records or starts with a tag above this one.
 fn starts_above(table: &[u32], form: Form, tag: u32, link: usize) -> bool
     requires { ⌜ Walkable (stored form (now table)) link ⌝ }
@@ -52,44 +40,37 @@ fn starts_above(table: &[u32], form: Form, tag: u32, link: usize) -> bool
     tag < Record::at(table, form, link).tag()
 }
 
-// Whether a chain is one of branches, with rising tags.
-fn branches_rise(table: &[u32], form: Form, link: usize) -> bool
+// Whether a record may stand in a chain of terms, or of branches.
+fn may_stand(table: &[u32], form: Form, at: usize, branches: bool) -> bool
+    requires { ⌜ Walkable (stored form (now table)) at × (1 ≤ at) ⌝ }
+    ensures { λ r. ⌜ r ≡ mayStand branches (viewed form (now (table .entry)) .at at) (chainFrom (viewed form (now (table .entry))) (viewed form (now (table .entry)) .at at .next)) ⌝ }
+{
+    let record = Record::at(table, form, at);
+    if !branches {
+        return record.kind != Word::BRANCH;
+    }
+    if record.kind != Word::BRANCH {
+        return false;
+    }
+    starts_above(table, form, record.tag(), record.next)
+}
+
+// Whether a chain is one of terms, or of branches with rising tags.
+fn chain_fits(table: &[u32], form: Form, link: usize, branches: bool) -> bool
     requires { ⌜ Walkable (stored form (now table)) link ⌝ }
-    ensures { λ r. ⌜ r ≡ branchesRise (chainFrom (viewed form (now (table .entry))) link) ⌝ }
+    ensures { λ r. ⌜ r ≡ chainFits branches (chainFrom (viewed form (now (table .entry))) link) ⌝ }
 {
     let mut at = link;
     while at != 0 {
-        let record = Record::at(table, form, at);
-        if record.kind != Word::BRANCH {
+        if !may_stand(table, form, at, branches) {
             return false;
         }
-        if !starts_above(table, form, record.tag(), record.next) {
-            return false;
-        }
-        at = record.next;
+        at = Record::at(table, form, at).next;
     }
     true
 }
 
-// Whether a chain is a subject and then the branches of a case.
-fn case_fits(table: &[u32], form: Form, link: usize) -> bool
-    requires { ⌜ Walkable (stored form (now table)) link ⌝ }
-    ensures { λ r. ⌜ r ≡ caseFits (chainFrom (viewed form (now (table .entry))) link) ⌝ }
-{
-    if link == 0 {
-        return false;
-    }
-    let subject = Record::at(table, form, link);
-    if subject.kind == Word::BRANCH {
-        return false;
-    }
-    if chain_length(table, form, subject.next) > Word::BRANCHES_MOST as usize {
-        return false;
-    }
-    branches_rise(table, form, subject.next)
-}
-
-// Whether a record of this kind, which is no case, may have so many children.
+// Whether a record of this kind may have so many children.
 fn number_fits(kind: u32, number: usize) -> bool
     ensures { λ r. ⌜ r ≡ numberFits kind number ⌝ }
 {
@@ -97,8 +78,37 @@ fn number_fits(kind: u32, number: usize) -> bool
         Word::VARIABLE => number == 0,
         Word::APPLICATION => number == 2,
         Word::CONSTRUCTOR => number <= Word::ARGUMENTS_MOST as usize,
+        Word::CASE => is_case_number(number),
         _ => number == 1,
     }
+}
+
+// Whether so many children are a subject and no more branches than a case may have.
+fn is_case_number(number: usize) -> bool
+    ensures { λ r. ⌜ r ≡ (leb 1 number && leb number (suc branchLimit)) ⌝ }
+{
+    if number < 1 {
+        return false;
+    }
+    number <= Word::BRANCHES_MOST as usize + 1
+}
+
+// Whether the chain of children of a record of this kind has terms and branches where they belong.
+fn sorts_fit(table: &[u32], form: Form, kind: u32, link: usize) -> bool
+    requires { ⌜ Walkable (stored form (now table)) link ⌝ }
+    ensures { λ r. ⌜ r ≡ sortsFit kind (chainFrom (viewed form (now (table .entry))) link) ⌝ }
+{
+    if kind != Word::CASE {
+        return chain_fits(table, form, link, false);
+    }
+    if link == 0 {
+        return true;
+    }
+    let subject = Record::at(table, form, link);
+    if subject.kind == Word::BRANCH {
+        return false;
+    }
+    chain_fits(table, form, subject.next, true)
 }
 
 // Whether a declared number of children, if there is one, is their number.
@@ -112,7 +122,7 @@ fn agrees(declared: Declared, number: usize) -> bool
 }
 
 // Whether record i has the children that it declares and that its kind wants.
-fn record_fits(table: &[u32], form: Form, i: usize) -> bool
+pub fn record_fits(table: &[u32], form: Form, i: usize) -> bool
     requires { ⌜ Walkable (stored form (now table)) i × (1 ≤ i) ⌝ }
     ensures { λ r. ⌜ r ≡ recordFits (viewed form (now (table .entry))) i ⌝ }
 {
@@ -121,26 +131,18 @@ fn record_fits(table: &[u32], form: Form, i: usize) -> bool
     if !agrees(form.declared(table, i), number) {
         return false;
     }
-    if record.kind == Word::CASE {
-        return case_fits(table, form, record.first);
-    }
     if !number_fits(record.kind, number) {
         return false;
     }
-    all_terms(table, form, record.first)
+    sorts_fit(table, form, record.kind, record.first)
 }
 
 pub fn wrong_children(table: &[u32], form: Form) -> bool
     requires { ⌜ Walkable (stored form (now table)) (viewed form (now table) .root) × (1 ≤ viewed form (now table) .root) ⌝ }
     ensures { λ r. ⌜ r ≡ wrongChildren (viewed form (now (table .entry))) ⌝ }
 {
-    let n = count(table);
-    let mut i = 0;
-    while i < n {
-        i += 1;
-        if !record_fits(table, form, i) {
-            return true;
-        }
+    if !every(table, form, Question::Children) {
+        return true;
     }
     let top = Record::at(table, form, root(table));
     top.kind == Word::BRANCH || top.next != 0

@@ -1,5 +1,6 @@
 // Loading a stored table and writing one.
 mod children;
+mod every;
 mod free_numbers;
 mod header;
 mod links;

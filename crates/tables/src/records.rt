@@ -1,9 +1,10 @@
 // Records of a stored table by value ("The stored table"), and the forms in which their words are kept.
 use words::Word;
+use words::slices::copy;
 ghost use mathlib.Core.Path.{_≡_};
 ghost use Prim.Native.Nat.{_*_, _<_};
 ghost use mathlib.Core.List.{[], _∷_};
-ghost use lib.ListN.{length};
+ghost use lib.ListN.{length, getD};
 ghost use lib.Seq.{sets};
 ghost use Rattle.calculus.specs.Words.{word, tagOf};
 ghost use Rattle.calculus.specs.Accepted.{indexLimit};
@@ -86,8 +87,8 @@ impl Record {
         Record {
             kind: table[from],
             value: table[from + 1],
-            first: table[from + 2] as usize,
-            next: table[from + 3] as usize,
+            first: index_at(table, from + 2),
+            next: index_at(table, from + 3),
         }
     }
 
@@ -96,11 +97,8 @@ impl Record {
         requires { ⌜ Inside (inForm1 (now table)) i × Puttable (recordOf self) ⌝ }
         ensures { λ _. ⌜ now (table .exit) ≡ sets (now (table .entry)) (form1 .recordWords * i) (recordsWords (recordOf self ∷ [])) ⌝ }
     {
-        let from = Record::WORDS * i;
-        table[from] = self.kind;
-        table[from + 1] = self.value;
-        table[from + 2] = self.first as u32;
-        table[from + 3] = self.next as u32;
+        let words = [self.kind, self.value, self.first as u32, self.next as u32];
+        copy(&words, 0, Record::WORDS, table, Record::WORDS * i);
     }
 
     // The payload of a record with so many children, and its word.
@@ -141,19 +139,27 @@ fn header_one(table: &[u32]) -> bool
     table[3] == 0
 }
 
+// The word at a position, as an index or a number of records.
+fn index_at(table: &[u32], at: usize) -> usize
+    requires { ⌜ at < length (now table) ⌝ }
+    ensures { λ r. ⌜ r ≡ getD (now (table .entry)) at 0 ⌝ }
+{
+    table[at] as usize
+}
+
 // How many records the header says that the table has, and where it says that the root is.
 pub fn count(table: &[u32]) -> usize
     requires { ⌜ 2 < length (now table) ⌝ }
     ensures { λ r. ⌜ r ≡ headerCount (now (table .entry)) ⌝ }
 {
-    table[1] as usize
+    index_at(table, 1)
 }
 
 pub fn root(table: &[u32]) -> usize
     requires { ⌜ 2 < length (now table) ⌝ }
     ensures { λ r. ⌜ r ≡ headerRoot (now (table .entry)) ⌝ }
 {
-    table[2] as usize
+    index_at(table, 2)
 }
 
 // Does nothing. Its contract says that each constant is the number that the definitions give its name.

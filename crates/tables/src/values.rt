@@ -1,16 +1,18 @@
 // Refusal 3: kinds and values.
+use crate::every::Question;
+use crate::every::every;
 use crate::records::Form;
 use crate::records::Record;
-use crate::records::count;
 use words::Word;
 ghost use mathlib.Core.Path.{_≡_};
 ghost use mathlib.Core.Bool.{false, _&&_};
 ghost use lib.Dec.{leb};
 ghost use Rattle.calculus.specs.Words.{branchKind, tagOf, countOf};
 ghost use Rattle.calculus.specs.Accepted.{argumentLimit};
+ghost use Rattle.tables.specs.Records.{Inside};
 ghost use Rattle.tables.specs.Types.{stored, viewed};
 ghost use Rattle.tables.specs.Header.{wrongLength};
-ghost use Rattle.tables.specs.Values.{isTag, valueFits, wrongValue};
+ghost use Rattle.tables.specs.Values.{isTag, valueFits, valued, wrongValue};
 
 fn is_tag(tag: u32) -> bool
     ensures { λ r. ⌜ r ≡ isTag tag ⌝ }
@@ -31,8 +33,8 @@ fn is_tagged(value: u32) -> bool
     value % Word::COUNT_BASE <= Word::ARGUMENTS_MOST
 }
 
-// Whether a record may have this kind and this value.
-fn value_fits(kind: u32, value: u32) -> bool
+// Whether a record of this kind may have this value.
+fn kind_fits(kind: u32, value: u32) -> bool
     ensures { λ r. ⌜ r ≡ (leb kind branchKind && valueFits kind value) ⌝ }
 {
     if Word::BRANCH < kind {
@@ -46,18 +48,18 @@ fn value_fits(kind: u32, value: u32) -> bool
     }
 }
 
+// Whether record i has a kind and a value that fits it.
+pub fn value_fits(table: &[u32], form: Form, i: usize) -> bool
+    requires { ⌜ Inside (stored form (now table)) i ⌝ }
+    ensures { λ r. ⌜ r ≡ valued (viewed form (now (table .entry)) .at i) ⌝ }
+{
+    let record = Record::at(table, form, i);
+    kind_fits(record.kind, record.value)
+}
+
 pub fn wrong_values(table: &[u32], form: Form) -> bool
     requires { ⌜ wrongLength (stored form (now table)) ≡ false ⌝ }
     ensures { λ r. ⌜ r ≡ wrongValue (viewed form (now (table .entry))) ⌝ }
 {
-    let n = count(table);
-    let mut i = 0;
-    while i < n {
-        i += 1;
-        let record = Record::at(table, form, i);
-        if !value_fits(record.kind, record.value) {
-            return true;
-        }
-    }
-    false
+    !every(table, form, Question::Value)
 }

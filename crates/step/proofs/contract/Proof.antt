@@ -4,43 +4,30 @@ use Rattle.step.proofs.ContractLaws.{substitutes, contractum-fits, tail
 use borrow.Author.Needs.{needs}
 use Rattle.step.proofs.contract.Statement.{statement}
 use Rattle.step.proofs.contract.Tie as tie
-use Rattle.step.proofs.contract.Reads as reads
-use Rattle.step.proofs.contract.Lts as lts
-use Rattle.step.proofs.tail.move_words.Reads as move-words-reads
-use Rattle.substitution.proofs.substitute.Reads as substitute-reads
-use Rattle.words.proofs.slices.copy.Reads as copy-reads
 
--- src/lib.rt:62:9
 substitute-requires : tie.Need-substitute-requires
 substitute-requires c κs = (substitutes (c .before .before .before .before .before .before .pre), contractum-fits (c .before .before .before .before .before .before .pre))
 
--- src/lib.rt:63:34
 add-move-words : tie.Need-add-move-words
 add-move-words c =
     let h = c .before .before .before .before .before .before .before .before .before .before .before .before .pre in
     omega (arith, tail-fits h (c .before .before .before .before .before .substitute .ensures .0) .fits, h .plan .redex .holds .limit)
 
--- src/lib.rt:63:5
 move-words-requires : tie.Need-move-words-requires
 move-words-requires c κs = tail-fits (c .before .before .before .before .before .before .before .before .before .before .before .before .pre) (c .before .before .before .before .before .substitute .ensures .0)
 
--- src/lib.rt:64:5
 copy-requires : tie.Need-copy-requires
 copy-requires c κs = back-fits (c .before .before .before .before .before .before .before .before .before .before .before .before .before .before .before .before .before .pre) (c .before .before .before .before .before .before .before .before .before .before .substitute .ensures .0) (c .before .before .before .before .move-words .ensures)
 
--- src/lib.rt:51:1
 same-length : tie.Need-same-length
 same-length c = search needs
 
--- src/lib.rt:51:1
 same-length-2 : tie.Need-same-length-2
 same-length-2 c = search needs
 
--- src/lib.rt:51:1
 same-length-3 : tie.Need-same-length-3
 same-length-3 c = search needs
 
--- src/lib.rt:51:1
 returns : tie.Need-returns
 returns c = contracted (c .before .before .before .before .before .before .before .before .before .before .before .before .before .before .before .before .before .before .before .before .pre) (c .before .before .before .before .before .before .before .before .before .before .before .before .before .substitute .ensures .0) (c .before .before .before .before .before .before .before .move-words .ensures) (c .before .before .copy .ensures)
 

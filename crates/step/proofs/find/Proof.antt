@@ -1,74 +1,77 @@
--- `find` meets its contract. The invariant: no redex starts before i.
+-- `find` meets its contract. The invariant: no redex starts before i, and from there on the scratch tells the ends before `known`.
 use Prim.Native.Nat.{_-_}
-use mathlib.Core.Path.{_≡_, refl, _∙_}
+use mathlib.Core.Path.{_∙_, ap}
 use native.Mathlib.Omega.{arith}
 use borrow.Author.Needs.{needs}
 use lib.ListN.{length}
-use Rattle.step.specs.Search.{Searched}
-use Rattle.step.proofs.SearchLaws.{search-within, search-goes-on, search-ends}
+use Rattle.step.proofs.SearchLaws.{ends-inside, Searching, searching-starts, search-within, searching-on, searching-stuck, search-ends}
 use Rattle.step.proofs.PlanLaws.{planned-here}
 use Rattle.step.proofs.find.Statement.{statement}
 use Rattle.step.proofs.find.Tie as tie
-use Rattle.step.proofs.find.Reads as reads
-use Rattle.step.proofs.find.Lts as lts
-use Rattle.step.proofs.rules.plan_at.Reads as plan-at-reads
 
 abbrev Inv-loop : tie.InvT-loop
-Inv-loop ws n from scratch₀ i₀ scratch i = Searched ws n i × (length scratch ≡ length scratch₀)
+Inv-loop ws n from scratch₀ i₀ known₀ scratch i known = Searching ws n scratch₀ scratch i known
 
 abbrev μ-loop : tie.MeasureT-loop
-μ-loop ws n from scratch₀ i₀ scratch i = n - i
+μ-loop ws n from scratch₀ i₀ known₀ scratch i known = n - i
 
--- src/lib.rt:40:5
 loop-holds : tie.Need-loop-holds Inv-loop μ-loop
-loop-holds c = (c .before .before .pre .0, refl)
+loop-holds c = searching-starts _ (c .before .before .pre .0)
 
--- src/lib.rt:41:15
 plan-at-requires : tie.Need-plan-at-requires Inv-loop μ-loop
 plan-at-requires c κs =
-    let l = c .before .before .loop in
-    record { holds = l .inv .0 .holds; within = c .before .loop-test .taken; room-fits = omega (arith, c .before .before .before .before .before .pre .1, l .inv .1) }
+    let v = c .before .before .loop .inv in
+    (record { holds = v .searched .holds; within = c .before .loop-test .taken; room-fits = omega (arith, c .before .before .before .before .before .pre .1, v .kept) }, v .table)
 
--- src/lib.rt:42:28
 enum-known-redex : tie.Need-enum-known-redex Inv-loop μ-loop
 enum-known-redex c = search needs
 
--- src/lib.rt:42:38
 same-length : tie.Need-same-length Inv-loop μ-loop
-same-length c = c .before .before .before .before .before .plan-at .kept .1 .1 .1 .0 ∙ c .before .before .before .before .before .before .before .before .loop .inv .1
+same-length c = c .before .before .before .before .before .plan-at .kept .1 .1 .1 .1 .0 ∙ c .before .before .before .before .before .before .before .before .loop .inv .kept
 
--- src/lib.rt:42:38
 returns : tie.Need-returns Inv-loop μ-loop
-returns c = planned-here (c .before .before .before .before .before .before .before .before .loop .inv .0) (rw (c .before .redex .given .1) at (c .before .before .before .before .before .plan-at .ensures))
+returns c = planned-here (c .before .before .before .before .before .before .before .before .loop .inv .searched) (rw (c .before .redex .given .1) at (c .before .before .before .before .before .plan-at .ensures))
 
--- src/lib.rt:43:29
 enum-told : tie.Need-enum-told Inv-loop μ-loop
 enum-told c = search needs
 
--- src/lib.rt:43:29
+fill-ends-requires : tie.Need-fill-ends-requires Inv-loop μ-loop
+fill-ends-requires c κs =
+    let v = c .before .before .before .before .before .before .before .before .loop .inv in
+    let h = rw (c .before .enum-told .given .1) at (c .before .before .before .before .before .plan-at .ensures) in
+    (v .searched .holds .limit, omega (arith, ends-inside (v .searched .holds) (c .before .before .before .before .before .before .before .loop-test .taken), c .before .before .before .before .before .before .before .before .before .before .before .pre .1, v .kept, ap length (h .1)))
+
 add-i : tie.Need-add-i Inv-loop μ-loop
 add-i c =
-    let s = c .before .before .before .before .before .before .before .loop .inv .0 in
-    omega (arith, search-within s, s .holds .limit, c .before .before .before .before .before .before .loop-test .taken)
+    let v = c .before .before .before .before .before .before .before .before .before .before .before .loop .inv in
+    omega (arith, search-within v, v .searched .holds .limit, c .before .before .before .before .before .before .before .before .before .before .loop-test .taken)
 
--- src/lib.rt:40:5
 loop-less : tie.Need-loop-less Inv-loop μ-loop
 loop-less c = omega arith
 
--- src/lib.rt:40:5
 loop-again : tie.Need-loop-again Inv-loop μ-loop
-loop-again c = (
-  search-goes-on (c .before .before .before .before .before .before .before .loop .inv .0) (c .before .before .before .before .before .before .loop-test .taken) (rw (c .enum-told .given .1) at (c .before .before .before .before .plan-at .ensures)),
-  c .before .before .before .before .plan-at .kept .1 .1 .1 .0 ∙ c .before .before .before .before .before .before .before .loop .inv .1,
-)
+loop-again c =
+    searching-stuck (c .before .before .before .before .before .before .before .before .before .before .before .loop .inv) (c .before .before .before .before .before .before .before .before .before .before .loop-test .taken) (rw (c .before .before .before .before .enum-told .given .1) at (c .before .before .before .before .before .before .before .before .plan-at .ensures)) (c .before .before .fill-ends .ensures) (c .before .before .fill-ends .kept .1 .1 .0)
 
--- src/lib.rt:35:1
+enum-told-2 : tie.Need-enum-told-2 Inv-loop μ-loop
+enum-told-2 c = search needs
+
+add-i-2 : tie.Need-add-i-2 Inv-loop μ-loop
+add-i-2 c =
+    let v = c .before .before .before .before .before .before .before .loop .inv in
+    omega (arith, search-within v, v .searched .holds .limit, c .before .before .before .before .before .before .loop-test .taken)
+
+loop-less-2 : tie.Need-loop-less-2 Inv-loop μ-loop
+loop-less-2 c = omega arith
+
+loop-again-2 : tie.Need-loop-again-2 Inv-loop μ-loop
+loop-again-2 c = searching-on (c .before .before .before .before .before .before .before .loop .inv) (c .before .before .before .before .before .before .loop-test .taken) (rw (c .enum-told2 .given .1) at (c .before .before .before .before .plan-at .ensures))
+
 same-length-2 : tie.Need-same-length-2 Inv-loop μ-loop
-same-length-2 c = c .before .loop .inv .1
+same-length-2 c = c .before .loop .inv .kept
 
--- src/lib.rt:35:1
 returns-2 : tie.Need-returns-2 Inv-loop μ-loop
-returns-2 c = search-ends (c .before .loop .inv .0) (c .loop-test .left)
+returns-2 c = search-ends (c .before .loop .inv) (c .loop-test .left)
 
 pub find-spec : {M : Type 1} → statement M
 find-spec =
@@ -82,8 +85,13 @@ find-spec =
     same-length
     returns
     enum-told
+    fill-ends-requires
     add-i
     loop-less
     loop-again
+    enum-told-2
+    add-i-2
+    loop-less-2
+    loop-again-2
     same-length-2
     returns-2)

@@ -11,8 +11,8 @@ use lib.ListN.{length}
 use lib.Seq.{take-append-seam}
 use borrow.Author.Tests.{leb-true}
 use Rattle.calculus.specs.Term.{Sort, term, terms, branches, Exp, Term, Terms, Branches, count}
-use Rattle.calculus.specs.Words.{words, size, workspaceMost, constructorKind, caseKind, branchKind, tagOf, countOf}
-use Rattle.calculus.specs.Accepted.{tagLimit, argumentLimit, branchLimit, indexLimit, IsTag, Rising, Scoped, Accepted}
+use Rattle.calculus.specs.Words.{words, size, workspaceMost, caseKind, branchKind, tagOf, countOf}
+use Rattle.calculus.specs.Accepted.{argumentLimit, branchLimit, indexLimit, IsTag, Rising, Scoped, Accepted}
 use Rattle.calculus.specs.Decide.{scoped?}
 use Rattle.calculus.specs.Theorems.{Packable}
 use Rattle.calculus.specs.Workspace.{termAt}
@@ -22,48 +22,45 @@ use Rattle.calculus.proofs.WorkspaceLaws.{termAt-words}
 use Rattle.words.specs.IsTerm.{isTerm}
 use Rattle.words.proofs.IsTerm.{isTerm-some, isTerm-none}
 use Rattle.tables.specs.Records.{Table, OfKind}
-use Rattle.tables.specs.Meaning.{Means, variable, abstraction, application, constructor, case-of, no-term, a-term, no-branch, a-branch}
+use Rattle.tables.specs.Meaning.{Means, plain, case-of, no-term, a-term, no-branch, a-branch}
 use Rattle.tables.specs.Values.{isTag, valueFits}
-use Rattle.tables.specs.Children.{children, allTerms, childrenFit}
+use Rattle.tables.specs.Children.{children, numberFits, subjectFirst, sortsFit, childrenFit}
 use Rattle.tables.specs.FreeNumbers.{freeFits}
+use Rattle.tables.proofs.Meaning.Nodes.{tag-fits, node-accepted, node-scoped}
 use Rattle.tables.proofs.Meaning.Held.{held}
 use Rattle.tables.proofs.Refusal.LinkRules.{Linked, children-enough}
 use Rattle.tables.proofs.Meaning.ChainMeaning.{terms-chain, case-chain}
 use Rattle.tables.proofs.Refusal.Fits.{Valued, Fitted}
 
--- The tests of single values as the statements of `Accepted`.
-tag-fits : (t : ℕ) → isTag t ≡ true → IsTag t
-tag-fits t h = let both = and-eq-true-iff (leb 1 t) (leb t tagLimit) .0 h in (leb-true 1 t (both .0), leb-true t tagLimit (both .1))
-
 module _ (T : Table) (L : Linked T) (values : Valued T) (fits : Fitted T) where
-  constructor-fits : {i : ℕ} {xs : Terms} → OfKind T constructorKind i → Means T terms (T .at i .first) xs
-      → IsTag (T .at i .value) × (count xs ≤ argumentLimit)
-  unfolding valueFits childrenFit
-  constructor-fits {i} k m =
-      let tested = rw (k .2) at (fits .children-fit i (k .0) (k .1)) in
-      let most = and-eq-true-iff (leb (length (children T i)) argumentLimit) (allTerms (children T i)) .0 tested .0 in
-      let counted = terms-chain T L m (T .n) (children-enough T L i (k .0) (k .1)) .0 in
-      (tag-fits (T .at i .value) (rw (k .2) at (values .value-fits i (k .0) (k .1))), leb-true _ _ (rw counted at most))
+  number-fits : {i kind : ℕ} {xs : Terms} → OfKind T kind i → Means T terms (T .at i .first) xs → numberFits kind (count xs) ≡ true
+  unfolding childrenFit
+  number-fits {i} {kind} k m =
+      let tested = and-eq-true-iff (numberFits kind (length (children T i))) (sortsFit kind (children T i)) .0 (rw (k .2) at (fits .children-fit i (k .0) (k .1))) .0 in
+      rw (terms-chain T L m (T .n) (children-enough T L i (k .0) (k .1)) .0) at tested
+
+  value-of : {i kind : ℕ} → OfKind T kind i → valueFits kind (T .at i .value) ≡ true
+  value-of {i} k = rw (k .2) at (values .value-fits i (k .0) (k .1))
 
   case-fits : {i : ℕ} {e : Term} {bs : Branches} → OfKind T caseKind i → Means T term (T .at i .first) e
       → Means T branches (T .at (T .at i .first) .next) bs → (count bs ≤ branchLimit) × Rising bs
   unfolding childrenFit
-  case-fits {i} k m ms =
-      case-chain T L m ms (T .n) (children-enough T L i (k .0) (k .1)) .0 (rw (k .2) at (fits .children-fit i (k .0) (k .1)))
+  case-fits {i} {bs = bs} k m ms =
+      let rs = children T i in
+      let both = and-eq-true-iff (numberFits caseKind (length rs)) (subjectFirst rs) .0 (rw (k .2) at (fits .children-fit i (k .0) (k .1))) in
+      let most = leb-true (length rs) (suc branchLimit) (and-eq-true-iff (leb 1 (length rs)) (leb (length rs) (suc branchLimit)) .0 (both .0) .1) in
+      let counted = case-chain T L m ms (T .n) (children-enough T L i (k .0) (k .1)) in
+      (omega (arith, counted .0), counted .1 .0 (both .1))
 
   branch-fits : {i : ℕ} → OfKind T branchKind i → IsTag (tagOf (T .at i .value)) × (countOf (T .at i .value) ≤ argumentLimit)
   unfolding valueFits
   branch-fits {i} k =
-      let tested = rw (k .2) at (values .value-fits i (k .0) (k .1)) in
-      let both = and-eq-true-iff (isTag (tagOf (T .at i .value))) (leb (countOf (T .at i .value)) argumentLimit) .0 tested in
+      let both = and-eq-true-iff (isTag (tagOf (T .at i .value))) (leb (countOf (T .at i .value)) argumentLimit) .0 (value-of k) in
       (tag-fits _ (both .0), leb-true _ _ (both .1))
 
   pub means-accepted : {s : Sort} {i : ℕ} {e : Exp s} → Means T s i e → (d : ℕ) → Scoped d e → Accepted d e
-  means-accepted (variable k m) d f = f
-  means-accepted (abstraction k m) d f = means-accepted m (suc d) (f, tt) .0
-  means-accepted (application k m) d f = let both = means-accepted m d (f .0, (f .1, tt)) in (both .0, both .1 .0)
-  means-accepted (constructor k m) d f = (constructor-fits k m, means-accepted m d (f .1))
-  means-accepted (case-of k m ms) d f = (case-fits k m ms, means-accepted m d (f .1), means-accepted ms d (f .2))
+  means-accepted (plain k n m) d f = node-accepted n d (value-of k) (number-fits k m) (λ d′ g. means-accepted m d′ g) f
+  means-accepted (case-of k z m ms) d f = (case-fits k m ms, means-accepted m d (f .1), means-accepted ms d (f .2))
   means-accepted no-term d f = tt
   means-accepted (a-term m ms) d f = (means-accepted m d (f .0), means-accepted ms d (f .1))
   means-accepted no-branch d f = tt
@@ -71,13 +68,8 @@ module _ (T : Table) (L : Linked T) (values : Valued T) (fits : Fitted T) where
 
   -- No index of it passes what a record can hold, so that its counts are those of its words whatever its free numbers.
   free-large : {s : Sort} {i : ℕ} {e : Exp s} → Means T s i e → (d : ℕ) → indexLimit ≤ d → Scoped d e
-  unfolding valueFits
-  free-large {i = i} (variable k m) d h =
-      omega (arith, leb-true (T .at i .value) indexLimit (rw (k .2) at (values .value-fits i (k .0) (k .1))))
-  free-large (abstraction k m) d h = free-large m (suc d) (omega arith) .0
-  free-large (application k m) d h = let both = free-large m d h in (both .0, both .1 .0)
-  free-large (constructor k m) d h = (tt, free-large m d h)
-  free-large (case-of k m ms) d h = (tt, free-large m d h, free-large ms d h)
+  free-large (plain k n m) d h = node-scoped n d (value-of k) (λ d′ l. free-large m d′ l) h
+  free-large (case-of k z m ms) d h = (tt, free-large m d h, free-large ms d h)
   free-large no-term d h = tt
   free-large (a-term m ms) d h = (free-large m d h, free-large ms d h)
   free-large no-branch d h = tt

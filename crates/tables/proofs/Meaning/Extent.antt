@@ -1,71 +1,34 @@
 -- The number of records that hang at a link: the record that it names, all that belongs to it, and its later siblings with theirs. Where links name
 -- later records and every record is named once, all records hang at the root.
-use Prim.Native.Nat.{ℕ, zero, suc, _+_, _*_, _≤_}
-use mathlib.Core.Path.{_≡_, refl, ap, ap₂, sym, _∙_}
-use mathlib.Core.Bool.{cond}
-use mathlib.Core.List.{[], _++_}
+use Prim.Native.Nat.{ℕ, suc, _+_, _*_, _≤_}
+use mathlib.Core.Path.{_≡_, ap, ap₂, sym, _∙_}
+use mathlib.Core.List.{[]}
 use mathlib.Core.Logic.{_⊎_, inl, inr}
 use native.Mathlib.Nat.{one-mul, add-mul}
 use native.Mathlib.Omega.{arith}
-use lib.Dec.{eqb}
-use borrow.Author.Tests.{ne-eqb}
 use lib.ListN.{length-append}
 use Rattle.calculus.specs.Term.{Sort, term, terms, branches, Exp}
 use Rattle.calculus.specs.Words.{words, size}
 use Rattle.tables.specs.Records.{Table, sumOf}
-use Rattle.tables.specs.Meaning.{Means, variable, abstraction, application, constructor, case-of, no-term, a-term, no-branch, a-branch}
+use Rattle.tables.specs.Meaning.{Means, plain, case-of, no-term, a-term, no-branch, a-branch}
 use Rattle.tables.specs.Links.{naming, namings}
+use Rattle.tables.specs.Reading.{hanging}
 use Rattle.tables.proofs.Refusal.Sums.{sum-eq, sum-ones, sum-add, sum-times, sum-swap, sum-unnamed, sum-named}
-use Rattle.tables.proofs.Refusal.LinkRules.{Ahead, Linked, Enough, nothing-left, first-enough, next-enough}
-
-extentWithin : Table → (bound link : ℕ) → ℕ
-extentWithin T zero l = 0
-extentWithin T (suc k) l = cond (eqb l 0) 0 (suc (extentWithin T k (T .at l .first) + extentWithin T k (T .at l .next)))
-
-within-zero : (T : Table) (k : ℕ) → extentWithin T k 0 ≡ 0
-unfolding extentWithin
-within-zero T zero = refl
-within-zero T (suc k) = refl
-
-within-suc : (T : Table) (k l : ℕ) → 1 ≤ l
-    → extentWithin T (suc k) l ≡ suc (extentWithin T k (T .at l .first) + extentWithin T k (T .at l .next))
-unfolding extentWithin
-within-suc T k l h = rw (ne-eqb l 0 (λ e. omega arith))
+use Rattle.tables.proofs.Refusal.LinkRules.{Ahead, Linked}
+use Rattle.tables.proofs.Meaning.Nodes.{node-size}
+use Rattle.tables.proofs.Meaning.Hanging.{hanging-zero, hanging-record}
 
 pub extent : Table → (link : ℕ) → ℕ
-extent T l = extentWithin T (suc (T .n)) l
+extent T l = hanging T 0 (λ i below after. suc (below + after)) (T .n) l
 
 pub extent-zero : (T : Table) → extent T 0 ≡ 0
 unfolding extent
-extent-zero T = within-zero T (suc (T .n))
+extent-zero T = hanging-zero T 0 _ (T .n)
 
 module _ (T : Table) (L : Linked T) where
-  -- Any two bounds that are enough give the same.
-  stable : (k k′ l : ℕ) → Enough T l k → Enough T l k′ → extentWithin T k l ≡ extentWithin T k′ l
-  stable zero k′ l h h′ = rw (nothing-left T l h) (within-zero T zero ∙ sym (within-zero T k′))
-  stable (suc k) zero l h h′ = rw (nothing-left T l h′) (within-zero T (suc k) ∙ sym (within-zero T zero))
-  stable (suc k) (suc k′) l h (inl e) = rw e (within-zero T (suc k) ∙ sym (within-zero T (suc k′)))
-  stable (suc k) (suc k′) l (inl e) (inr h′) = rw e (within-zero T (suc k) ∙ sym (within-zero T (suc k′)))
-  stable (suc k) (suc k′) l (inr h) (inr h′) =
-      within-suc T k l (h .0)
-      ∙ ap₂ (λ x y. suc (x + y))
-      (stable k k′ (T .at l .first) (first-enough T L l k (h .0) (inr h)) (first-enough T L l k′ (h .0) (inr h′)))
-      (stable k k′ (T .at l .next) (next-enough T L l k (h .0) (inr h)) (next-enough T L l k′ (h .0) (inr h′)))
-      ∙ sym (within-suc T k′ l (h .0))
-
   pub extent-record : (i : ℕ) → 1 ≤ i → i ≤ T .n → extent T i ≡ suc (extent T (T .at i .first) + extent T (T .at i .next))
   unfolding extent
-  extent-record i l u =
-      within-suc T (T .n) i l
-      ∙ ap₂ (λ x y. suc (x + y))
-      (stable _ _ _ (first-enough T L i (T .n) l within) (first-enough T L i (suc (T .n)) l within′))
-      (stable _ _ _ (next-enough T L i (T .n) l within) (next-enough T L i (suc (T .n)) l within′))
-    where
-      within : Enough T i (suc (T .n))
-      within = inr (l, u, omega arith)
-
-      within′ : Enough T i (suc (suc (T .n)))
-      within′ = inr (l, u, omega arith)
+  extent-record i l u = hanging-record T 0 _ L i l u
 
   -- What hangs at a link, as a sum over the records that it names.
   over-named : (l : ℕ) → (l ≡ 0) ⊎ ((1 ≤ l) × (l ≤ T .n)) → sumOf (T .n) (λ i. naming l i * extent T i) ≡ extent T l
@@ -117,14 +80,8 @@ module _ (T : Table) (L : Linked T) where
   Sized {s = branches} l e = extent T l ≡ size e
 
   pub means-sized : {s : Sort} {i : ℕ} {e : Exp s} → Means T s i e → Sized i e
-  means-sized {i = i} (variable k m) = omega (arith, extent-record i (k .0) (k .1), means-sized m)
-  means-sized {i = i} (abstraction {b = b} k m) = omega (arith, extent-record i (k .0) (k .1), means-sized m, length-append (words b) [])
-  means-sized {i = i} (application {f = f} {a = a} k m) =
-      let listed = length-append (words f) (words a ++ []) in
-      let last = length-append (words a) [] in
-      omega (arith, extent-record i (k .0) (k .1), means-sized m, length-append (words f) (words a))
-  means-sized {i = i} (constructor k m) = omega (arith, extent-record i (k .0) (k .1), means-sized m)
-  means-sized {i = i} (case-of {e = e} {bs = bs} k m ms) =
+  means-sized {i = i} (plain k n m) = omega (arith, extent-record i (k .0) (k .1), means-sized m, node-size n)
+  means-sized {i = i} (case-of {e = e} {bs = bs} k z m ms) =
       omega (arith, extent-record i (k .0) (k .1), means-sized m, means-sized ms, length-append (words e) (words bs))
   means-sized no-term = extent-zero T
   means-sized (a-term {a = a} {xs = xs} m ms) = omega (arith, means-sized m, means-sized ms, length-append (words a) (words xs))

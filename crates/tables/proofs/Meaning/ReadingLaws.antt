@@ -1,7 +1,7 @@
 -- The readers' turns: what is read at a link that is not 0, and how many records are ahead after it.
 use Prim.Native.Nat.{ℕ, suc, _+_, _-_, _≤_, _<_}
 use mathlib.Core.Path.{_≡_, refl, ap, _∙_}
-use mathlib.Core.Bool.{Bool, true, false, false≢true, cond, _&&_, and-eq-true-iff}
+use mathlib.Core.Bool.{Bool, true, false, cond, _&&_, and-eq-true-iff}
 use mathlib.Core.List.{List, [], _∷_, _++_}
 use mathlib.Core.Logic.{inl, inr}
 use native.Mathlib.Omega.{arith}
@@ -9,11 +9,11 @@ use lib.Dec.{leb, eqb}
 use lib.ListN.{length, length-append}
 use borrow.Author.Tests.{leb-true, eqb-true, eq-eqb, ne-eqb}
 use Rattle.calculus.specs.Words.{variableKind, constructorKind, caseKind, branchKind, tagOf, countOf, word, pack, workspaceMost}
-use Rattle.calculus.specs.Accepted.{argumentLimit, indexLimit}
+use Rattle.calculus.specs.Accepted.{argumentLimit, branchLimit, indexLimit}
 use Rattle.words.specs.Limits.{payloadBound}
 use Rattle.tables.specs.Records.{Record, Table, Stored, recordAt, view}
 use Rattle.tables.specs.Values.{isTag, valueFits}
-use Rattle.tables.specs.Children.{children, childrenFit, chainFrom}
+use Rattle.tables.specs.Children.{children, numberFits, subjectFirst, childrenFit, chainFrom}
 use Rattle.tables.specs.Reading.{ahead, payload, Wordable, chainWords, termWords, Readable}
 use Rattle.tables.proofs.Refusal.LinkRules.{Ahead, Linked, linked}
 use Rattle.tables.proofs.Refusal.Fits.{valued, fitted}
@@ -66,8 +66,9 @@ payload-small k v m h u = go (eqb k constructorKind) (eqb k caseKind)
 
 some-child : (rs : List Record) → childrenFit caseKind rs ≡ true → 1 ≤ length rs
 unfolding childrenFit
-some-child [] h = absurd (false≢true h)
-some-child (r ∷ rs) h = omega arith
+some-child rs h =
+    let number = and-eq-true-iff (numberFits caseKind (length rs)) (subjectFirst rs) .0 h .0 in
+    leb-true 1 (length rs) (and-eq-true-iff (leb 1 (length rs)) (leb (length rs) (suc branchLimit)) .0 number .0)
 
 -- A turn: a record that was read at a link, and reading on from it.
 pub record ReadOn (S : Stored) (link : ℕ) (r : Record) : Type 0 where

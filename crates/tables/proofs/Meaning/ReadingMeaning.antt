@@ -3,66 +3,45 @@ use Prim.Native.Nat.{ℕ, _+_, _-_, _≤_}
 use mathlib.Core.Path.{_≡_, refl, ap, ap₂, sym, _∙_}
 use mathlib.Core.Bool.{not}
 use mathlib.Core.List.{List, _∷_, _++_, append-nil}
-use mathlib.Core.Logic.{inr}
 use native.Mathlib.Omega.{arith}
-use lib.Dec.{eqb}
 use lib.ListN.{length, drop}
 use lib.Seq.{sets-eq}
-use borrow.Author.Tests.{eqb-true}
-use Rattle.calculus.specs.Term.{Sort, term, terms, branches, Exp, Term, Branches, count}
-use Rattle.calculus.specs.Words.{abstractionKind, applicationKind, caseKind, word, words, size, workspaceMost}
+use Rattle.calculus.specs.Term.{Sort, term, terms, branches, Exp, Term, count}
+use Rattle.calculus.specs.Words.{caseKind, word, words, size, workspaceMost}
 use Rattle.calculus.proofs.WordLaws.{pack-of-parts}
 use Rattle.words.specs.IsTerm.{isTerm}
 use Rattle.words.specs.Placed.{Placed}
 use Rattle.words.proofs.PlacedLaws.{placed-length}
 use Rattle.tables.specs.Records.{Table, Stored, view}
-use Rattle.tables.specs.Meaning.{Means, variable, abstraction, application, constructor, case-of, no-term, a-term, no-branch, a-branch}
-use Rattle.tables.specs.Values.{valueFits}
+use Rattle.tables.specs.Meaning.{Means, plain, case-of, no-term, a-term, no-branch, a-branch}
 use Rattle.tables.specs.Children.{children}
 use Rattle.tables.specs.Reading.{chainWords, termWords, Readable}
 use Rattle.tables.specs.FreeNumbers.{freeAbove, wrongFree}
-use Rattle.tables.proofs.Refusal.LinkRules.{Linked, linked, children-enough, next-enough}
+use Rattle.tables.proofs.Refusal.LinkRules.{Linked, linked, children-enough}
 use Rattle.tables.proofs.Refusal.Fits.{Valued, valued, Fitted, fitted}
+use Rattle.tables.proofs.Meaning.Nodes.{node-words}
 use Rattle.tables.proofs.Meaning.MeaningLaws.{term-inside, meaning-complete}
-use Rattle.tables.proofs.Meaning.ChainMeaning.{terms-chain, branches-chain}
+use Rattle.tables.proofs.Meaning.ChainMeaning.{terms-chain, case-chain}
 use Rattle.tables.proofs.Meaning.Exists.{record-means}
 use Rattle.tables.proofs.Meaning.Extent.{extent, extent-zero, root-extent, means-sized}
 use Rattle.tables.proofs.Meaning.Accepts.{free-is-term}
 use Rattle.tables.proofs.Refusal.RecordLaws.{sized}
-use Rattle.tables.proofs.Meaning.Hanging.{chain-next}
 use Rattle.tables.proofs.Meaning.ReadingLaws.{chainWords-end, chainWords-record}
 
-module _ (T : Table) (L : Linked T) (values : Valued T) where
-  -- An abstraction and an application have the value 0.
-  no-value : (i k : ℕ) → 1 ≤ i → i ≤ T .n → T .at i .kind ≡ k → (valueFits k (T .at i .value) ≡ eqb (T .at i .value) 0) → T .at i .value ≡ 0
-  no-value i k l u e f = eqb-true _ 0 (sym f ∙ rw e at (values .value-fits i l u))
-
-  -- A case has a child more than branches.
-  case-children : {i : ℕ} {e : Term} {bs : Branches} → Means T term (T .at i .first) e → Means T branches (T .at (T .at i .first) .next) bs
-      → length (children T i) - 1 ≡ count bs
-  case-children {i} {bs = bs} m ms =
-      let r = term-inside m in
-      let later = next-enough T L (T .at i .first) (T .n) (r .0) (inr (r .0, r .1, omega arith)) in
-      omega (arith, ap length (chain-next T L (T .at i .first) (r .0) (r .1)), branches-chain T L ms (T .n) later .0)
-
+module _ (T : Table) (L : Linked T) where
   abbrev Spelled : {s : Sort} → ℕ → Exp s → Type 0
   Spelled {s = term} i e = termWords T i ≡ words e
   Spelled {s = terms} l e = chainWords T l ≡ words e
   Spelled {s = branches} l e = chainWords T l ≡ words e
 
   pub means-spelled : {s : Sort} {i : ℕ} {e : Exp s} → Means T s i e → Spelled i e
-  unfolding valueFits
-  means-spelled (variable k m) = rw (k .2, means-spelled m)
-  means-spelled {i = i} (abstraction {b = b} k m) =
-      rw (k .2, no-value i abstractionKind (k .0) (k .1) (k .2) refl, means-spelled m, append-nil (words b))
-  means-spelled {i = i} (application {f = f} {a = a} k m) =
-      rw (k .2, no-value i applicationKind (k .0) (k .1) (k .2) refl, means-spelled m, append-nil (words a))
-  means-spelled {i = i} (constructor k m) = rw (k .2, terms-chain T L m (T .n) (children-enough T L i (k .0) (k .1)) .0, means-spelled m)
-  means-spelled (case-of k m ms) =
+  means-spelled {i = i} (plain k n m) =
+      rw (k .2, terms-chain T L m (T .n) (children-enough T L i (k .0) (k .1)) .0, means-spelled m) (sym (node-words n))
+  means-spelled {i = i} (case-of {bs = bs} k z m ms) =
       let r = term-inside m in
+      let branches : length (children T i) - 1 ≡ count bs = omega (arith, case-chain T L m ms (T .n) (children-enough T L i (k .0) (k .1)) .0) in
       rw (k .2)
-      (ap₂ (λ p vs. word caseKind p ∷ vs) (case-children m ms)
-      (chainWords-record T L _ (r .0) (r .1) ∙ ap₂ _++_ (means-spelled m) (means-spelled ms)))
+      (ap₂ (λ p vs. word caseKind p ∷ vs) branches (chainWords-record T L _ (r .0) (r .1) ∙ ap₂ _++_ (means-spelled m) (means-spelled ms)))
   means-spelled no-term = chainWords-end T 0 refl
   means-spelled {i = i} (a-term m ms) =
       let r = term-inside m in
@@ -89,7 +68,7 @@ module _ (S : Stored) (h : Readable S (view S .root)) (l : 1 ≤ view S .root) w
   root-means = record-means T links fits values (T .n) (T .root) l (h .walkable .link-within) (omega arith) (fits .root-term)
 
   root-words : termWords T (T .root) ≡ words (root-means .0)
-  root-words = means-spelled T links values (root-means .1)
+  root-words = means-spelled T links (root-means .1)
 
   root-size : size (root-means .0) ≡ T .n
   root-size =

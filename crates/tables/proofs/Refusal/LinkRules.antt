@@ -7,8 +7,8 @@ use native.Mathlib.Decide.{ℕ-discrete}
 use native.Mathlib.Omega.{arith}
 use lib.Dec.{leb, ltb, eqb}
 use borrow.Author.Tests.{leb-true, le-leb, ltb-true, lt-ltb, eqb-true, eq-eqb, not-false}
-use Rattle.tables.specs.Records.{Table, sumOf}
-use Rattle.tables.specs.Links.{linkFits, naming, namings, wrongLink}
+use Rattle.tables.specs.Records.{Table, everyOf, sumOf}
+use Rattle.tables.specs.Links.{linkFits, linksFit, naming, namings, wrongLink}
 use Rattle.tables.proofs.Refusal.Sums.{every-at, every-of, sum-eq, sum-zeros, naming-other}
 
 -- A link of record i that is not 0 names a later record.
@@ -40,33 +40,29 @@ ahead-fits T i l (inl e) = ap (λ b. b || (ltb i l && leb l (T .n))) (eq-eqb l 0
 ahead-fits T i l (inr a) =
     ap (λ b. eqb l 0 || b) (and-eq-true-iff (ltb i l) (leb l (T .n)) .1 (lt-ltb i l (a .0), le-leb l (T .n) (a .1))) ∙ or-true (eqb l 0)
 
--- The test of one record.
-abbrev recordLinked : Table → ℕ → Bool
-recordLinked T i = linkFits (T .n) i (T .at i .first) && linkFits (T .n) i (T .at i .next) && eqb (namings T i) 1
-
 pub linked : (T : Table) → wrongLink T ≡ false → Linked T
 unfolding wrongLink
 linked T h =
     record {
       first-ahead = λ i l u. fits-ahead T i (T .at i .first) (links i l u .0);
       next-ahead = λ i l u. fits-ahead T i (T .at i .next) (links i l u .1);
-      named-once = λ i l u. eqb-true (namings T i) 1 (each i l u .1);
+      named-once = λ i l u. eqb-true (namings T i) 1 (every-at (T .n) (λ j. eqb (namings T j) 1) (rules .1) i l u);
     }
   where
-    each : (i : ℕ) → 1 ≤ i → i ≤ T .n → ((linkFits (T .n) i (T .at i .first) && linkFits (T .n) i (T .at i .next)) ≡ true) × (eqb (namings T i) 1 ≡ true)
-    each i l u = and-eq-true-iff _ _ .0 (every-at (T .n) (recordLinked T) (not-false _ h) i l u)
+    rules : (everyOf (T .n) (linksFit T) ≡ true) × (everyOf (T .n) (λ i. eqb (namings T i) 1) ≡ true)
+    rules = and-eq-true-iff _ _ .0 (not-false _ h)
 
     links : (i : ℕ) → 1 ≤ i → i ≤ T .n → (linkFits (T .n) i (T .at i .first) ≡ true) × (linkFits (T .n) i (T .at i .next) ≡ true)
-    links i l u = and-eq-true-iff _ _ .0 (each i l u .0)
+    links i l u = and-eq-true-iff _ _ .0 (every-at (T .n) (linksFit T) (rules .0) i l u)
 
 pub linked-passes : (T : Table) → Linked T → wrongLink T ≡ false
 unfolding wrongLink
 linked-passes T L =
     ap not
-    (every-of (T .n) (recordLinked T)
-    (λ i l u.
-    and-eq-true-iff _ _ .1
-    (and-eq-true-iff _ _ .1 (ahead-fits T i _ (L .first-ahead i l u), ahead-fits T i _ (L .next-ahead i l u)), eq-eqb _ 1 (L .named-once i l u))))
+    (and-eq-true-iff _ _ .1 (
+      every-of (T .n) (linksFit T) (λ i l u. and-eq-true-iff _ _ .1 (ahead-fits T i _ (L .first-ahead i l u), ahead-fits T i _ (L .next-ahead i l u))),
+      every-of (T .n) (λ i. eqb (namings T i) 1) (λ i l u. eq-eqb _ 1 (L .named-once i l u)),
+    ))
 
 -- A bound on the steps from a link that is never reached.
 abbrev pub Enough : Table → (link bound : ℕ) → Type 0

@@ -3,7 +3,7 @@ use Prim.Native.Nat.{ℕ, zero, suc, _+_, _*_, _≤_}
 use mathlib.Core.Path.{_≡_, refl, ap, ap₂, sym, _∙_}
 use mathlib.Core.Bool.{Bool, true, and-eq-true-iff}
 use mathlib.Core.Logic.{inl, inr}
-use native.Mathlib.Nat.{zero-mul, one-mul, add-mul, eq-or-lt-of-le}
+use native.Mathlib.Nat.{zero-mul, one-mul, add-mul, mul-suc, eq-or-lt-of-le}
 use native.Mathlib.Omega.{arith}
 use borrow.Author.Tests.{eq-eqb, ne-eqb}
 use Rattle.tables.specs.Records.{everyOf, sumOf}
@@ -32,6 +32,10 @@ sum-ones (suc n) = omega (arith, sum-ones n)
 pub sum-zeros : (n : ℕ) → sumOf n (λ i. 0) ≡ 0
 sum-zeros zero = refl
 sum-zeros (suc n) = omega (arith, sum-zeros n)
+
+pub sum-most : (n : ℕ) (f : ℕ → ℕ) (most : ℕ) → ((i : ℕ) → f i ≤ most) → sumOf n f ≤ most * n
+sum-most zero f most h = omega arith
+sum-most (suc n) f most h = omega (arith, sum-most n f most h, h (suc n), mul-suc most n)
 
 pub sum-add : (n : ℕ) (f g : ℕ → ℕ) → sumOf n (λ i. f i + g i) ≡ sumOf n f + sumOf n g
 sum-add zero f g = refl

@@ -6,15 +6,17 @@ use native.Mathlib.Nat.{add-zero}
 use native.Mathlib.Omega.{arith}
 use lib.Dec.{eqb·suc-zero}
 use lib.ListN.{length-append}
-use Rattle.calculus.specs.Term.{Sort, term, terms, branches, Exp, var, lam, app, con, case, nil, cons, end, branch, Term, count}
-use Rattle.calculus.specs.Words.{variableKind, abstractionKind, applicationKind, constructorKind, caseKind, branchKind, kindBase, word, words, size, pack}
-use Rattle.calculus.specs.Skip.{following, arity, span}
-use Rattle.calculus.specs.Theorems.{Packable}
-use Rattle.calculus.proofs.WordLaws.{kindOf-word, payloadOf-word, tagOf-pack}
-use Rattle.calculus.proofs.SkipLaws.{arity-variable, arity-constructor, arity-case, arity-branch, span-words, span-zero}
+use Rattle.calculus.specs.Term.{Sort, term, terms, branches, Exp, case, Term, count}
+use Rattle.calculus.specs.Words.{caseKind, branchKind, kindBase, word, words, size, pack}
+use Rattle.calculus.specs.Skip.{arity, span}
+use Rattle.calculus.specs.Theorems.{counted, Packable}
+use Rattle.calculus.proofs.WordLaws.{kindOf-word, payloadOf-word}
+use Rattle.calculus.proofs.SkipLaws.{arity-case, arity-branch, span-words, span-zero}
 use Rattle.tables.specs.Records.{Record}
+use Rattle.tables.specs.Reading.{payload}
 use Rattle.tables.specs.Write.{entry, linkTo, records}
 use Rattle.tables.specs.Writing.{valueOf, linkIf, push, entries}
+use Rattle.tables.proofs.Meaning.Nodes.{node-kind, node-words, node-size, node-arity, node-value, node-records, node-below, Built, plain, of-case, empty, listed, ended, branched, built}
 
 -- The record of a word in front, by its kind, payload, number of children and extent.
 first-entry : (k p a s i m : ℕ) (ks ws : List ℕ) → k < kindBase → arity (word k p) ≡ a → span 1 (word k p ∷ ws) ≡ s
@@ -45,47 +47,35 @@ EntriesOf {s = term} e i j m ks rest = entries i (suc m ∷ ks) (words e ++ rest
 EntriesOf {s = terms} e i j m ks rest = entries i (push (count e) ks) (words e ++ rest) ≡ records i 0 e ++ entries j ks rest
 EntriesOf {s = branches} e i j m ks rest = entries i (push (count e) ks) (words e ++ rest) ≡ records i 0 e ++ entries j ks rest
 
-entries-of : {s : Sort} (e : Exp s) (i j m : ℕ) (ks rest : List ℕ) → Packable e → j ≡ i + size e → EntriesOf e i j m ks rest
-unfolding valueOf following
-entries-of (var v) i j m ks rest h e =
-    let next : suc i ≡ j = omega (arith, e) in
-    first-entry variableKind v 0 1 i m ks rest (omega arith) (arity-variable v) (term-span (var v) rest tt)
-    ∙ same-entry variableKind refl refl (ap (linkIf m) (sym e)) (ap (λ n. entries n (push m ks) rest) next)
-entries-of (lam b) i j m ks rest h e =
-    first-entry abstractionKind 0 1 (size (lam b)) i m ks (words b ++ rest) (omega arith) refl (term-span (lam b) rest h)
-    ∙ same-entry abstractionKind refl refl (ap (linkIf m) (sym e)) (entries-of b (suc i) j 0 (push m ks) rest h (omega (arith, e)))
-entries-of (app f a) i j m ks rest h e =
-    first-entry applicationKind 0 2 (size (app f a)) i m ks (words f ++ words a ++ rest) (omega arith) refl (term-span (app f a) rest h)
-    ∙ same-entry applicationKind refl refl (ap (linkIf m) (sym e))
-    (two-parts (suc i) (2 ∷ push m ks) (words f) (words a) rest (records (suc i) (suc i + size f) f) (records (suc i + size f) 0 a) _
-    (entries-of f (suc i) (suc i + size f) 1 (push m ks) (words a ++ rest) (h .0) refl)
-    (entries-of a (suc i + size f) j 0 (push m ks) rest (h .1) (omega (arith, e, length-append (words f) (words a)))))
-entries-of (con t xs) i j m ks rest h e =
-    first-entry constructorKind (pack t (count xs)) (count xs) (size (con t xs)) i m ks (words xs ++ rest) (omega arith)
-    (arity-constructor t (count xs) (h .0)) (term-span (con t xs) rest h)
-    ∙ same-entry constructorKind (tagOf-pack t (count xs) (h .0)) refl (ap (linkIf m) (sym e))
-    (entries-of xs (suc i) j 0 (push m ks) rest (h .1) (omega (arith, e)))
-entries-of (case t bs) i j m ks rest h e =
+entries-of : {s : Sort} {e : Exp s} → Built s e → (i j m : ℕ) (ks rest : List ℕ) → Packable e → j ≡ i + size e → EntriesOf e i j m ks rest
+unfolding valueOf
+entries-of (plain {k} {v} {xs} {t} n b) i j m ks rest h e =
+    let p = payload k v (count xs) in
+    rw (node-words n, node-records n)
+    (first-entry k p (count xs) (suc (size xs)) i m ks (words xs ++ rest) (omega (arith, node-kind n)) (node-arity n h) (rw (node-words n) at (term-span t rest h))
+    ∙ same-entry k (node-value n h) refl (ap (linkIf m) (omega (arith, e, node-size n)))
+    (entries-of b (suc i) j 0 (push m ks) rest (node-below counted n tt h .1) (omega (arith, e, node-size n))))
+entries-of (of-case {e = t} {bs = bs} b c) i j m ks rest h e =
     first-entry caseKind (count bs) (suc (count bs)) (size (case t bs)) i m ks (words t ++ words bs ++ rest) (omega arith)
     (arity-case (count bs)) (term-span (case t bs) rest h)
     ∙ same-entry caseKind refl (rw (eqb·suc-zero (count bs))) (ap (linkIf m) (sym e))
     (two-parts (suc i) (suc (count bs) ∷ push m ks) (words t) (words bs) rest (records (suc i) (linkTo (suc i + size t) bs) t) (records (suc i + size t) 0 bs) _
-    (entries-of t (suc i) (suc i + size t) (count bs) (push m ks) (words bs ++ rest) (h .1) refl)
-    (entries-of bs (suc i + size t) j 0 (push m ks) rest (h .2) (omega (arith, e, length-append (words t) (words bs)))))
-entries-of nil i j m ks rest h e = let same : i ≡ j = omega (arith, e) in ap (λ n. entries n ks rest) same
-entries-of (cons a xs) i j m ks rest h e =
+    (entries-of b (suc i) (suc i + size t) (count bs) (push m ks) (words bs ++ rest) (h .1) refl)
+    (entries-of c (suc i + size t) j 0 (push m ks) rest (h .2) (omega (arith, e, length-append (words t) (words bs)))))
+entries-of empty i j m ks rest h e = let same : i ≡ j = omega (arith, e) in ap (λ n. entries n ks rest) same
+entries-of (listed {a} {xs} b c) i j m ks rest h e =
     two-parts i (suc (count xs) ∷ ks) (words a) (words xs) rest (records i (linkTo (i + size a) xs) a) (records (i + size a) 0 xs) _
-    (entries-of a i (i + size a) (count xs) ks (words xs ++ rest) (h .0) refl)
-    (entries-of xs (i + size a) j 0 ks rest (h .1) (omega (arith, e, length-append (words a) (words xs))))
-entries-of end i j m ks rest h e = let same : i ≡ j = omega (arith, e) in ap (λ n. entries n ks rest) same
-entries-of (branch t n b bs) i j m ks rest h e =
+    (entries-of b i (i + size a) (count xs) ks (words xs ++ rest) (h .0) refl)
+    (entries-of c (i + size a) j 0 ks rest (h .1) (omega (arith, e, length-append (words a) (words xs))))
+entries-of ended i j m ks rest h e = let same : i ≡ j = omega (arith, e) in ap (λ n. entries n ks rest) same
+entries-of (branched {t} {n} {b} {bs} c d) i j m ks rest h e =
     first-entry branchKind (pack t n) 1 (suc (size b)) i (count bs) ks (words b ++ words bs ++ rest) (omega arith) (arity-branch (pack t n))
     (branch-span (pack t n) b (words bs) rest (h .1))
     ∙ same-entry branchKind refl refl (ap (linkIf (count bs)) (omega arith))
     (two-parts (suc i) (1 ∷ push (count bs) ks) (words b) (words bs) rest (records (suc i) 0 b) (records (suc i + size b) 0 bs) _
-    (entries-of b (suc i) (suc i + size b) 0 (push (count bs) ks) (words bs ++ rest) (h .1) refl)
-    (entries-of bs (suc i + size b) j 0 ks rest (h .2) (omega (arith, e, length-append (words b) (words bs)))))
+    (entries-of c (suc i) (suc i + size b) 0 (push (count bs) ks) (words bs ++ rest) (h .1) refl)
+    (entries-of d (suc i + size b) j 0 ks rest (h .2) (omega (arith, e, length-append (words b) (words bs)))))
 
 pub entries-records : (t : Term) → Packable t → entries 1 (1 ∷ []) (words t) ≡ records 1 0 t
 entries-records t h =
-    ap (entries 1 (1 ∷ [])) (sym (append-nil (words t))) ∙ entries-of t 1 (1 + size t) 0 [] [] h refl ∙ append-nil (records 1 0 t)
+    ap (entries 1 (1 ∷ [])) (sym (append-nil (words t))) ∙ entries-of (built t) 1 (1 + size t) 0 [] [] h refl ∙ append-nil (records 1 0 t)

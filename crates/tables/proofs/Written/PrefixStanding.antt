@@ -1,23 +1,19 @@
 -- Where the records of a table are in prefix order, those that a meaning is read from are the records of what is meant, where they stand.
 use Prim.Native.Nat.{ℕ, suc, _+_, _≤_}
 use mathlib.Core.Path.{_≡_, refl, sym, _∙_}
-use mathlib.Core.Bool.{true}
-use mathlib.Core.List.{[], _++_, append-nil}
+use mathlib.Core.List.{[], append-nil}
 use mathlib.Core.Logic.{_⊎_, inl, inr}
 use native.Mathlib.Omega.{arith}
-use lib.Dec.{eqb}
 use lib.ListN.{length-append}
-use borrow.Author.Tests.{eqb-true}
-use Rattle.calculus.specs.Term.{Sort, term, terms, branches, Exp, nil, cons, Term}
+use Rattle.calculus.specs.Term.{Sort, term, terms, branches, Exp, nil, Term}
 use Rattle.calculus.specs.Words.{words, size, branchKind, pack, tagOf, countOf}
 use Rattle.calculus.proofs.WordLaws.{pack-of-parts}
-use Rattle.tables.specs.Records.{Table, OfKind}
-use Rattle.tables.specs.Meaning.{Means, variable, abstraction, application, constructor, case-of, no-term, a-term, no-branch, a-branch}
-use Rattle.tables.specs.Values.{valueFits}
+use Rattle.tables.specs.Records.{Table}
+use Rattle.tables.specs.Meaning.{Means, plain, case-of, no-term, a-term, no-branch, a-branch}
 use Rattle.tables.specs.PrefixOrder.{Fills, nothing, chained}
 use Rattle.tables.specs.Write.{linkTo, records}
+use Rattle.tables.proofs.Meaning.Nodes.{node-size, node-records}
 use Rattle.tables.proofs.Meaning.MeaningLaws.{term-inside}
-use Rattle.tables.proofs.Refusal.Fits.{Valued}
 use Rattle.tables.proofs.Written.Standing.{Stand, stand-with, link-cons, link-branch}
 use Rattle.tables.proofs.Written.TableWords.{entry-path}
 
@@ -45,36 +41,13 @@ Stands T {s = term} i e = (k : ℕ) → Fills T i i k → Stand T i (records i (
 Stands T {s = terms} l e = (i k : ℕ) → 1 ≤ i → Fills T l i k → Stand T i (records i 0 e) × (l ≡ linkTo i e) × (k ≡ i + size e)
 Stands T {s = branches} l e = (i k : ℕ) → 1 ≤ i → Fills T l i k → Stand T i (records i 0 e) × (l ≡ linkTo i e) × (k ≡ i + size e)
 
-module _ (T : Table) (values : Valued T) where
-  zero-value : {kind i : ℕ} → ((v : ℕ) → valueFits kind v ≡ true → eqb v 0 ≡ true) → OfKind T kind i → T .at i .value ≡ 0
-  zero-value {i = i} must k = eqb-true _ 0 (must _ (rw (k .2) at (values .value-fits i (k .0) (k .1))))
-
+module _ (T : Table) where
   in-order-stands : {s : Sort} {i : ℕ} {e : Exp s} → Means T s i e → Stands T i e
-  unfolding valueFits
-  in-order-stands {i = i} (variable k m) = λ n f.
+  in-order-stands {i = i} (plain k n m) = λ to f.
       let parts = record-fills (k .0) f .1 in
       let below = in-order-stands m (suc i) (parts .0) (omega arith) (parts .1) in
-      ((entry-path (k .2) refl (below .1) refl, tt), fills-from (omega arith) (parts .2))
-  in-order-stands {i = i} (abstraction {b = b} k m) = λ n f.
-      let parts = record-fills (k .0) f .1 in
-      let below = in-order-stands m (suc i) (parts .0) (omega arith) (parts .1) in (
-        (entry-path (k .2) (zero-value (λ v h. h) k) (below .1 ∙ link-cons (suc i) b nil) refl, rw append-nil at (below .0)),
-        fills-from (omega (arith, length-append (words b) [])) (parts .2),
-      )
-  in-order-stands {i = i} (application {f = g} {a = a} k m) = λ n f.
-      let parts = record-fills (k .0) f .1 in
-      let below = in-order-stands m (suc i) (parts .0) (omega arith) (parts .1) in (
-        (
-          entry-path (k .2) (zero-value (λ v h. h) k) (below .1 ∙ link-cons (suc i) g (cons a nil)) refl,
-          rw (link-cons (suc i + size g) a nil, append-nil (records (suc i + size g) 0 a)) at (below .0),
-        ),
-        fills-from (omega (arith, length-append (words g) (words a ++ []), length-append (words a) [], length-append (words g) (words a))) (parts .2),
-      )
-  in-order-stands {i = i} (constructor k m) = λ n f.
-      let parts = record-fills (k .0) f .1 in
-      let below = in-order-stands m (suc i) (parts .0) (omega arith) (parts .1) in
-      ((entry-path (k .2) refl (below .1) refl, below .0), fills-from (omega arith) (parts .2))
-  in-order-stands {i = i} (case-of {e = e} {bs = bs} k m ms) = λ n f.
+      (rw (node-records n i _) (entry-path (k .2) refl (below .1) refl, below .0), fills-from (omega (arith, node-size n)) (parts .2))
+  in-order-stands {i = i} (case-of {e = e} {bs = bs} k z m ms) = λ n f.
       let parts = record-fills (k .0) f .1 in
       let here : T .at i .first ≡ suc i = fills-first (term-inside m .0) (parts .1) in
       let subject = rw here at (in-order-stands m) in
@@ -82,7 +55,7 @@ module _ (T : Table) (values : Valued T) where
       let first = subject (parts .0) (rw here at (parts .1)) in
       let later = rest (suc i + size e) (parts .0) (omega arith) (first .1) in (
         (
-          entry-path (k .2) (zero-value (λ v h. h) k) here refl,
+          entry-path (k .2) z here refl,
           stand-with T e bs (suc i) (linkTo (suc i + size e) bs) 0 (rw (later .1) at (first .0)) (later .0),
         ),
         fills-from (omega (arith, length-append (words e) (words bs))) (parts .2),
@@ -114,9 +87,9 @@ module _ (T : Table) (values : Valued T) where
       )
 
 -- A term that fills the records from 1 on is the first of them.
-pub root-stands : (T : Table) (t : Term) (root k : ℕ) → Valued T → T .at root .next ≡ 0 → Means T term root t → Fills T root 1 k
+pub root-stands : (T : Table) (t : Term) (root k : ℕ) → T .at root .next ≡ 0 → Means T term root t → Fills T root 1 k
     → (root ≡ 1) × Stand T 1 (records 1 0 t)
-root-stands T t root k values last m f =
+root-stands T t root k last m f =
     let here : root ≡ 1 = fills-first (term-inside m .0) f in
-    let stands = in-order-stands T values m k (rw here (rw here at f)) .0 in
+    let stands = in-order-stands T m k (rw here (rw here at f)) .0 in
     (here, rw (last, here) at stands)

@@ -5,14 +5,15 @@ use mathlib.Core.List.{List, [], _∷_, _++_}
 use native.Mathlib.Omega.{arith}
 use lib.ListN.{length, length-append}
 use borrow.Author.Tests.{ne-eqb}
-use Rattle.calculus.specs.Term.{Sort, term, terms, branches, Exp, var, lam, app, con, case, nil, cons, end, branch, Term, Terms, Branches, count}
+use Rattle.calculus.specs.Term.{Sort, term, terms, branches, Exp, case, nil, cons, branch, Term, Terms, Branches, count}
 use Rattle.calculus.specs.Words.{words, size, tagOf, countOf}
-use Rattle.calculus.specs.Theorems.{Packable}
+use Rattle.calculus.specs.Theorems.{counted, Packable}
 use Rattle.calculus.proofs.WordLaws.{tagOf-pack, countOf-pack}
 use Rattle.tables.specs.Records.{Record, Table}
-use Rattle.tables.specs.Meaning.{Means, variable, abstraction, application, constructor, case-of, no-term, a-term, no-branch, a-branch}
+use Rattle.tables.specs.Meaning.{Node, Means, plain, case-of, no-term, a-term, no-branch, a-branch}
 use Rattle.tables.specs.PrefixOrder.{Fills, nothing, chained}
-use Rattle.tables.specs.Write.{linkTo, records}
+use Rattle.tables.specs.Write.{entry, linkTo, records}
+use Rattle.tables.proofs.Meaning.Nodes.{node-size, node-records, node-below, Built, plain, of-case, empty, listed, ended, branched, built}
 
 abbrev pub Stand : Table → ℕ → List Record → Type 0
 Stand T i [] = Unit {0}
@@ -28,19 +29,17 @@ stand-join T [] rs′ i j e h h′ = let same : i ≡ j = omega arith in rw same
 stand-join T (r ∷ rs) rs′ i j e h h′ = (h .0, stand-join T rs rs′ (suc i) j (omega arith) (h .1) h′)
 
 -- As many records as words.
+built-length : {s : Sort} {e : Exp s} → Built s e → (i x : ℕ) → length (records i x e) ≡ size e
+built-length (plain {xs = xs} n b) i x = rw (node-records n i x, node-size n) (ap suc (built-length b (suc i) 0))
+built-length (of-case {e} {bs} b c) i x =
+    simp length-append (omega (arith, built-length b (suc i) (linkTo (suc i + size e) bs), built-length c (suc i + size e) 0))
+built-length empty i x = refl
+built-length (listed {a} {xs} b c) i x = simp length-append (omega (arith, built-length b i (linkTo (i + size a) xs), built-length c (i + size a) 0))
+built-length ended i x = refl
+built-length (branched {b = b} c d) i x = simp length-append (omega (arith, built-length c (suc i) 0, built-length d (suc i + size b) 0))
+
 pub records-length : {s : Sort} (e : Exp s) (i x : ℕ) → length (records i x e) ≡ size e
-records-length (var v) i x = refl
-records-length (lam b) i x = ap suc (records-length b (suc i) 0)
-records-length (app f a) i x = simp length-append (omega (arith, records-length f (suc i) (suc i + size f), records-length a (suc i + size f) 0))
-records-length (con t xs) i x = ap suc (records-length xs (suc i) 0)
-records-length (case e bs) i x =
-    simp length-append (omega (arith, records-length e (suc i) (linkTo (suc i + size e) bs), records-length bs (suc i + size e) 0))
-records-length nil i x = refl
-records-length (cons a xs) i x =
-    simp length-append (omega (arith, records-length a i (linkTo (i + size a) xs), records-length xs (i + size a) 0))
-records-length end i x = refl
-records-length (branch t n b bs) i x =
-    simp length-append (omega (arith, records-length b (suc i) 0, records-length bs (suc i + size b) 0))
+records-length e = built-length (built e)
 
 pub stand-both : (T : Table) {s s′ : Sort} (e : Exp s) (g : Exp s′) (i x y : ℕ) → Stand T i (records i x e ++ records (i + size e) y g)
     → Stand T i (records i x e) × Stand T (i + size e) (records (i + size e) y g)
@@ -50,13 +49,15 @@ pub stand-with : (T : Table) {s s′ : Sort} (e : Exp s) (g : Exp s′) (i x y :
     → Stand T (i + size e) (records (i + size e) y g) → Stand T i (records i x e ++ records (i + size e) y g)
 stand-with T e g i x y h h′ = stand-join T (records i x e) _ i (i + size e) (omega (arith, records-length e i x)) h h′
 
+-- A plain record and its children.
+pub stand-node : (T : Table) {k v : ℕ} {xs : Terms} {t : Term} → Node k v xs t → (i x : ℕ) → Stand T i (records i x t)
+    → (T .at i ≡ entry k v (linkTo (suc i) xs) x) × Stand T (suc i) (records (suc i) 0 xs)
+stand-node T n i x h = rw (node-records n i x) at h
+
 -- The record of a term has the next sibling that it is given.
-pub stand-next : (T : Table) (t : Term) (i x : ℕ) → Stand T i (records i x t) → T .at i .next ≡ x
-stand-next T (var v) i x h = rw (h .0)
-stand-next T (lam b) i x h = rw (h .0)
-stand-next T (app f a) i x h = rw (h .0)
-stand-next T (con t xs) i x h = rw (h .0)
-stand-next T (case e bs) i x h = rw (h .0)
+pub stand-next : (T : Table) {t : Term} → Built term t → (i x : ℕ) → Stand T i (records i x t) → T .at i .next ≡ x
+stand-next T (plain n b) i x h = rw (stand-node T n i x h .0)
+stand-next T (of-case b c) i x h = rw (h .0)
 
 -- Where a list stands, a link to it names its first record.
 pub link-cons : (i : ℕ) (a : Term) (xs : Terms) → linkTo i (cons a xs) ≡ i
@@ -75,45 +76,32 @@ start {s = branches} i e = linkTo i e
 pub then : {T : Table} {i l : ℕ} {a : Term} {xs : Terms} → Means T term i a → T .at i .next ≡ l → Means T terms l xs → Means T terms i (cons a xs)
 then {xs = xs} m e ms = a-term {xs = xs} m (rw e ms)
 
-pub stand-means : (T : Table) {s : Sort} (e : Exp s) (i x : ℕ) → 1 ≤ i → i + size e ≤ suc (T .n) → Packable e → Stand T i (records i x e)
+pub stand-means : (T : Table) {s : Sort} {e : Exp s} → Built s e → (i x : ℕ) → 1 ≤ i → i + size e ≤ suc (T .n) → Packable e → Stand T i (records i x e)
     → Means T s (start i e) e
-stand-means T (var v) i x l u p h =
-    let m : Means T term i (var (T .at i .value)) = variable (l, omega arith, ap (λ r. r .kind) (h .0)) (rw (h .0) no-term) in
-    rw (h .0) at m
-stand-means T (lam b) i x l u p h =
-    let m = stand-means T b (suc i) 0 (omega arith) (omega arith) p (h .1) in
-    abstraction {b = b} (l, omega arith, ap (λ r. r .kind) (h .0)) (rw (h .0) (then m (stand-next T b (suc i) 0 (h .1)) no-term))
-stand-means T (app f a) i x l u p h =
-    let room = length-append (words f) (words a) in
-    let both = stand-both T f a (suc i) (suc i + size f) 0 (h .1) in
-    let m = stand-means T f (suc i) (suc i + size f) (omega arith) (omega arith) (p .0) (both .0) in
-    let m′ = stand-means T a (suc i + size f) 0 (omega arith) (omega arith) (p .1) (both .1) in
-    application {f = f} {a = a} (l, omega arith, ap (λ r. r .kind) (h .0))
-    (rw (h .0) (then m (stand-next T f _ _ (both .0)) (then m′ (stand-next T a _ 0 (both .1)) no-term)))
-stand-means T (con t xs) i x l u p h =
-    let ms = stand-means T xs (suc i) 0 (omega arith) (omega arith) (p .1) (h .1) in
-    let m : Means T term i (con (T .at i .value) xs) = constructor {xs = xs} (l, omega arith, ap (λ r. r .kind) (h .0)) (rw (h .0) ms) in
-    rw (h .0) at m
-stand-means T (case e bs) i x l u p h =
+stand-means T (plain {xs = xs} {t = t} n b) i x l u p h =
+    let own = stand-node T n i x h in
+    let m = stand-means T b (suc i) 0 (omega arith) (omega (arith, node-size n)) (node-below counted n tt p .1) (own .1) in
+    plain {xs = xs} {t = t} (l, omega (arith, node-size n), ap (λ r. r .kind) (own .0)) (rw (own .0) n) (rw (own .0) m)
+stand-means T (of-case {e} {bs} b c) i x l u p h =
     let room = length-append (words e) (words bs) in
     let both = stand-both T e bs (suc i) (linkTo (suc i + size e) bs) 0 (h .1) in
-    let m = stand-means T e (suc i) (linkTo (suc i + size e) bs) (omega arith) (omega arith) (p .1) (both .0) in
-    let ms = stand-means T bs (suc i + size e) 0 (omega arith) (omega arith) (p .2) (both .1) in
-    case-of {e = e} {bs = bs} (l, omega arith, ap (λ r. r .kind) (h .0)) (rw (h .0) m) (rw (h .0) (rw (stand-next T e _ _ (both .0)) ms))
-stand-means T nil i x l u p h = no-term
-stand-means T (cons a xs) i x l u p h =
+    let m = stand-means T b (suc i) (linkTo (suc i + size e) bs) (omega arith) (omega arith) (p .1) (both .0) in
+    let ms = stand-means T c (suc i + size e) 0 (omega arith) (omega arith) (p .2) (both .1) in
+    case-of {e = e} {bs = bs} (l, omega arith, ap (λ r. r .kind) (h .0)) (ap (λ r. r .value) (h .0)) (rw (h .0) m) (rw (h .0) (rw (stand-next T b _ _ (both .0)) ms))
+stand-means T empty i x l u p h = no-term
+stand-means T (listed {a} {xs} b c) i x l u p h =
     let room = length-append (words a) (words xs) in
     let both = stand-both T a xs i (linkTo (i + size a) xs) 0 h in
-    let m = stand-means T a i (linkTo (i + size a) xs) l (omega arith) (p .0) (both .0) in
-    let ms = stand-means T xs (i + size a) 0 (omega arith) (omega arith) (p .1) (both .1) in
-    rw (link-cons i a xs) (then m (stand-next T a i _ (both .0)) ms)
-stand-means T end i x l u p h = no-branch
-stand-means T (branch t n b bs) i x l u p h =
+    let m = stand-means T b i (linkTo (i + size a) xs) l (omega arith) (p .0) (both .0) in
+    let ms = stand-means T c (i + size a) 0 (omega arith) (omega arith) (p .1) (both .1) in
+    rw (link-cons i a xs) (then m (stand-next T b i _ (both .0)) ms)
+stand-means T ended i x l u p h = no-branch
+stand-means T (branched {t} {n} {b} {bs} c d) i x l u p h =
     let room = length-append (words b) (words bs) in
     let both = stand-both T b bs (suc i) 0 0 (h .1) in
-    let body = stand-means T b (suc i) 0 (omega arith) (omega arith) (p .1) (both .0) in
-    let ms = stand-means T bs (suc i + size b) 0 (omega arith) (omega arith) (p .2) (both .1) in
-    let child : Means T terms (T .at i .first) (cons b nil) = rw (h .0) (then body (stand-next T b _ 0 (both .0)) no-term) in
+    let body = stand-means T c (suc i) 0 (omega arith) (omega arith) (p .1) (both .0) in
+    let ms = stand-means T d (suc i + size b) 0 (omega arith) (omega arith) (p .2) (both .1) in
+    let child : Means T terms (T .at i .first) (cons b nil) = rw (h .0) (then body (stand-next T c _ 0 (both .0)) no-term) in
     let m : Means T branches i (branch (tagOf (T .at i .value)) (countOf (T .at i .value)) b bs) =
     a-branch {b = b} {bs = bs} (l, omega arith, ap (λ r. r .kind) (h .0)) child (rw (h .0) ms) in
     rw (link-branch i t n b bs) (rw (h .0, tagOf-pack t n (p .0), countOf-pack t n (p .0)) at m)
@@ -131,33 +119,25 @@ FillsFrom T {s = term} i x e = (k : ℕ) → Fills T x (i + size e) k → Fills 
 FillsFrom T {s = terms} i x e = Fills T (linkTo i e) i (i + size e)
 FillsFrom T {s = branches} i x e = Fills T (linkTo i e) i (i + size e)
 
-pub stand-fills : (T : Table) {s : Sort} (e : Exp s) (i x : ℕ) → Stand T i (records i x e) → FillsFrom T i x e
-stand-fills T (var v) i x h = λ k g. record-fills T _ i (suc i) (i + 1) k (h .0) nothing (omega arith) g
-stand-fills T (lam b) i x h = λ k g.
-    record-fills T _ i (suc i + size b) (i + size (lam b)) k (h .0) (stand-fills T b (suc i) 0 (h .1) (suc i + size b) nothing) (omega arith) g
-stand-fills T (app f a) i x h = λ k g.
-    let both = stand-both T f a (suc i) (suc i + size f) 0 (h .1) in
-    let last = suc i + size f + size a in
-    record-fills T _ i last (i + size (app f a)) k (h .0)
-    (stand-fills T f (suc i) (suc i + size f) (both .0) last (stand-fills T a (suc i + size f) 0 (both .1) last nothing))
-    (omega (arith, length-append (words f) (words a))) g
-stand-fills T (con t xs) i x h = λ k g.
-    record-fills T _ i (suc i + size xs) (i + size (con t xs)) k (h .0) (stand-fills T xs (suc i) 0 (h .1)) (omega arith) g
-stand-fills T (case e bs) i x h = λ k g.
+pub stand-fills : (T : Table) {s : Sort} {e : Exp s} → Built s e → (i x : ℕ) → Stand T i (records i x e) → FillsFrom T i x e
+stand-fills T (plain {xs = xs} {t = t} n b) i x h = λ k g.
+    let own = stand-node T n i x h in
+    record-fills T _ i (suc i + size xs) (i + size t) k (own .0) (stand-fills T b (suc i) 0 (own .1)) (omega (arith, node-size n)) g
+stand-fills T (of-case {e} {bs} b c) i x h = λ k g.
     let both = stand-both T e bs (suc i) (linkTo (suc i + size e) bs) 0 (h .1) in
     let last = suc i + size e + size bs in
     record-fills T _ i last (i + size (case e bs)) k (h .0)
-    (stand-fills T e (suc i) (linkTo (suc i + size e) bs) (both .0) last (stand-fills T bs (suc i + size e) 0 (both .1)))
+    (stand-fills T b (suc i) (linkTo (suc i + size e) bs) (both .0) last (stand-fills T c (suc i + size e) 0 (both .1)))
     (omega (arith, length-append (words e) (words bs))) g
-stand-fills T nil i x h = nothing-to T i (i + 0) (omega arith)
-stand-fills T (cons a xs) i x h =
+stand-fills T empty i x h = nothing-to T i (i + 0) (omega arith)
+stand-fills T (listed {a} {xs} b c) i x h =
     let both = stand-both T a xs i (linkTo (i + size a) xs) 0 h in
     let same : i + size (cons a xs) ≡ i + size a + size xs = omega (arith, length-append (words a) (words xs)) in
-    rw (link-cons i a xs, same) (stand-fills T a i (linkTo (i + size a) xs) (both .0) _ (stand-fills T xs (i + size a) 0 (both .1)))
-stand-fills T end i x h = nothing-to T i (i + 0) (omega arith)
-stand-fills T (branch t n b bs) i x h =
+    rw (link-cons i a xs, same) (stand-fills T b i (linkTo (i + size a) xs) (both .0) _ (stand-fills T c (i + size a) 0 (both .1)))
+stand-fills T ended i x h = nothing-to T i (i + 0) (omega arith)
+stand-fills T (branched {t} {n} {b} {bs} c d) i x h =
     let both = stand-both T b bs (suc i) 0 0 (h .1) in
     let same : i + size (branch t n b bs) ≡ suc i + size b + size bs = omega (arith, length-append (words b) (words bs)) in
     rw (link-branch i t n b bs, same)
-    (record-fills T _ i (suc i + size b) (suc i + size b) _ (h .0) (stand-fills T b (suc i) 0 (both .0) (suc i + size b) nothing) refl
-    (stand-fills T bs (suc i + size b) 0 (both .1)))
+    (record-fills T _ i (suc i + size b) (suc i + size b) _ (h .0) (stand-fills T c (suc i) 0 (both .0) (suc i + size b) nothing) refl
+    (stand-fills T d (suc i + size b) 0 (both .1)))

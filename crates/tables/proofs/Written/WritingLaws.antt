@@ -1,9 +1,9 @@
--- What the writer's steps leave: the four words of a record, and the levels with one more.
+-- What the writer's steps leave: the levels with one more, and the records still to be put.
 use Prim.Native.Nat.{ℕ, zero, suc, _+_, _-_, _*_, _^_, _≤_, _<_}
 use mathlib.Core.Path.{_≡_, refl, ap, _∙_}
 use mathlib.Core.Bool.{Bool, true, false, cond}
 use mathlib.Core.List.{List, [], _∷_}
-use native.Mathlib.Numerals.{add-one, add-two, add-three}
+use native.Mathlib.Numerals.{add-one}
 use native.Mathlib.Omega.{arith}
 use lib.Dec.{eqb}
 use lib.ListN.{length, drop, getD, set, drop-of-length-le}
@@ -13,9 +13,6 @@ use Rattle.calculus.specs.Skip.{arity, span}
 use Rattle.words.proofs.PlacedLaws.{drop-set}
 use Rattle.tables.specs.Records.{Record, form1, recordsWords}
 use Rattle.tables.specs.Writing.{linkIf, push, entryOf, entries, Puttable, Pushed, Descended}
-
-pub four-stores : (l : List ℕ) (i a b c d : ℕ) → set (set (set (set l i a) (i + 1) b) (i + 2) c) (i + 3) d ≡ sets l i (a ∷ b ∷ c ∷ d ∷ [])
-four-stores l i a b c d = rw (add-one, add-two, add-three)
 
 pub pushed-none : (levels : List ℕ) (top items : ℕ) → items ≡ 0 → Pushed levels top items levels top
 pushed-none levels top items e = record { levels = rw e; least = omega arith; most = omega arith }

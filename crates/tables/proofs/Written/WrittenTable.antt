@@ -22,6 +22,7 @@ use Rattle.tables.specs.PrefixOrder.{nothing, InPrefixOrder}
 use Rattle.tables.specs.Write.{entry, records, tableOf}
 use Rattle.tables.proofs.Refusal.Tests.{record-isRecord}
 use Rattle.tables.proofs.Refusal.LinkRules.{linked-passes}
+use Rattle.tables.proofs.Meaning.Nodes.{built}
 use Rattle.tables.proofs.Meaning.MeaningLaws.{meaning-complete}
 use Rattle.tables.proofs.Meaning.ChainMeaning.{term-not-branch}
 use Rattle.tables.proofs.Refusal.Fits.{Valued, valued-passes, Fitted, fitted-passes}
@@ -43,15 +44,15 @@ module _ (t : Term) where
   pub written-in-order : InPrefixOrder (view (inForm1 (tableOf t)))
   written-in-order =
       let last : 1 + size t ≡ suc (size t) = omega arith in
-      stand-fills (view (inForm1 (tableOf t))) t 1 0 standing (suc (size t)) (rw last nothing)
+      stand-fills (view (inForm1 (tableOf t))) (built t) 1 0 standing (suc (size t)) (rw last nothing)
 
   module _ (accepted : Accepted 0 t) (fits : size t ≤ workspaceMost) where
     pub written-means : Means (view (inForm1 (tableOf t))) term 1 t
-    written-means = stand-means (view (inForm1 (tableOf t))) t 1 0 (omega arith) (omega arith) (accepted-packable 0 t accepted) standing
+    written-means = stand-means (view (inForm1 (tableOf t))) (built t) 1 0 (omega arith) (omega arith) (accepted-packable 0 t accepted) standing
 
     each-fits : (i : ℕ) → 1 ≤ i → i ≤ size t → Fits (view (inForm1 (tableOf t))) i
     each-fits i l u =
-        stand-fits (view (inForm1 (tableOf t))) (prefix-linked (view (inForm1 (tableOf t))) written-in-order) t 1 0 0 (omega arith) (omega arith) accepted
+        stand-fits (view (inForm1 (tableOf t))) (prefix-linked (view (inForm1 (tableOf t))) written-in-order) (built t) 1 0 0 (omega arith) (omega arith) accepted
         (indices-bounded t accepted fits) standing i l (omega arith)
 
     written-valued : Valued (view (inForm1 (tableOf t)))
@@ -63,7 +64,7 @@ module _ (t : Term) where
           declared-agrees = λ i l u. refl;
           children-fit = λ i l u. each-fits i l u .children-fit;
           root-term = term-not-branch written-means;
-          root-last = stand-next (view (inForm1 (tableOf t))) t 1 0 standing;
+          root-last = stand-next (view (inForm1 (tableOf t))) (built t) 1 0 standing;
         }
 
     written-length : wrongLength (inForm1 (tableOf t)) ≡ false

@@ -22,14 +22,8 @@ header-passed c = sym (c .before .wrong-header .ensures) ∙ c .if3 .left
 short-passed : (c : tie.Else4) → tooLong (viewed (c .before .before .before .before .before .before .before .before .before .args .form) (c .before .before .before .before .before .before .before .before .before .args .table .now)) (c .before .before .before .before .before .before .before .before .before .args .room) ≡ false
 short-passed c = rw (← c .before .count .ensures) (le-ltb _ _ (c .if4 .left))
 
-wrong-workspace-requires : tie.Need-wrong-workspace-requires
-wrong-workspace-requires c κs = search needs
-
 returns : tie.Need-returns
 returns c = rw (← c .before .wrong-workspace .ensures, c .if1 .taken)
-
-wrong-length-requires : tie.Need-wrong-length-requires
-wrong-length-requires c κs = search needs
 
 returns-2 : tie.Need-returns-2
 returns-2 c = rw (workspace-passed (c .before .before), ← c .before .wrong-length .ensures, c .if2 .taken)
@@ -57,9 +51,9 @@ pub first-met-spec : {M : Type 1} → statement M
 first-met-spec =
     tie.close
     (tie.spec
-    wrong-workspace-requires
+    (λ c κs. search needs)
     returns
-    wrong-length-requires
+    (λ c κs. search needs)
     returns-2
     wrong-header-requires
     returns-3

@@ -15,12 +15,6 @@ use Rattle.words.proofs.PlacedLaws.{placed-length}
 use Rattle.tables.proofs.load.Statement.{statement}
 use Rattle.tables.proofs.load.Tie as tie
 
-first-met-requires : tie.Need-first-met-requires
-first-met-requires c κs = search needs
-
-enum-known-refusal : tie.Need-enum-known-refusal
-enum-known-refusal c = search needs
-
 enum-told : tie.Need-enum-told
 enum-told c = search needs
 
@@ -66,9 +60,6 @@ returns : tie.Need-returns
 unfolding loadStored
 returns c = rw (← c .before .before .before .first-met .ensures, c .before .refusal .given .1)
 
-same-length : tie.Need-same-length
-same-length c = search needs
-
 returns-2 : tie.Need-returns-2
 returns-2 c =
     let read = c .before .before .before .before .before .before in
@@ -79,12 +70,12 @@ pub load-spec : {M : Type 1} → statement M
 load-spec =
     tie.close
     (tie.spec
-    first-met-requires
-    enum-known-refusal
+    (λ c κs. search needs)
+    (λ c. search needs)
     enum-told
     root-requires
     read-term-requires
     clear-requires
     returns
-    same-length
+    (λ c. search needs)
     returns-2)

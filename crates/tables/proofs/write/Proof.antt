@@ -19,15 +19,9 @@ use Rattle.tables.proofs.Written.WriteCode.{workspace-short, written}
 use Rattle.tables.proofs.write.Statement.{statement}
 use Rattle.tables.proofs.write.Tie as tie
 
-wrong-workspace-requires : tie.Need-wrong-workspace-requires
-wrong-workspace-requires c κs = search needs
-
 returns : tie.Need-returns
 unfolding write
 returns c = rw (← c .before .wrong-workspace .ensures, c .if1 .taken)
-
-is-term-requires : tie.Need-is-term-requires
-is-term-requires c κs = search needs
 
 workspace-fits : (c : tie.Else1) → wrongWorkspace (length (c .before .before .before .before .args .workspace .now)) ≡ false
 workspace-fits c = sym (c .before .wrong-workspace .ensures) ∙ c .if1 .left
@@ -62,9 +56,6 @@ returns-3 c = rw (workspace-fits (c .before .before .before), term (c .before) .
 cast-t14 : tie.Need-cast-t14
 cast-t14 c = omega (arith, within (c .before))
 
-put-requires : tie.Need-put-requires
-put-requires c κs = search needs
-
 -- The words of the term have the given length.
 taken : (c : tie.Else2)
     → length (take (c .before .before .before .before .before .before .args .length) (c .before .before .before .before .before .before .args .workspace .now))
@@ -79,9 +70,6 @@ put-records-requires c κs =
     let passed = c .before .before .before .before .before .before in
     omega (arith, c .before .before .before .before .put .kept .1 .0, taken (passed .before), within (passed .before), passed .if3 .left)
 
-same-length : tie.Need-same-length
-same-length c = search needs
-
 returns-4 : tie.Need-returns-4
 returns-4 c =
     let passed = c .before .before .before .before .before .before .before .before .before in
@@ -93,16 +81,16 @@ pub write-spec : {M : Type 1} → statement M
 write-spec =
     tie.close
     (tie.spec
-    wrong-workspace-requires
+    (λ c κs. search needs)
     returns
-    is-term-requires
+    (λ c κs. search needs)
     returns-2
     add-if3
     mul-if3
     returns-3
     cast-t14
-    put-requires
+    (λ c κs. search needs)
     slice-aggregate-put-records
     put-records-requires
-    same-length
+    (λ c. search needs)
     returns-4)

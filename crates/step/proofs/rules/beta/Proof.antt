@@ -8,15 +8,17 @@ use lib.ListN.{length, getD, drop, length-drop}
 use Rattle.calculus.specs.Words.{size, workspaceMost}
 use Rattle.calculus.specs.Skip.{span}
 use Rattle.calculus.proofs.SkipLaws.{span-bounded}
+use Rattle.calculus.specs.Contraction.{by-beta}
 use Rattle.substitution.specs.Depths.{depths}
 use Rattle.substitution.specs.Measure.{occurrences, Measures}
 use Rattle.substitution.specs.Results.{substituted}
 use Rattle.substitution.proofs.WalkLaws.{starts-some}
 use Rattle.substitution.proofs.CountLaws.{times-few, substituted-one, product-few}
+use Rattle.step.specs.declared.Rule.the-variants as rule
 use Rattle.step.specs.Parts.{parted, parts}
 use Rattle.step.specs.Plan.{Plans, EndTold, walked, stays}
 use Rattle.step.proofs.NextLaws.{endAt, start, length-short, Contraction}
-use Rattle.step.proofs.PlanLaws.{redex-found, contracts, measurable, plans, plans-left, applied-parts, applied-end}
+use Rattle.step.proofs.PlanLaws.{redex-found, contracts, measurable, left-end, plans, plans-left, applied-parts}
 use Rattle.step.proofs.rules.beta.Statement.{statement}
 use Rattle.step.proofs.rules.beta.Tie as tie
 
@@ -70,10 +72,10 @@ module _ (c : tie.After-argument-end) where
   measures : Measures ws body 1 args (c .before .before .before .before .measure .result .last) (c .before .before .before .before .measure .result .occurs)
   measures = c .before .before .before .before .measure .ensures .0
 
-  found : parts (s .args .at) (drop (s .args .at) ws) ≡ parted body args 1
-  found = applied-parts (s .pre) ∙ ap (λ a. parted body a 1) (sym (measures .ends))
+  found : parts (s .args .at) (drop (s .args .at) ws) ≡ parted by-beta body args 1 1
+  found = applied-parts (s .pre) ∙ ap (λ a. parted by-beta body a 1 1) (sym (measures .ends))
 
-  contraction : Contraction ws (s .args .n) (s .args .at) body args 1
+  contraction : Contraction ws (s .args .n) (s .args .at) body args 1 1
   contraction = contracts (s .pre .place) found
 
   occur : times ≡ occurrences 1 0 (0 ∷ []) (drop body ws)
@@ -83,7 +85,7 @@ module _ (c : tie.After-argument-end) where
   behind = args + span 1 (drop args ws)
 
   end-is : behind ≡ endAt ws (s .args .at)
-  end-is = applied-end (s .pre) (ap (λ a. a + span 1 (drop a ws)) (measures .ends))
+  end-is = left-end (s .pre .place) found (measures .ends)
 
   abbrev last : ℕ
   last = c .before .before .before .before .measure .result .last
@@ -115,8 +117,8 @@ module _ (c : tie.After-argument-end) where
         go (walked e) = e
         go (stays _ f g _) = absurd (elsewhere f g)
 
-    replaced : Plans ws (s .args .n) (record { at = s .args .at; body = body; stop = args; args = args; after = after; count = 1; end = after; length = s .args .at + (args - body - times + times * (after - args)) + (s .args .n - after) })
-    replaced = plans (s .pre .place) found (measures .ends) after-is (after-is ∙ end-is) (omega (arith, long, after-is))
+    replaced : Plans ws (s .args .n) (record { rule = rule.Beta; at = s .args .at; body = body; stop = args; args = args; after = after; count = 1; end = after; length = s .args .at + (args - body - times + times * (after - args)) + (s .args .n - after) })
+    replaced = plans (s .pre .place) found refl (measures .ends) after-is (after-is ∙ end-is) (omega (arith, long, after-is))
 
 sub-length : tie.Need-sub-length
 sub-length c = omega (arith, within c)

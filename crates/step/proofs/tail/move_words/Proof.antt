@@ -5,36 +5,25 @@ use lib.Seq.{sets, slice}
 use Rattle.step.proofs.TailLaws.{sets-same}
 use Rattle.step.proofs.tail.move_words.Statement.{statement}
 use Rattle.step.proofs.tail.move_words.Tie as tie
-use Rattle.step.proofs.tail.move_words.Reads as reads
-use Rattle.step.proofs.tail.move_words.Lts as lts
-use Rattle.step.proofs.tail.lower.Reads as lower-reads
-use Rattle.step.proofs.tail.raise.Reads as raise-reads
 
--- src/tail.rt:40:9
 lower-requires : tie.Need-lower-requires
 lower-requires c κs = search needs
 
--- src/tail.rt:42:9
 raise-requires : tie.Need-raise-requires
 raise-requires c κs = search needs
 
--- src/tail.rt:35:1
 same-length : tie.Need-same-length
 same-length c = search needs
 
--- src/tail.rt:35:1
 returns : tie.Need-returns
 returns c = search needs
 
--- src/tail.rt:35:1
 same-length-2 : tie.Need-same-length-2
 same-length-2 c = search needs
 
--- src/tail.rt:35:1
 returns-2 : tie.Need-returns-2
 returns-2 c = search needs
 
--- src/tail.rt:35:1
 returns-3 : tie.Need-returns-3
 returns-3 c =
     let s = c .before .before .before in

@@ -3,17 +3,8 @@ use borrow.Author.Needs.{needs}
 use Rattle.tables.proofs.children.agrees.Statement.{statement}
 use Rattle.tables.proofs.children.agrees.Tie as tie
 
-enum-told : tie.Need-enum-told
-enum-told c = search needs
-
-enum-known-declared : tie.Need-enum-known-declared
-enum-known-declared c = search needs
-
-returns : tie.Need-returns
-returns c = search needs
-
 returns-2 : tie.Need-returns-2
 returns-2 c = rw (c .before .declared .given .1)
 
 pub agrees-spec : {M : Type 1} → statement M
-agrees-spec = tie.close (tie.spec enum-told enum-known-declared returns returns-2)
+agrees-spec = tie.close (tie.spec (λ c. search needs) (λ c. search needs) (λ c. search needs) returns-2)

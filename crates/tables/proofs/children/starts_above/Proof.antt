@@ -13,13 +13,10 @@ returns c = rw (chain-end (viewed (c .before .before .args .form) (c .before .be
 at-requires : tie.Need-at-requires
 at-requires c κs = walk-inside _ _ (c .before .before .pre)
 
-tag-requires : tie.Need-tag-requires
-tag-requires c κs = search needs
-
 returns-2 : tie.Need-returns-2
 returns-2 c =
     let h = walked _ _ _ (c .before .before .before .before .pre) (pos-of-ne-zero (c .before .before .if1 .left)) (c .before .at .ensures) in
     rw (h .goes-on, c .tag .ensures)
 
 pub starts-above-spec : {M : Type 1} → statement M
-starts-above-spec = tie.close (tie.spec returns at-requires tag-requires returns-2)
+starts-above-spec = tie.close (tie.spec returns at-requires (λ c κs. search needs) returns-2)

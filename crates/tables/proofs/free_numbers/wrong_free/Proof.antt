@@ -14,19 +14,10 @@ use Rattle.tables.proofs.free_numbers.wrong_free.Tie as tie
 root-requires : tie.Need-root-requires
 root-requires c κs = headed _ (c .before .pre .0 .walkable .length-fits)
 
-slice-aggregate-read-term : tie.Need-slice-aggregate-read-term
-slice-aggregate-read-term c = search needs
-
 read-term-requires : tie.Need-read-term-requires
 read-term-requires c κs =
     let p = c .before .before .before .pre in
     rw (c .before .root .ensures) (p, omega (arith, root-short _ (p .0) (p .1), length-replicate {A = ℕ} workspaceMost 0))
-
-slice-aggregate-is-term : tie.Need-slice-aggregate-is-term
-slice-aggregate-is-term c = search needs
-
-is-term-requires : tie.Need-is-term-requires
-is-term-requires c κs = search needs
 
 returns : tie.Need-returns
 returns c =
@@ -40,8 +31,8 @@ wrong-free-spec =
     tie.close
     (tie.spec
     root-requires
-    slice-aggregate-read-term
+    (λ c. search needs)
     read-term-requires
-    slice-aggregate-is-term
-    is-term-requires
+    (λ c. search needs)
+    (λ c κs. search needs)
     returns)

@@ -9,9 +9,6 @@ use Rattle.tables.proofs.Refusal.RecordLaws.{only}
 use Rattle.tables.proofs.header.wrong_length.Statement.{statement}
 use Rattle.tables.proofs.header.wrong_length.Tie as tie
 
-words-requires : tie.Need-words-requires
-words-requires c κs = search needs
-
 returns : tie.Need-returns
 unfolding wrongLength
 returns c = rw (← c .before .words .ensures, lt-ltb _ _ (c .if1 .taken))
@@ -31,9 +28,6 @@ returns-3 c =
     let p = c .before .before in
     rw (← p .before .before .words .ensures, le-ltb _ _ (p .before .if1 .left), ← p .count .ensures, le-leb 1 _ (c .before .if2 .left), lt-leb _ _ (c .if3 .taken))
 
-add-result : tie.Need-add-result
-add-result c = search needs
-
 -- A record has few words in every form.
 mul-result : tie.Need-mul-result
 mul-result c =
@@ -51,11 +45,11 @@ pub wrong-length-spec : {M : Type 1} → statement M
 wrong-length-spec =
     tie.close
     (tie.spec
-    words-requires
+    (λ c κs. search needs)
     returns
     count-requires
     returns-2
     returns-3
-    add-result
+    (λ c. search needs)
     mul-result
     returns-4)

@@ -6,11 +6,8 @@ use Rattle.calculus.proofs.WorkspaceLaws.{sized-one}
 use Rattle.tables.proofs.header.wrong_workspace.Statement.{statement}
 use Rattle.tables.proofs.header.wrong_workspace.Tie as tie
 
-sized-requires : tie.Need-sized-requires
-sized-requires c κs = search needs
-
 returns : tie.Need-returns
 returns c = ap not (c .sized .ensures ∙ sized-one (c .before .args .length))
 
 pub wrong-workspace-spec : {M : Type 1} → statement M
-wrong-workspace-spec = tie.close (tie.spec sized-requires returns)
+wrong-workspace-spec = tie.close (tie.spec (λ c κs. search needs) returns)

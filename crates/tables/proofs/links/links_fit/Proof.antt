@@ -9,19 +9,10 @@ use Rattle.tables.proofs.links.links_fit.Tie as tie
 count-requires : tie.Need-count-requires
 count-requires c κs = inside-headed (stored (c .before .args .form) (c .before .args .table .now)) (c .before .args .i) (c .before .pre)
 
-at-requires : tie.Need-at-requires
-at-requires c κs = search needs
-
-link-fits-requires : tie.Need-link-fits-requires
-link-fits-requires c κs = search needs
-
 returns : tie.Need-returns
 returns c =
     let n = c .before .before .before .count .ensures in
     rw (← parts (c .before .before .at .ensures) .first, ← n, ← c .before .link-fits .ensures, not-true (c .before .link-fits .result) (c .if1 .taken))
-
-link-fits-requires-2 : tie.Need-link-fits-requires-2
-link-fits-requires-2 c κs = search needs
 
 returns-2 : tie.Need-returns-2
 returns-2 c =
@@ -33,4 +24,4 @@ returns-2 c =
 pub links-fit-spec : {M : Type 1} → statement M
 links-fit-spec =
     tie.close
-    (tie.spec count-requires at-requires link-fits-requires returns link-fits-requires-2 returns-2)
+    (tie.spec count-requires (λ c κs. search needs) (λ c κs. search needs) returns (λ c κs. search needs) returns-2)

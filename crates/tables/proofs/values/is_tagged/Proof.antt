@@ -4,9 +4,6 @@ use borrow.Author.Tests.{not-true, not-false}
 use Rattle.tables.proofs.values.is_tagged.Statement.{statement}
 use Rattle.tables.proofs.values.is_tagged.Tie as tie
 
-is-tag-requires : tie.Need-is-tag-requires
-is-tag-requires c κs = search needs
-
 returns : tie.Need-returns
 returns c = rw (← c .before .is-tag .ensures, not-true (c .before .is-tag .result) (c .if1 .taken))
 
@@ -14,4 +11,4 @@ returns-2 : tie.Need-returns-2
 returns-2 c = rw (← c .before .is-tag .ensures, not-false (c .before .is-tag .result) (c .if1 .left))
 
 pub is-tagged-spec : {M : Type 1} → statement M
-is-tagged-spec = tie.close (tie.spec is-tag-requires returns returns-2)
+is-tagged-spec = tie.close (tie.spec (λ c κs. search needs) returns returns-2)

@@ -1,37 +1,12 @@
--- `value_fits` meets its contract: in each arm the kind is known, and `valueFits` computes there.
+-- `value_fits` meets its contract: what it tests is the record's.
+use mathlib.Core.Path.{ap, _∙_}
 use borrow.Author.Needs.{needs}
-use borrow.Author.Tests.{le-leb, lt-leb, ne-eqb}
-use Rattle.tables.specs.Values.{valueFits}
+use Rattle.tables.specs.Values.{valued}
 use Rattle.tables.proofs.values.value_fits.Statement.{statement}
 use Rattle.tables.proofs.values.value_fits.Tie as tie
 
 returns : tie.Need-returns
-returns c = rw (lt-leb _ _ (c .if1 .taken))
-
-is-tag-requires : tie.Need-is-tag-requires
-is-tag-requires c κs = search needs
-
-is-tagged-requires : tie.Need-is-tagged-requires
-is-tagged-requires c κs = search needs
-
-returns-2 : tie.Need-returns-2
-unfolding valueFits
-returns-2 c = rw (c .match .keys1)
-
-returns-3 : tie.Need-returns-3
-unfolding valueFits
-returns-3 c = rw (c .before .match .keys2) (c .is-tag .ensures)
-
-returns-4 : tie.Need-returns-4
-unfolding valueFits
-returns-4 c = rw (c .before .match .keys3) (c .is-tagged .ensures)
-
-returns-5 : tie.Need-returns-5
-unfolding valueFits
-returns-5 c =
-    let r = c .match .rest in
-    rw (le-leb _ _ (c .before .if1 .left), ne-eqb _ 0 (r .0 .0 .1), ne-eqb _ 3 (r .0 .1), ne-eqb _ 5 (r .1))
+returns c = c .kind-fits .ensures ∙ ap valued (c .before .at .ensures)
 
 pub value-fits-spec : {M : Type 1} → statement M
-value-fits-spec =
-    tie.close (tie.spec returns is-tag-requires is-tagged-requires returns-2 returns-3 returns-4 returns-5)
+value-fits-spec = tie.close (tie.spec (λ c κs. search needs) (λ c κs. search needs) returns)

@@ -11,37 +11,10 @@ use Rattle.tables.proofs.Written.TableWords.{entry-path}
 use Rattle.tables.proofs.writing.entry.Statement.{statement}
 use Rattle.tables.proofs.writing.entry.Tie as tie
 
-mul-t5 : tie.Need-mul-t5
-mul-t5 c = search needs
-
-shared-slice-read-t7 : tie.Need-shared-slice-read-t7
-shared-slice-read-t7 c = search needs
-
-kind-requires : tie.Need-kind-requires
-kind-requires c κs = search needs
-
-value-requires : tie.Need-value-requires
-value-requires c κs = search needs
-
-arity-requires : tie.Need-arity-requires
-arity-requires c κs = search needs
-
-add-link-if : tie.Need-add-link-if
-add-link-if c = search needs
-
-link-if-requires : tie.Need-link-if-requires
-link-if-requires c κs = search needs
-
-extent-requires : tie.Need-extent-requires
-extent-requires c κs = search needs
-
 add-link-if-2 : tie.Need-add-link-if-2
 add-link-if-2 c =
     let start = c .before .before .before .before .before .before .before in
     omega (arith, c .extent .ensures, span-bounded 1 (drop (start .args .i) (start .args .ws .now)), length-drop (start .args .i) (start .args .ws .now))
-
-link-if-requires-2 : tie.Need-link-if-requires-2
-link-if-requires-2 c κs = search needs
 
 returns : tie.Need-returns
 returns c =
@@ -57,14 +30,14 @@ pub entry-spec : {M : Type 1} → statement M
 entry-spec =
     tie.close
     (tie.spec
-    mul-t5
-    shared-slice-read-t7
-    kind-requires
-    value-requires
-    arity-requires
-    add-link-if
-    link-if-requires
-    extent-requires
+    (λ c. search needs)
+    (λ c. search needs)
+    (λ c κs. search needs)
+    (λ c κs. search needs)
+    (λ c κs. search needs)
+    (λ c. search needs)
+    (λ c κs. search needs)
+    (λ c κs. search needs)
     add-link-if-2
-    link-if-requires-2
+    (λ c κs. search needs)
     returns)

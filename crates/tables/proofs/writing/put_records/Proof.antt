@@ -21,9 +21,6 @@ abbrev μ-loop : tie.MeasureT-loop
 slice-aggregate-push : tie.Need-slice-aggregate-push Inv-loop μ-loop
 slice-aggregate-push c = refl
 
-push-requires : tie.Need-push-requires Inv-loop μ-loop
-push-requires c κs = omega arith
-
 loop-holds : tie.Need-loop-holds Inv-loop μ-loop
 loop-holds c =
     let pushed = c .before .push in
@@ -55,9 +52,6 @@ sub-entry c = item c
 entry-requires : tie.Need-entry-requires Inv-loop μ-loop
 entry-requires c κs = (c .before .loop-test .taken, c .before .before .before .before .before .before .before .before .pre .0)
 
-add-put : tie.Need-add-put Inv-loop μ-loop
-add-put c = omega arith
-
 put-requires : tie.Need-put-requires Inv-loop μ-loop
 put-requires c κs =
     let l = c .before .before .before .before in
@@ -73,14 +67,8 @@ put-requires c κs =
 slice-aggregate-descend : tie.Need-slice-aggregate-descend Inv-loop μ-loop
 slice-aggregate-descend c = sym (c .before .before .before .before .before .before .before .before .loop .inv .levels-length)
 
-mul-t18 : tie.Need-mul-t18 Inv-loop μ-loop
-mul-t18 c = omega arith
-
 shared-slice-read-t22 : tie.Need-shared-slice-read-t22 Inv-loop μ-loop
 shared-slice-read-t22 c = c .before .before .before .before .before .before .before .before .loop-test .taken
-
-arity-requires : tie.Need-arity-requires Inv-loop μ-loop
-arity-requires c κs = search needs
 
 descend-requires : tie.Need-descend-requires Inv-loop μ-loop
 descend-requires c κs =
@@ -90,12 +78,6 @@ descend-requires c κs =
       omega (arith, p .levels-length, inside turn),
       item turn,
     )
-
-add-i : tie.Need-add-i Inv-loop μ-loop
-add-i c = omega arith
-
-loop-less : tie.Need-loop-less Inv-loop μ-loop
-loop-less c = omega arith
 
 loop-again : tie.Need-loop-again Inv-loop μ-loop
 loop-again c =
@@ -120,7 +102,7 @@ put-records-spec =
     Inv-loop
     μ-loop
     slice-aggregate-push
-    push-requires
+    (λ c κs. omega arith)
     loop-holds
     same-length
     returns
@@ -128,15 +110,15 @@ put-records-spec =
     array-read-entry
     sub-entry
     entry-requires
-    add-put
+    (λ c. omega arith)
     put-requires
     slice-aggregate-descend
-    mul-t18
+    (λ c. omega arith)
     shared-slice-read-t22
-    arity-requires
+    (λ c κs. search needs)
     descend-requires
-    add-i
-    loop-less
+    (λ c. omega arith)
+    (λ c. omega arith)
     loop-again
     same-length-2
     returns-2)

@@ -6,15 +6,6 @@ use Rattle.tables.specs.Writing.{valueOf}
 use Rattle.tables.proofs.writing.value.Statement.{statement}
 use Rattle.tables.proofs.writing.value.Tie as tie
 
-kind-requires : tie.Need-kind-requires
-kind-requires c κs = search needs
-
-tag-requires : tie.Need-tag-requires
-tag-requires c κs = search needs
-
-payload-requires : tie.Need-payload-requires
-payload-requires c κs = search needs
-
 returns : tie.Need-returns
 unfolding valueOf
 returns c = rw (sym (c .before .before .kind .ensures) ∙ c .before .match .keys1) (c .tag .ensures)
@@ -31,4 +22,4 @@ returns-3 c =
 
 pub value-spec : {M : Type 1} → statement M
 value-spec =
-    tie.close (tie.spec kind-requires tag-requires payload-requires returns returns-2 returns-3)
+    tie.close (tie.spec (λ c κs. search needs) (λ c κs. search needs) (λ c κs. search needs) returns returns-2 returns-3)

@@ -20,18 +20,6 @@ unfolding decimal
 loop-holds c =
     (omega arith, c .pre, rw (drop-of-length-le (c .args .kept .now) {i = digitsMost} (omega arith), append-nil))
 
-sub-i : tie.Need-sub-i Inv-loop μ-loop
-sub-i c = omega arith
-
-cast-kept : tie.Need-cast-kept Inv-loop μ-loop
-cast-kept c = omega arith
-
-add-kept : tie.Need-add-kept Inv-loop μ-loop
-add-kept c = omega arith
-
-slice-write-kept : tie.Need-slice-write-kept Inv-loop μ-loop
-slice-write-kept c = omega arith
-
 same-length : tie.Need-same-length Inv-loop μ-loop
 same-length c = simp length-set (omega arith)
 
@@ -41,17 +29,11 @@ returns c =
     let e = digits-last (l .kept) (l .i) (l .rest) (omega arith) (omega arith) (omega arith) in
     record { inside = simp length-set (omega arith); digits = e ∙ l .inv .2 }
 
-loop-less : tie.Need-loop-less Inv-loop μ-loop
-loop-less c = omega arith
-
 loop-again : tie.Need-loop-again Inv-loop μ-loop
 loop-again c =
     let l = c .before .before .loop in
     let e = digits-next (l .kept) (l .i) (l .rest) (omega arith) (omega arith) (omega arith) in
     (omega arith, simp length-set (l .inv .1), e ∙ l .inv .2)
-
-same-length-2 : tie.Need-same-length-2 Inv-loop μ-loop
-same-length-2 c = omega arith
 
 returns-2 : tie.Need-returns-2 Inv-loop μ-loop
 unfolding digits
@@ -67,13 +49,13 @@ keep-digits-spec =
     Inv-loop
     μ-loop
     loop-holds
-    sub-i
-    cast-kept
-    add-kept
-    slice-write-kept
+    (λ c. omega arith)
+    (λ c. omega arith)
+    (λ c. omega arith)
+    (λ c. omega arith)
     same-length
     returns
-    loop-less
+    (λ c. omega arith)
     loop-again
-    same-length-2
+    (λ c. omega arith)
     returns-2)

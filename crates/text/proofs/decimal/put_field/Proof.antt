@@ -7,12 +7,6 @@ use Rattle.words.proofs.PlacedLaws.{placed-cons}
 use Rattle.text.proofs.decimal.put_field.Statement.{statement}
 use Rattle.text.proofs.decimal.put_field.Tie as tie
 
-slice-write-out : tie.Need-slice-write-out
-slice-write-out c = search needs
-
-add-put-decimal : tie.Need-add-put-decimal
-add-put-decimal c = search needs
-
 put-decimal-requires : tie.Need-put-decimal-requires
 put-decimal-requires c κs = simp length-set (omega arith)
 
@@ -24,4 +18,4 @@ returns c = placed-cons _ _ (c .before .before .put-decimal .ensures)
 
 pub put-field-spec : {M : Type 1} → statement M
 put-field-spec =
-    tie.close (tie.spec slice-write-out add-put-decimal put-decimal-requires same-length returns)
+    tie.close (tie.spec (λ c. search needs) (λ c. search needs) put-decimal-requires same-length returns)
