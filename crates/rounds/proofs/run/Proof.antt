@@ -56,10 +56,10 @@ module _ (c : tie.After-judge Inv-loop μ-loop) where
   shares = c .before .before .before .before .before .before .before .before .before .before .before .before .agreeing .ensures
 
   left-plan : planOf (c .before .before .before .before .before .before .before .before .before .find .result) ≡ planned (held (turn .loop .left) (turn .loop .left-side .length))
-  left-plan = plan-is (turn .loop .left) (turn .loop .left-side .length) (c .before .before .before .before .before .before .before .before .before .find .result) (c .before .before .before .before .before .before .before .before .before .find .ensures)
+  left-plan = plan-is (turn .loop .left) (turn .loop .left-side .length) (c .before .before .before .before .before .before .before .before .before .find .result) (c .before .before .before .before .before .before .before .before .before .find .ensures .0)
 
   right-plan : planOf (c .before .before .before .before .find2 .result) ≡ planned (held (turn .loop .right) (turn .loop .right-side .length))
-  right-plan = plan-is (turn .loop .right) (turn .loop .right-side .length) (c .before .before .before .before .find2 .result) (c .before .before .before .before .find2 .ensures)
+  right-plan = plan-is (turn .loop .right) (turn .loop .right-side .length) (c .before .before .before .before .find2 .result) (c .before .before .before .before .find2 .ensures .0)
 
   -- The searches keep the scratch's length.
   scratch-same : length (c .before .before .before .before .find2 .last .1 .1 .1 .0) ≡ length (turn .loop .scratch)
@@ -99,7 +99,7 @@ slice-aggregate-advance : tie.Need-slice-aggregate-advance Inv-loop μ-loop
 slice-aggregate-advance c = omega (arith, c .before .before .before .before .before .before .before .before .before .before .before .before .before .before .before .before .before .before .before .before .before .before .before .loop .inv .room-length)
 
 advance-requires : tie.Need-advance-requires Inv-loop μ-loop
-advance-requires c κs = let j = c .before .before .before .before .before .before .before .before in left-advances (turn j .loop .inv) (goes-on (c .before .before .before .before .before .before)) (scratch-same j) (j .before .before .before .before .before .before .before .before .before .find .ensures)
+advance-requires c κs = let j = c .before .before .before .before .before .before .before .before in left-advances (turn j .loop .inv) (goes-on (c .before .before .before .before .before .before)) (scratch-same j) (j .before .before .before .before .before .before .before .before .before .find .ensures .0)
 
 slice-aggregate-advance-2 : tie.Need-slice-aggregate-advance-2 Inv-loop μ-loop
 slice-aggregate-advance-2 c = omega (arith, c .before .before .before .before .before .before .before .before .advance .kept .1 .1 .1 .1 .0, c .before .before .before .before .before .before .before .before .before .before .before .before .before .before .before .before .before .before .before .before .before .before .before .before .before .before .before .before .before .before .before .before .loop .inv .room-length)
@@ -109,7 +109,7 @@ advance-requires-2 c κs =
     let j = c .before .before .before .before .before .before .before .before .before .before .before .before .before .before .before .before .before in
     let a = c .before .before .before .before .before .before .before .before .advance in
     right-advances (turn j .loop .inv) (goes-on (c .before .before .before .before .before .before .before .before .before .before .before .before .before .before .before)) (a .kept .0) (a .kept .1 .1 .1 .0 ∙ scratch-same j) (a .ensures .0)
-    (omega (arith, a .kept .1 .1 .1 .1 .0, turn j .loop .inv .room-length)) (j .before .before .before .before .find2 .ensures)
+    (omega (arith, a .kept .1 .1 .1 .1 .0, turn j .loop .inv .room-length)) (j .before .before .before .before .find2 .ensures .0)
 
 add-spent : tie.Need-add-spent Inv-loop μ-loop
 add-spent c =

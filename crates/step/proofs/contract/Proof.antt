@@ -29,7 +29,7 @@ same-length-3 : tie.Need-same-length-3
 same-length-3 c = search needs
 
 returns : tie.Need-returns
-returns c = contracted (c .before .before .before .before .before .before .before .before .before .before .before .before .before .before .before .before .before .before .before .before .pre) (c .before .before .before .before .before .before .before .before .before .before .before .before .before .substitute .ensures .0) (c .before .before .before .before .before .before .before .move-words .ensures) (c .before .before .copy .ensures)
+returns c = (contracted (c .before .before .before .before .before .before .before .before .before .before .before .before .before .before .before .before .before .before .before .before .pre) (c .before .before .before .before .before .before .before .before .before .before .before .before .before .substitute .ensures .0) (c .before .before .before .before .before .before .before .move-words .ensures) (c .before .before .copy .ensures), c .before .before .before .before .before .before .before .before .before .before .before .before .before .substitute .ensures .1)
 
 pub contract-spec : {M : Type 1} → statement M
 contract-spec =

@@ -4,6 +4,7 @@ use mathlib.Core.Path.{_∙_, ap}
 use native.Mathlib.Omega.{arith}
 use borrow.Author.Needs.{needs}
 use lib.ListN.{length}
+use Rattle.words.proofs.RoomLaws.{room-of-length}
 use Rattle.step.proofs.SearchLaws.{ends-inside, Searching, searching-starts, search-within, searching-on, searching-stuck, search-ends}
 use Rattle.step.proofs.PlanLaws.{planned-here}
 use Rattle.step.proofs.find.Statement.{statement}
@@ -30,7 +31,9 @@ same-length : tie.Need-same-length Inv-loop μ-loop
 same-length c = c .before .before .before .before .before .plan-at .kept .1 .1 .1 .1 .0 ∙ c .before .before .before .before .before .before .before .before .loop .inv .kept
 
 returns : tie.Need-returns Inv-loop μ-loop
-returns c = planned-here (c .before .before .before .before .before .before .before .before .loop .inv .searched) (rw (c .before .redex .given .1) at (c .before .before .before .before .before .plan-at .ensures))
+returns c =
+    let h = rw (c .before .redex .given .1) at (c .before .before .before .before .before .plan-at .ensures) in
+    (planned-here (c .before .before .before .before .before .before .before .before .loop .inv .searched) (h .0, h .1), room-of-length (same-length c))
 
 enum-told : tie.Need-enum-told Inv-loop μ-loop
 enum-told c = search needs
@@ -51,7 +54,8 @@ loop-less c = omega arith
 
 loop-again : tie.Need-loop-again Inv-loop μ-loop
 loop-again c =
-    searching-stuck (c .before .before .before .before .before .before .before .before .before .before .before .loop .inv) (c .before .before .before .before .before .before .before .before .before .before .loop-test .taken) (rw (c .before .before .before .before .enum-told .given .1) at (c .before .before .before .before .before .before .before .before .plan-at .ensures)) (c .before .before .fill-ends .ensures) (c .before .before .fill-ends .kept .1 .1 .0)
+    let h = rw (c .before .before .before .before .enum-told .given .1) at (c .before .before .before .before .before .before .before .before .plan-at .ensures) in
+    searching-stuck (c .before .before .before .before .before .before .before .before .before .before .before .loop .inv) (c .before .before .before .before .before .before .before .before .before .before .loop-test .taken) (h .0) (h .1) (c .before .before .fill-ends .ensures) (c .before .before .fill-ends .kept .1 .1 .0)
 
 enum-told-2 : tie.Need-enum-told-2 Inv-loop μ-loop
 enum-told-2 c = search needs
@@ -65,13 +69,15 @@ loop-less-2 : tie.Need-loop-less-2 Inv-loop μ-loop
 loop-less-2 c = omega arith
 
 loop-again-2 : tie.Need-loop-again-2 Inv-loop μ-loop
-loop-again-2 c = searching-on (c .before .before .before .before .before .before .before .loop .inv) (c .before .before .before .before .before .before .loop-test .taken) (rw (c .enum-told2 .given .1) at (c .before .before .before .before .plan-at .ensures))
+loop-again-2 c =
+    let h = rw (c .enum-told2 .given .1) at (c .before .before .before .before .plan-at .ensures) in
+    searching-on (c .before .before .before .before .before .before .before .loop .inv) (c .before .before .before .before .before .before .loop-test .taken) (h .0) (h .1)
 
 same-length-2 : tie.Need-same-length-2 Inv-loop μ-loop
 same-length-2 c = c .before .loop .inv .kept
 
 returns-2 : tie.Need-returns-2 Inv-loop μ-loop
-returns-2 c = search-ends (c .before .loop .inv) (c .loop-test .left)
+returns-2 c = (search-ends (c .before .loop .inv) (c .loop-test .left), room-of-length (c .before .loop .inv .kept))
 
 pub find-spec : {M : Type 1} → statement M
 find-spec =

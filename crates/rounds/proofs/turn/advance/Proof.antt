@@ -34,8 +34,8 @@ returns-2 : tie.Need-returns-2
 returns-2 c =
     let contract = c .before .before .before .before .before .before .before .contract in
     let start = c .before .before .before .before .before .before .before .before .before .before .before .before .before .before .before .before .before in (
-      advance-contracted (start .pre) (c .before .before .before .before .before .before .before .before .before .before .before .before .todo .given .1) (contract .ensures) (c .before2 .ensures),
-      room-of-length (contract .kept .1 .1 .1 .1 .0),
+      advance-contracted (start .pre) (c .before .before .before .before .before .before .before .before .before .before .before .before .todo .given .1) (contract .ensures .0) (c .before2 .ensures),
+      contract .ensures .1,
     )
 
 pub advance-spec : {M : Type 1} → statement M

@@ -77,7 +77,7 @@ same-length : tie.Need-same-length
 same-length c = search needs
 
 returns : tie.Need-returns
-returns c = (by-words (c .before .before .before) (c .before .enum-told .given .1), refl)
+returns c = (by-words (c .before .before .before) (c .before .enum-told .given .1), refl, λ k. c .if1 .taken)
 
 same-length-2 : tie.Need-same-length-2
 same-length-2 c = search needs
@@ -89,7 +89,9 @@ same-length-3 : tie.Need-same-length-3
 same-length-3 c = search needs
 
 returns-3 : tie.Need-returns-3
-returns-3 c = (by-words (c .before .before .before) (c .before .enum-told .given .1), refl, c .if1 .left)
+returns-3 c =
+    let h = c .before .before .before .before .before .before .before .before .before .before .before .before .pre .0 in
+    (by-words (c .before .before .before) (c .before .enum-told .given .1), refl, (ap kindOf (sym (h .case-is)) ∙ h .case, ap kindOf (sym (h .constructor-is)) ∙ h .constructor), c .if1 .left)
 
 pub inspect-spec : {M : Type 1} → statement M
 inspect-spec =

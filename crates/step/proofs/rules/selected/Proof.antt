@@ -48,7 +48,7 @@ returns : tie.Need-returns
 returns c =
     let s = c .before .before .before .before .before .before .before .before in
     let p = s .pre .parted-is in
-    (plans (p .place) (p .parts-are) refl (c .before .before .before .before .measure .ensures .0 .ends) (s .pre .after-is) (end-is c) (rw (c .substituted-length .ensures)), refl)
+    ((plans (p .place) (p .parts-are) refl (c .before .before .before .before .measure .ensures .0 .ends) (s .pre .after-is) (end-is c) (rw (c .substituted-length .ensures)), refl), c .before .before .before .before .measure .ensures .1)
 
 pub selected-spec : {M : Type 1} → statement M
 selected-spec =
