@@ -10,11 +10,11 @@ use borrow.Author.Tests.{eqb-true, eq-eqb, ne-eqb}
 use Rattle.calculus.specs.Term.{Sort, term, terms, branches, Exp, case, nil, cons, Term, Terms}
 use Rattle.calculus.specs.Words.{caseKind, branchKind}
 use Rattle.calculus.proofs.All.{All, holds, nothing, all-map, all-bind, all-weaken, all-some}
-use Rattle.tables.specs.Records.{Table, OfKind, isRecord}
+use Rattle.records.specs.Records.{Table, OfKind, isRecord}
 use Rattle.tables.specs.Meaning.{Means, plain, case-of, no-term, a-term, no-branch, a-branch, onlyOne, valueless, Reading, meantTerm, meantTerms, meantBranch, meantBranches, meant, meaning}
-use Rattle.tables.proofs.Refusal.Tests.{if-true, if-false, all-if, isRecord-true, record-isRecord}
+use Rattle.records.proofs.Tests.{if-true, if-false, all-if, isRecord-true, record-isRecord}
 use Rattle.tables.proofs.Meaning.Nodes.{made-node, node-made, node-kind}
-use Rattle.tables.proofs.Refusal.LinkRules.{Ahead, ahead-later, Linked, linked}
+use Rattle.records.proofs.LinkRules.{Ahead, ahead-later, Linked, linked}
 use Rattle.tables.specs.Theorems.{Means-unique, Meaning-sound, Meaning-complete}
 
 -- What is computed is meant.
