@@ -1,8 +1,8 @@
 -- `budget_passes` meets its contract: each return has the tests that led there. Assumes nothing.
 use borrow.Author.Needs.{needs}
 use borrow.Author.Tests.{le-leb, lt-leb}
-use Rattle.press.proofs.session.budget_passes.Statement.{statement}
-use Rattle.press.proofs.session.budget_passes.Tie as tie
+use Rattle.press.proofs.state.budget_passes.Statement.{statement}
+use Rattle.press.proofs.state.budget_passes.Tie as tie
 
 returns : tie.Need-returns
 returns c = rw (lt-leb _ _ (c .if1 .taken))
