@@ -20,8 +20,8 @@ use Rattle.calculus.proofs.WorkspaceLaws.{sized-most, sized-equal, first-equal,
 use Rattle.step.specs.Held.{held, Holds}
 use Rattle.rounds.specs.Run.{Ready, Ran}
 use Rattle.words.specs.IsTerm.{isTerm}
-use Rattle.press.specs.Session.{Session}
-use Rattle.press.specs.Session.{budgetLimit, totalLimit, affordable}
+use Rattle.press.specs.State.{Session}
+use Rattle.press.specs.State.{budgetLimit, totalLimit, affordable}
 use Rattle.press.specs.Answer.{shown, Memory, Call, Pressed}
 use Rattle.press.specs.Press.{refuse, conclude, pressTerms, press}
 
@@ -36,7 +36,7 @@ cleared-padded C ws others t m e s l =
     ap₂ (λ xs k. xs ++ replicate k 0) f (ap₂ _-_ l s)
 
 -- What the rounds leave: each term fits its workspace, and with the words after the terms cleared it is what `conclude` says.
-module _ {budget : ℕ} {o : Outcome} {a : Shown} {ws vs cs : List ℕ} (h : Ran budget o a ws vs cs) where
+module _ {budget : ℕ} {o : Outcome} {a : Shown} {cs ws vs cs′ : List ℕ} (h : Ran budget o a cs ws vs cs′) where
   left-length : a .left ≡ size (o .left)
   left-length = ap (λ a. a .left) (h .shown-is)
 
@@ -49,8 +49,8 @@ module _ {budget : ℕ} {o : Outcome} {a : Shown} {ws vs cs : List ℕ} (h : Ran
   pub ran-right-fits : a .right ≤ length vs
   ran-right-fits = omega (arith, right-length, ap length (h .right-words), length-append (words (o .right)) (h .right-others))
 
-  pub ran-concludes : (C : ℕ) (s : Session) {l r c : List ℕ} → length ws ≡ C → length vs ≡ C
-      → l ≡ take (a .left) ws ++ replicate (length ws - a .left) 0 → r ≡ take (a .right) vs ++ replicate (length vs - a .right) 0 → c ≡ take 0 cs ++ replicate (length cs - 0) 0
+  pub ran-concludes : (C : ℕ) (s : Session) {l r c : List ℕ} → length cs ≡ C → length ws ≡ C → length vs ≡ C
+      → l ≡ take (a .left) ws ++ replicate (length ws - a .left) 0 → r ≡ take (a .right) vs ++ replicate (length vs - a .right) 0 → c ≡ take 0 cs′ ++ replicate (length cs′ - 0) 0
       → _≡_ {A = Pressed}
       (record {
         answer = shown a;
@@ -59,11 +59,11 @@ module _ {budget : ℕ} {o : Outcome} {a : Shown} {ws vs cs : List ℕ} (h : Ran
         scratch = c;
       })
       (conclude C s o)
-  ran-concludes C s {l} {r} {c} lw lv el er ec i =
+  ran-concludes C s {l} {r} {c} lc lw lv el er ec i =
       let left : l ≡ padded C (words (o .left)) = el ∙ cleared-padded C ws (h .left-others) (o .left) (a .left) (h .left-words) left-length lw in
       let right : r ≡ padded C (words (o .right)) = er ∙ cleared-padded C vs (h .right-others) (o .right) (a .right) (h .right-words) right-length lv in
-      let zeros : length cs - 0 ≡ C = omega (arith, h .scratch-length) in
-      let scratch : c ≡ replicate C 0 = ec ∙ take-zero-append cs (replicate (length cs - 0) 0) ∙ ap (λ k. replicate k 0) zeros in
+      let zeros : length cs′ - 0 ≡ C = omega (arith, ap length (h .scratch-room .left), h .scratch-room .length-stays) in
+      let scratch : c ≡ replicate C 0 = ec ∙ take-zero-append cs′ (replicate (length cs′ - 0) 0) ∙ ap (λ k. replicate k 0) zeros in
       let a′ = h .shown-is in
       record {
         answer = shown (a′ i);
@@ -166,11 +166,14 @@ module _ (m : Memory) (c : Call) where
             by-terms
             ∙ ap₂ (pressTerms m c) (is-held (m .left) (c .leftLength) limit is-left .term) (not-term (m .right) (c .rightLength) right-limit e)
 
-        pub pressed-terms : isTerm (m .right) (c .rightLength) ≡ true
-            → press m c
+        pub pressed-terms : isTerm (m .right) (c .rightLength) ≡ true → {p : Pressed}
+            → p
             ≡ conclude (length (m .left)) (m .session)
             (rounds (length (m .left)) (c .budget) (held (m .left) (c .leftLength)) (held (m .right) (c .rightLength)))
-        pressed-terms e =
-            by-terms
+            → p ≡ press m c
+        pressed-terms e q =
+            q
+            ∙ sym
+            (by-terms
             ∙ ap₂ (pressTerms m c) (is-held (m .left) (c .leftLength) limit is-left .term)
-            (is-held (m .right) (c .rightLength) right-limit e .term)
+            (is-held (m .right) (c .rightLength) right-limit e .term))

@@ -4,7 +4,7 @@ use crate::script::Operation;
 use crate::script::Side;
 use press::answer::Answer;
 use press::answer::Pressed;
-use press::session::Session;
+use press::state::Session;
 use session::press_owned;
 use text::bytes::words_from;
 use words::slices::fill;

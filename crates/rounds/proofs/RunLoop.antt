@@ -31,6 +31,7 @@ use Rattle.rounds.specs.Resume.{resumeAt, agreeAfter, Agreeing}
 use Rattle.rounds.specs.Advance.{Advances, Advanced}
 use Rattle.rounds.specs.Run.{Ready, Ran}
 use Rattle.rounds.proofs.CompareLaws.{agrees-none, common-agrees, common-whole, common-equal}
+use Rattle.words.proofs.RoomLaws.{room-of-length}
 use Rattle.step.proofs.HeldLaws.{held-term, holds-term, Start, termAt-start}
 use Rattle.rounds.proofs.AgreeLaws.{agree-after}
 use Rattle.rounds.proofs.RunCode.{searched}
@@ -163,7 +164,7 @@ module _ {left₀ right₀ scratch₀ : List ℕ} {l r budget : ℕ} {left right
         (rw (ls .taken, rs .taken) shared-agrees) (planned-tells (held left m)) (planned-tells (held right n)))
 
   pub ran : {v : Verdict} {scratch₁ : List ℕ} → length scratch₁ ≡ length scratch → roundBy same (length left₀) (budget - spent) (held left m) (held right n) ≡ ends v
-      → Ran budget (rounds (length left₀) budget (held left₀ l) (held right₀ r)) (record { verdict = v; spent = spent; left = m; right = n }) left right scratch₁
+      → Ran budget (rounds (length left₀) budget (held left₀ l) (held right₀ r)) (record { verdict = v; spent = spent; left = m; right = n }) scratch₀ left right scratch₁
   ran {v} kept t =
       let o : after spent (ended v (held left m) (held right n)) ≡ rounds (length left₀) budget (held left₀ l) (held right₀ r)
       = sym (ap (after spent) (rounds-end same (length left₀) (budget - spent) (held left m) (held right n) t)) ∙ g .rest in
@@ -179,7 +180,7 @@ module _ {left₀ right₀ scratch₀ : List ℕ} {l r budget : ℕ} {left right
         left-words = sym (ls .start) ∙ ap (λ k. words (k .left) ++ drop m left) o;
         right-others = drop n right;
         right-words = sym (rs .start) ∙ ap (λ k. words (k .right) ++ drop n right) o;
-        scratch-length = kept ∙ g .ready .scratch-length;
+        scratch-room = room-of-length (kept ∙ g .scratch-kept);
       }
 
   module _ {p : ℕ} (t : roundBy same (length left₀) (budget - spent) (held left m) (held right n) ≡ goes p) where

@@ -5,6 +5,7 @@ use mathlib.Core.List.{List, _++_}
 use lib.ListN.{length}
 use Rattle.calculus.specs.Words.{words}
 use Rattle.calculus.specs.Rounds.{Outcome, Shown, shows}
+use Rattle.words.specs.Room.{Room}
 use Rattle.step.specs.Held.{Holds}
 
 -- Both workspaces hold terms, and the three lengths are equal.
@@ -14,13 +15,13 @@ pub record Ready (left right scratch : List ℕ) (leftLength rightLength : ℕ) 
   pub right-length : length right ≡ length left
   pub scratch-length : length scratch ≡ length left
 
--- The workspaces hold the two terms that the rounds with a budget end in. The words after a term, and those of the scratch, are any: the press
+-- The workspaces hold the two terms that the rounds with a budget end in. The words after a term, and those of the scratch, are free: the press
 -- clears them.
-pub record Ran (budget : ℕ) (end : Outcome) (shown : Shown) (left right scratch : List ℕ) : Type 0 where
+pub record Ran (budget : ℕ) (end : Outcome) (shown : Shown) (scratch left right scratch′ : List ℕ) : Type 0 where
   pub shown-is : shown ≡ shows end
   pub within : shown .spent ≤ budget
   pub left-others : List ℕ
   pub left-words : left ≡ words (end .left) ++ left-others
   pub right-others : List ℕ
   pub right-words : right ≡ words (end .right) ++ right-others
-  pub scratch-length : length scratch ≡ length left
+  pub scratch-room : Room scratch scratch′

@@ -44,7 +44,7 @@ pub fn run(
     budget: u32,
 ) -> Shown
     requires { ⌜ Ready (now left) (now right) (now scratch) «left_length» «right_length» ⌝ }
-    ensures { λ shown. ⌜ Ran budget (rounds (length (now (left .entry))) budget (held (now (left .entry)) «left_length») (held (now (right .entry)) «right_length»)) (shownOf shown) (now (left .exit)) (now (right .exit)) (now (scratch .exit)) ⌝ }
+    ensures { λ shown. ⌜ Ran budget (rounds (length (now (left .entry))) budget (held (now (left .entry)) «left_length») (held (now (right .entry)) «right_length»)) (shownOf shown) (now (scratch .entry)) (now (left .exit)) (now (right .exit)) (now (scratch .exit)) ⌝ }
 {
     let mut left_side = Side {
         length: left_length,

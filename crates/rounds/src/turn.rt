@@ -4,6 +4,7 @@ ghost use mathlib.Core.Bool.{cond};
 ghost use mathlib.Core.Option.{some, none, Option·getD};
 ghost use Prim.Native.Nat.{_-_, max};
 ghost use Rattle.calculus.specs.Rounds.{Same, contractions, round};
+ghost use Rattle.words.specs.Room.{Room};
 ghost use Rattle.rounds.specs.Turn.{contract, lengthIn};
 ghost use Rattle.rounds.specs.Resume.{agreeBoth, agreeAfter, Agreeing};
 ghost use Rattle.rounds.specs.Types.{roundOf, planOf};
@@ -94,6 +95,7 @@ pub fn advance(
 ) -> Side
     requires { ⌜ Advances (now ws) (side .length) todo (now scratch) (now room) ⌝ }
     ensures { λ r. ⌜ Advanced (now (ws .entry)) (side .length) todo (now (scratch .entry)) (r .length) (r .from) (now (ws .exit)) (now (scratch .exit)) ⌝ }
+    ensures { λ r. ⌜ Room (now (room .entry)) (now (room .exit)) ⌝ }
 {
     match todo {
         Plan::Normal => Side {

@@ -11,14 +11,14 @@ use borrow.Author.Tests.{ltb-false}
 use Rattle.calculus.specs.Words.{words, size}
 use Rattle.calculus.specs.Refusal.{Refusal}
 use Rattle.calculus.specs.Workspace.{padded}
-use Rattle.tables.specs.Records.{Stored, view}
+use Rattle.records.specs.Records.{Stored, view}
 use Rattle.tables.specs.Reading.{termWords, Readable}
 use Rattle.tables.specs.Load.{returned, Loaded, checks, firstMet, loadStored}
 use Rattle.tables.specs.Theorems.{Meant, NoneMet}
 use Rattle.words.specs.Placed.{Placed}
-use Rattle.tables.proofs.Refusal.LinkRules.{linked}
+use Rattle.records.proofs.LinkRules.{linked}
 use Rattle.tables.proofs.LoadLaws.{Passes, passes, unmet-means, load-returned}
-use Rattle.tables.proofs.Refusal.RecordLaws.{rooted}
+use Rattle.records.proofs.RecordLaws.{rooted}
 use Rattle.tables.proofs.Meaning.ReadingMeaning.{means-spelled}
 use Rattle.words.proofs.PlacedLaws.{placed-length}
 

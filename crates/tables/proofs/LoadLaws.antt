@@ -13,16 +13,16 @@ use Rattle.calculus.specs.Term.{term, Term}
 use Rattle.calculus.specs.Words.{words, size}
 use Rattle.calculus.specs.Refusal.{Refusal}
 use Rattle.calculus.specs.Workspace.{padded}
-use Rattle.tables.specs.Records.{Stored, view, isRecord}
+use Rattle.records.specs.Records.{Stored, view, isRecord}
 use Rattle.tables.specs.Meaning.{Means}
-use Rattle.tables.specs.Header.{wrongWorkspace, wrongLength, wrongHeader, tooLong}
-use Rattle.tables.specs.Values.{wrongValue}
-use Rattle.tables.specs.Links.{wrongLink}
-use Rattle.tables.specs.Children.{wrongChildren}
+use Rattle.records.specs.Header.{wrongWorkspace, wrongLength, wrongHeader, tooLong}
+use Rattle.records.specs.Values.{wrongValue}
+use Rattle.records.specs.Links.{wrongLink}
+use Rattle.records.specs.Children.{wrongChildren}
 use Rattle.tables.specs.FreeNumbers.{wrongFree}
 use Rattle.tables.specs.Load.{refused, returned, checks, firstMet, refuseLoad, place, loadUnless, loadStored}
 use Rattle.tables.specs.Theorems.{Sound, Meant, FirstMet, NoneMet, LoadsExactly, Loading-exact}
-use Rattle.tables.proofs.Refusal.RecordLaws.{sized}
+use Rattle.records.proofs.RecordLaws.{sized}
 use Rattle.tables.proofs.Meaning.MeaningLaws.{meaning-complete}
 use Rattle.tables.proofs.Meaning.SoundMeans.{sound-means}
 

@@ -42,7 +42,7 @@ returns c =
     let start = c .before .before .before .before .before .before .before .before .before .before .before .before .before .before .before .before .before .before .before .before .before .before .before .before .before .before .before in
     let a = start .args in
     let C = length (a .left .now) in
-    ran-concludes {o = rounds C (a .budget) (held (a .left .now) (a .left-length)) (held (a .right .now) (a .right-length))} (ran .ensures) C (sessionOf (start .args .session)) (ran .kept .0) (ran .kept .1 .0 ∙ start .pre .0 .right-length)
+    ran-concludes {o = rounds C (a .budget) (held (a .left .now) (a .left-length)) (held (a .right .now) (a .right-length))} (ran .ensures) C (sessionOf (start .args .session)) (start .pre .0 .scratch-length) (ran .kept .0) (ran .kept .1 .0 ∙ start .pre .0 .right-length)
     (clear .ensures) (clear2 .ensures) (clear3 .ensures)
 
 pub press-terms-spec : {M : Type 1} → statement M

@@ -108,7 +108,7 @@ advance-requires-2 : tie.Need-advance-requires-2 Inv-loop μ-loop
 advance-requires-2 c κs =
     let j = c .before .before .before .before .before .before .before .before .before .before .before .before .before .before .before .before .before in
     let a = c .before .before .before .before .before .before .before .before .advance in
-    right-advances (turn j .loop .inv) (goes-on (c .before .before .before .before .before .before .before .before .before .before .before .before .before .before .before)) (a .kept .0) (a .kept .1 .1 .1 .0 ∙ scratch-same j) (a .ensures)
+    right-advances (turn j .loop .inv) (goes-on (c .before .before .before .before .before .before .before .before .before .before .before .before .before .before .before)) (a .kept .0) (a .kept .1 .1 .1 .0 ∙ scratch-same j) (a .ensures .0)
     (omega (arith, a .kept .1 .1 .1 .1 .0, turn j .loop .inv .room-length)) (j .before .before .before .before .find2 .ensures .0)
 
 add-spent : tie.Need-add-spent Inv-loop μ-loop
@@ -128,7 +128,7 @@ loop-again c =
     let j = c .before .before .before .before .before .before .before .before .before .before .before .before .before .before .before .before .before .before .before .before .before .before .before in
     let a = c .before .before .before .before .before .before .before .before .before .before .before .before .before .before .advance in
     let b = c .before .before .before .before .before .advance2 in
-    going-on (turn j .loop .inv) (goes-on (c .before .before .before .before .before .before .before .before .before .before .before .before .before .before .before .before .before .before .before .before .before)) (a .kept .0) (a .kept .1 .1 .1 .0 ∙ scratch-same j) (a .ensures) (b .kept .0) (b .kept .1 .1 .1 .0) (b .ensures)
+    going-on (turn j .loop .inv) (goes-on (c .before .before .before .before .before .before .before .before .before .before .before .before .before .before .before .before .before .before .before .before .before)) (a .kept .0) (a .kept .1 .1 .1 .0 ∙ scratch-same j) (a .ensures .0) (b .kept .0) (b .kept .1 .1 .1 .0) (b .ensures .0)
     (omega (arith, a .kept .1 .1 .1 .1 .0, b .kept .1 .1 .1 .1 .0, turn j .loop .inv .room-length))
     (shares j) (left-plan j) (right-plan j) (c .before .before .before .before .before .before .before .before .before .before .before .before .before .before .before .before .before .before .agreed .ensures)
 

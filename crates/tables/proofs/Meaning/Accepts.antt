@@ -21,16 +21,16 @@ use Rattle.calculus.proofs.ReadLaws.{words-injective}
 use Rattle.calculus.proofs.WorkspaceLaws.{termAt-words}
 use Rattle.words.specs.IsTerm.{isTerm}
 use Rattle.words.proofs.IsTerm.{isTerm-some, isTerm-none}
-use Rattle.tables.specs.Records.{Table, OfKind}
+use Rattle.records.specs.Records.{Table, OfKind}
 use Rattle.tables.specs.Meaning.{Means, plain, case-of, no-term, a-term, no-branch, a-branch}
-use Rattle.tables.specs.Values.{isTag, valueFits}
-use Rattle.tables.specs.Children.{children, numberFits, subjectFirst, sortsFit, childrenFit}
+use Rattle.records.specs.Values.{isTag, valueFits}
+use Rattle.records.specs.Children.{children, numberFits, subjectFirst, sortsFit, childrenFit}
 use Rattle.tables.specs.FreeNumbers.{freeFits}
 use Rattle.tables.proofs.Meaning.Nodes.{tag-fits, node-accepted, node-scoped}
 use Rattle.tables.proofs.Meaning.Held.{held}
-use Rattle.tables.proofs.Refusal.LinkRules.{Linked, children-enough}
+use Rattle.records.proofs.LinkRules.{Linked, children-enough}
 use Rattle.tables.proofs.Meaning.ChainMeaning.{terms-chain, case-chain}
-use Rattle.tables.proofs.Refusal.Fits.{Valued, Fitted}
+use Rattle.records.proofs.Fits.{Valued, Fitted}
 
 module _ (T : Table) (L : Linked T) (values : Valued T) (fits : Fitted T) where
   number-fits : {i kind : ℕ} {xs : Terms} → OfKind T kind i → Means T terms (T .at i .first) xs → numberFits kind (count xs) ≡ true

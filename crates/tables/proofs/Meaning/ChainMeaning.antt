@@ -12,11 +12,11 @@ use borrow.Author.Tests.{ltb-true, lt-ltb, ne-eqb}
 use Rattle.calculus.specs.Term.{term, terms, branches, Term, Terms, Branches, count}
 use Rattle.calculus.specs.Words.{branchKind, tagOf}
 use Rattle.calculus.specs.Accepted.{StartsAbove, Rising}
-use Rattle.tables.specs.Records.{Table}
+use Rattle.records.specs.Records.{Table}
 use Rattle.tables.specs.Meaning.{Means, plain, case-of, no-term, a-term, no-branch, a-branch}
-use Rattle.tables.specs.Children.{chain, isBranch, startsAbove, chainFits, subjectFirst}
-use Rattle.tables.proofs.Refusal.Tests.{if-false}
-use Rattle.tables.proofs.Refusal.LinkRules.{Linked, Enough, nothing-left, next-enough}
+use Rattle.records.specs.Children.{chain, isBranch, startsAbove, chainFits, subjectFirst}
+use Rattle.records.proofs.Tests.{if-false}
+use Rattle.records.proofs.LinkRules.{Linked, Enough, nothing-left, next-enough}
 use Rattle.tables.proofs.Meaning.Nodes.{node-kind}
 use Rattle.tables.proofs.Meaning.MeaningLaws.{term-inside}
 

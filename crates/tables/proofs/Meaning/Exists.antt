@@ -11,14 +11,14 @@ use borrow.Author.Tests.{leb-true, eqb-true, eqb-false, ne-eqb, not-true}
 use Rattle.calculus.specs.Term.{term, terms, branches, Term, Terms, Branches, case, nil, cons, end, branch, count}
 use Rattle.calculus.specs.Words.{caseKind, branchKind, tagOf}
 use Rattle.calculus.specs.Accepted.{branchLimit}
-use Rattle.tables.specs.Records.{Table}
+use Rattle.records.specs.Records.{Table}
 use Rattle.tables.specs.Meaning.{Means, plain, case-of, no-term, a-term, no-branch, a-branch}
-use Rattle.tables.specs.Children.{chain, children, isBranch, startsAbove, mayStand, chainFits, numberFits, subjectFirst, sortsFit, childrenFit}
-use Rattle.tables.specs.Values.{valueFits}
-use Rattle.tables.proofs.Refusal.LinkRules.{Ahead, ahead-from, Linked, Enough, nothing-left, next-enough, children-enough}
+use Rattle.records.specs.Children.{chain, children, isBranch, startsAbove, mayStand, chainFits, numberFits, subjectFirst, sortsFit, childrenFit}
+use Rattle.records.specs.Values.{valueFits}
+use Rattle.records.proofs.LinkRules.{Ahead, ahead-from, Linked, Enough, nothing-left, next-enough, children-enough}
 use Rattle.tables.proofs.Meaning.Nodes.{one-child, some-node}
 use Rattle.tables.proofs.Meaning.ChainMeaning.{chain-record, terms-chain}
-use Rattle.tables.proofs.Refusal.Fits.{Valued, Fitted}
+use Rattle.records.proofs.Fits.{Valued, Fitted}
 
 module _ (T : Table) (L : Linked T) (F : Fitted T) where
   -- Every later record that is no branch means a term.

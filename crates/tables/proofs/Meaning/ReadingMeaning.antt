@@ -12,20 +12,20 @@ use Rattle.calculus.proofs.WordLaws.{pack-of-parts}
 use Rattle.words.specs.IsTerm.{isTerm}
 use Rattle.words.specs.Placed.{Placed}
 use Rattle.words.proofs.PlacedLaws.{placed-length}
-use Rattle.tables.specs.Records.{Table, Stored, view}
+use Rattle.records.specs.Records.{Table, Stored, view}
 use Rattle.tables.specs.Meaning.{Means, plain, case-of, no-term, a-term, no-branch, a-branch}
-use Rattle.tables.specs.Children.{children}
+use Rattle.records.specs.Children.{children}
 use Rattle.tables.specs.Reading.{chainWords, termWords, Readable}
 use Rattle.tables.specs.FreeNumbers.{freeAbove, wrongFree}
-use Rattle.tables.proofs.Refusal.LinkRules.{Linked, linked, children-enough}
-use Rattle.tables.proofs.Refusal.Fits.{Valued, valued, Fitted, fitted}
+use Rattle.records.proofs.LinkRules.{Linked, linked, children-enough}
+use Rattle.records.proofs.Fits.{Valued, valued, Fitted, fitted}
 use Rattle.tables.proofs.Meaning.Nodes.{node-words}
 use Rattle.tables.proofs.Meaning.MeaningLaws.{term-inside, meaning-complete}
 use Rattle.tables.proofs.Meaning.ChainMeaning.{terms-chain, case-chain}
 use Rattle.tables.proofs.Meaning.Exists.{record-means}
 use Rattle.tables.proofs.Meaning.Extent.{extent, extent-zero, root-extent, means-sized}
 use Rattle.tables.proofs.Meaning.Accepts.{free-is-term}
-use Rattle.tables.proofs.Refusal.RecordLaws.{sized}
+use Rattle.records.proofs.RecordLaws.{sized}
 use Rattle.tables.proofs.Meaning.ReadingLaws.{chainWords-end, chainWords-record}
 
 module _ (T : Table) (L : Linked T) where

@@ -9,11 +9,11 @@ use Rattle.calculus.specs.Decide.{scoped?}
 use Rattle.tables.specs.Meaning.{meaning}
 use Rattle.tables.specs.FreeNumbers.{freeFits}
 use Rattle.tables.specs.Theorems.{Sound-means}
-use Rattle.tables.proofs.Refusal.Tests.{isRecord-true}
-use Rattle.tables.proofs.Refusal.LinkRules.{linked}
+use Rattle.records.proofs.Tests.{isRecord-true}
+use Rattle.records.proofs.LinkRules.{linked}
 use Rattle.tables.proofs.Meaning.MeaningLaws.{meaning-complete}
 use Rattle.tables.proofs.Meaning.Extent.{extent, extent-zero, root-extent, means-sized}
-use Rattle.tables.proofs.Refusal.Fits.{valued, fitted}
+use Rattle.records.proofs.Fits.{valued, fitted}
 use Rattle.tables.proofs.Meaning.Exists.{record-means}
 use Rattle.tables.proofs.Meaning.Accepts.{means-accepted}
 

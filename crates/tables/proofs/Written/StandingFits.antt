@@ -11,12 +11,12 @@ use Rattle.calculus.specs.Words.{words, size, caseKind, branchKind, countBase}
 use Rattle.calculus.specs.Accepted.{argumentLimit, branchLimit, acceptance, Accepted, indexLimit}
 use Rattle.calculus.specs.Theorems.{counted, within, IndicesWithin}
 use Rattle.calculus.proofs.WordLaws.{tagOf-pack, countOf-pack, accepted-packable}
-use Rattle.tables.specs.Records.{Table, OfKind}
+use Rattle.records.specs.Records.{Table, OfKind}
 use Rattle.tables.specs.Meaning.{Node, Means, no-term}
-use Rattle.tables.specs.Values.{valueFits}
-use Rattle.tables.specs.Children.{children, numberFits, childrenFit}
+use Rattle.records.specs.Values.{valueFits}
+use Rattle.records.specs.Children.{children, numberFits, childrenFit}
 use Rattle.tables.specs.Write.{linkTo, records}
-use Rattle.tables.proofs.Refusal.LinkRules.{Linked, children-enough}
+use Rattle.records.proofs.LinkRules.{Linked, children-enough}
 use Rattle.tables.proofs.Meaning.Nodes.{tag-passes, node-kind, node-size, node-below, node-fits, Built, plain, of-case, empty, listed, ended, branched}
 use Rattle.tables.proofs.Meaning.ChainMeaning.{terms-chain, case-chain}
 use Rattle.tables.proofs.Written.Standing.{Stand, stand-node, stand-both, stand-next, then, stand-means}

@@ -13,10 +13,11 @@ use Rattle.calculus.specs.Workspace.{termAt}
 use Rattle.calculus.proofs.WordLaws.{accepted-packable}
 use Rattle.calculus.proofs.WorkspaceLaws.{sized-most}
 use Rattle.words.proofs.PlacedLaws.{sets-whole}
-use Rattle.tables.specs.Records.{form1, recordsWords}
-use Rattle.tables.specs.Header.{wrongWorkspace}
+use Rattle.records.specs.Records.{form1, recordsWords}
+use Rattle.records.specs.Header.{wrongWorkspace}
 use Rattle.tables.specs.Load.{returned}
-use Rattle.tables.specs.Write.{entry, records, tableOf, Written, write}
+use Rattle.records.specs.Records.{entry}
+use Rattle.tables.specs.Write.{records, tableOf, Written, write}
 use Rattle.tables.specs.Writing.{entries}
 use Rattle.tables.proofs.Meaning.Held.{Held, held}
 use Rattle.tables.proofs.Written.WrittenTable.{tableOf-length}

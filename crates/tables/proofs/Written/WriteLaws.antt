@@ -10,8 +10,8 @@ use Rattle.calculus.specs.Term.{Term}
 use Rattle.calculus.specs.Words.{words, size}
 use Rattle.calculus.specs.Accepted.{Accepted}
 use Rattle.calculus.proofs.WorkspaceLaws.{termAt-words, length-padded}
-use Rattle.tables.specs.Records.{form1}
-use Rattle.tables.specs.Header.{wrongWorkspace}
+use Rattle.records.specs.Records.{form1}
+use Rattle.records.specs.Header.{wrongWorkspace}
 use Rattle.tables.specs.Load.{returned}
 use Rattle.tables.specs.Write.{tableOf, write}
 

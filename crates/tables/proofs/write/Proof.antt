@@ -12,7 +12,7 @@ use Rattle.calculus.specs.Term.{Term}
 use Rattle.calculus.specs.Words.{workspaceMost}
 use Rattle.calculus.specs.Workspace.{termAt}
 use Rattle.words.proofs.IsTerm.{isTerm-some, isTerm-none}
-use Rattle.tables.specs.Header.{wrongWorkspace}
+use Rattle.records.specs.Header.{wrongWorkspace}
 use Rattle.tables.specs.Write.{write}
 use Rattle.tables.proofs.Meaning.Held.{held}
 use Rattle.tables.proofs.Written.WriteCode.{workspace-short, written}

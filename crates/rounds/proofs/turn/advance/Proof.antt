@@ -1,4 +1,6 @@
 -- `advance` meets its contract, by the plan. Assumes nothing.
+use mathlib.Core.Path.{refl}
+use Rattle.words.proofs.RoomLaws.{room-of-length}
 use Rattle.rounds.proofs.RunCode.{advance-normal, advance-room, advance-contracted}
 use borrow.Author.Needs.{needs}
 use Rattle.rounds.proofs.turn.advance.Statement.{statement}
@@ -17,7 +19,7 @@ before-requires : tie.Need-before-requires
 before-requires c κs = search needs
 
 returns : tie.Need-returns
-returns c = advance-normal (c .before .before .before .before .before .pre) (c .enum-told .given .1)
+returns c = (advance-normal (c .before .before .before .before .before .pre) (c .enum-told .given .1), room-of-length refl)
 
 same-length : tie.Need-same-length
 same-length c = search needs
@@ -29,7 +31,12 @@ same-length-3 : tie.Need-same-length-3
 same-length-3 c = search needs
 
 returns-2 : tie.Need-returns-2
-returns-2 c = advance-contracted (c .before .before .before .before .before .before .before .before .before .before .before .before .before .before .before .before .before .pre) (c .before .before .before .before .before .before .before .before .before .before .before .before .todo .given .1) (c .before .before .before .before .before .before .before .contract .ensures .0) (c .before2 .ensures)
+returns-2 c =
+    let contract = c .before .before .before .before .before .before .before .contract in
+    let start = c .before .before .before .before .before .before .before .before .before .before .before .before .before .before .before .before .before in (
+      advance-contracted (start .pre) (c .before .before .before .before .before .before .before .before .before .before .before .before .todo .given .1) (contract .ensures .0) (c .before2 .ensures),
+      contract .ensures .1,
+    )
 
 pub advance-spec : {M : Type 1} → statement M
 advance-spec =

@@ -7,10 +7,10 @@ use Rattle.step.proofs.tail.lower.Statement.{statement}
 use Rattle.step.proofs.tail.lower.Tie as tie
 
 abbrev Inv-loop : tie.InvT-loop
-Inv-loop ws₀ from to out i₀ o₀ ws i o = Lowering ws₀ from to out ws i o
+Inv-loop ws₀ from to out i₀ next₀ ws i next = Lowering ws₀ from to out ws i next
 
 abbrev μ-loop : tie.MeasureT-loop
-μ-loop ws₀ from to out i₀ o₀ ws i o = to - i
+μ-loop ws₀ from to out i₀ next₀ ws i next = to - i
 
 loop-holds : tie.Need-loop-holds Inv-loop μ-loop
 loop-holds c = lowering-start (c .pre .0) (c .pre .1)

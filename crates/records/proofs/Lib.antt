@@ -1,0 +1,9 @@
+pub mod Tests
+pub mod Sums
+pub mod LinkRules
+pub mod Fits
+pub mod RecordLaws
+pub mod Loops
+pub mod Namings
+pub mod Hanging
+pub mod Walks
