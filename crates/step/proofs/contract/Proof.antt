@@ -6,7 +6,7 @@ use Rattle.step.proofs.contract.Statement.{statement}
 use Rattle.step.proofs.contract.Tie as tie
 
 substitute-requires : tie.Need-substitute-requires
-substitute-requires c κs = (substitutes (c .before .before .before .before .before .before .pre), contractum-fits (c .before .before .before .before .before .before .pre))
+substitute-requires c κs = (search substitutes, search contractum-fits)
 
 add-move-words : tie.Need-add-move-words
 add-move-words c =
@@ -14,7 +14,7 @@ add-move-words c =
     omega (arith, tail-fits h (c .before .before .before .before .before .substitute .ensures .0) .fits, h .plan .redex .holds .limit)
 
 move-words-requires : tie.Need-move-words-requires
-move-words-requires c κs = tail-fits (c .before .before .before .before .before .before .before .before .before .before .before .before .pre) (c .before .before .before .before .before .substitute .ensures .0)
+move-words-requires c κs = search tail-fits
 
 copy-requires : tie.Need-copy-requires
 copy-requires c κs = back-fits (c .before .before .before .before .before .before .before .before .before .before .before .before .before .before .before .before .before .pre) (c .before .before .before .before .before .before .before .before .before .before .substitute .ensures .0) (c .before .before .before .before .move-words .ensures)
