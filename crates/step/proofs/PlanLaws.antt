@@ -21,7 +21,7 @@ use Rattle.substitution.proofs.ResultLaws.{arguments-size}
 use Rattle.substitution.proofs.RewritingLaws.{standing-more, rewritten-alone, standing-substituted}
 use Rattle.substitution.proofs.RewrittenLaws.{place-argument}
 use Rattle.substitution.proofs.CountLaws.{occurs-twice}
-use Rattle.calculus.specs.Contraction.{Rule as Calculus, by-beta}
+use Rattle.calculus.specs.Contraction.{Rule as CalculusRule, by-beta}
 use Rattle.calculus.specs.Position.{stepAt, contractAt, redexAt}
 use Rattle.calculus.proofs.PositionLaws.{redex-first}
 use Rattle.step.specs.declared.Rule.{Rule}
@@ -49,7 +49,7 @@ slice-split l a e n h k m =
     ∙ ap (λ xs. drop a xs ++ drop e t) (take-take e n l k)
 
 -- A redex starts where its parts are found, and contracts by their rule.
-module _ {ws room : List ℕ} {n at : ℕ} {rule : Calculus} {b a m left : ℕ} (h : At ws n at room) (found : parts at (drop at ws) ≡ parted rule b a m left) where
+module _ {ws room : List ℕ} {n at : ℕ} {rule : CalculusRule} {b a m left : ℕ} (h : At ws n at room) (found : parts at (drop at ws) ≡ parted rule b a m left) where
   stepped : (u : Term) × (stepAt at (held ws n) ≡ some (rule, u)) × (contractAt at (held ws n) ≡ some u)
   unfolding contractAt
   stepped = let u = redex-here (h .holds) (h .within) found in (u .0, u .1, ap (Option·map (λ c. c .1)) (u .1))

@@ -1,6 +1,6 @@
--- The rule of a redex and where its parts stand, found from the words alone: the rule's body, the arguments that replace together and their number, and how many
--- items of the redex are left behind the body. A redex is an application word and behind it an abstraction word, or a case word and behind it a
--- constructor word with a branch of its tag that binds as many variables as the constructor has arguments.
+-- The rule of a redex and where its parts stand, found from the words alone: the rule's body, the arguments that replace together, their number, and
+-- how many items of the redex are left behind the body. A redex is an application word and behind it an abstraction word, or a case word and behind
+-- it a constructor word with a branch of its tag that binds as many variables as the constructor has arguments.
 --
 -- The functions are total. They take the words of a workspace from the position `at` on.
 use Prim.Native.Nat.{ℕ, zero, suc, _+_}

@@ -1,5 +1,4 @@
--- The plan of a contraction: the rule and a record of positions in the workspace, found once by the search and tied to the next term by one law
--- (`rest`).
+-- The plan of a contraction: its rule and positions in the workspace, found once by the search and tied to the next term by one law (`rest`).
 --
 -- The next term's words are those before the redex, those that stand for the words of the rule's body before `stop`, and the words of the workspace
 -- from `end` on. Where the body ends with its argument's index, under no binder, the argument is among the last and `stop` is before that index.
@@ -12,7 +11,7 @@ use lib.Seq.{sets, slice}
 use Rattle.calculus.specs.Words.{abstractionKind, applicationKind, constructorKind, caseKind, kindOf, workspaceMost, words, size}
 use Rattle.calculus.specs.Skip.{span}
 use Rattle.calculus.specs.First.{firstTerms}
-use Rattle.calculus.specs.Contraction.{Rule as Calculus, by-beta, by-case}
+use Rattle.calculus.specs.Contraction.{Rule as CalculusRule, by-beta, by-case}
 use Rattle.calculus.specs.Position.{stepAt, redexAt}
 use Rattle.words.specs.Limits.{payloadBound}
 use Rattle.words.specs.Room.{Room}
@@ -34,7 +33,7 @@ abbrev pub contractum : List ℕ → Redex → List ℕ
 contractum ws r = standing (substituting (firstTerms (r .count) (drop (r .args) ws))) (r .stop - r .body) (0 ∷ []) (drop (r .body) ws)
 
 -- The rule of the calculus that a plan names.
-abbrev pub ruleOf : Rule → Calculus
+abbrev pub ruleOf : Rule → CalculusRule
 ruleOf rule.Beta = by-beta
 ruleOf rule.Case = by-case
 
@@ -59,8 +58,8 @@ Planned ws n (Contract r) = (redexAt (held ws n) ≡ some (r .at)) × Plans ws n
 abbrev pub CaseAt : List ℕ → (at : ℕ) → Type 0
 CaseAt ws at = (kindOf (getD ws at 0) ≡ caseKind) × (kindOf (getD ws (at + 1) 0) ≡ constructorKind)
 
--- What is seen at one position, where the room was lent with a table of ends before `known`: it is as it was unless a redex is seen, whose walks
--- use it. A stuck case is told where the ends inside it are not known.
+-- What is seen at one position: nothing that contracts, a case that is stuck, where the ends inside it are not known yet, or a redex. Only the walks
+-- over a redex change the room.
 abbrev pub SeenAt : List ℕ → (n at known : ℕ) → (room : List ℕ) → Seen → (room′ : List ℕ) → Type 0
 SeenAt ws n at known room seen.Nothing room′ = (parts at (drop at ws) ≡ nothing) × (room′ ≡ room) × (CaseAt ws at → at < known)
 SeenAt ws n at known room seen.Stuck room′ = (parts at (drop at ws) ≡ nothing) × (room′ ≡ room) × CaseAt ws at × (known ≤ at)
@@ -71,11 +70,6 @@ pub record At (ws : List ℕ) (n at : ℕ) (room : List ℕ) : Type 0 where
   pub holds : Holds ws n
   pub within : at < n
   pub room-fits : n ≤ length room
-
--- The parts of a redex stand there.
-pub record Parted (ws : List ℕ) (n at : ℕ) (rule : Calculus) (body args count left : ℕ) (room : List ℕ) : Type 0 where
-  pub place : At ws n at room
-  pub parts-are : parts at (drop at ws) ≡ parted rule body args count left
 
 -- An application of an abstraction stands there.
 pub record Applied (ws : List ℕ) (n at : ℕ) (room : List ℕ) : Type 0 where
@@ -100,7 +94,8 @@ pub record Inspected (ws : List ℕ) (n at w v : ℕ) (room : List ℕ) : Type 0
 
 -- One of its branches was selected: its body, the arguments' end, and how many branches are left behind that one.
 pub record Selected (ws : List ℕ) (n at left body after count : ℕ) (room : List ℕ) : Type 0 where
-  pub parted-is : Parted ws n at by-case body (at + 2) count left room
+  pub place : At ws n at room
+  pub parts-are : parts at (drop at ws) ≡ parted by-case body (at + 2) count left
   pub after-is : after ≡ at + 2 + span count (drop (at + 2) ws)
   pub few : left ≤ payloadBound
 

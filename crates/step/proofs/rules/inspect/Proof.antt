@@ -37,7 +37,8 @@ selected-requires c κs =
     let s = c .before .before .before .before .before .before .before .before .before .before .before .before .before in
     let r = c .before .before .body .given .1 in
     record {
-      parted-is = record { place = s .pre .0 .place; parts-are = by-words (c .before .before .before .before) r };
+      place = s .pre .0 .place;
+      parts-are = by-words (c .before .before .before .before) r;
       after-is = inspected-after (s .pre .0) (c .before .before .before .before .before .before .before .before .before .before .count .ensures) (c .before .before .before .before .before .before .before .before .end-of .ensures);
       few =
           omega (
