@@ -48,9 +48,9 @@ fn branch_body(
         if left == 0 {
             return Found::Nothing;
         }
-        let w = Word(ws[i]);
-        if tag == w.tag() {
-            if count == w.count() {
+        let word = Word(ws[i]);
+        if tag == word.tag() {
+            if count == word.count() {
                 return Found::At(i + 1, left - 1);
             }
             return Found::Nothing;

@@ -23,14 +23,8 @@ use Rattle.step.proofs.PlanLaws.{redex-found, contracts, measurable, le
 use Rattle.step.proofs.rules.beta.Statement.{statement}
 use Rattle.step.proofs.rules.beta.Tie as tie
 
-add-body : tie.Need-add-body
-add-body c = search needs
-
 measure-requires : tie.Need-measure-requires
 measure-requires c κs = measurable (c .before .before .before .pre .place) (applied-parts (c .before .before .before .pre))
-
-array-read-times : tie.Need-array-read-times
-array-read-times c = search needs
 
 -- The body ends in the workspace, behind its start.
 argument-end-requires : tie.Need-argument-end-requires
@@ -163,9 +157,6 @@ shared-slice-read-if2 c =
     let e = c .before .before .before in
     omega (arith, starts e, within e, start (redex-found (s e .pre .place) (found e)) .within)
 
-same-length : tie.Need-same-length
-same-length c = search needs
-
 returns : tie.Need-returns
 returns c =
     let e = c .before .before .before .before in
@@ -180,14 +171,8 @@ returns c =
       room e,
     )
 
-same-length-2 : tie.Need-same-length-2
-same-length-2 c = search needs
-
 returns-2 : tie.Need-returns-2
 returns-2 c = ((replaced (c .before .before .before .before) (λ f g. c .if2 .left g), refl), room (c .before .before .before .before))
-
-same-length-3 : tie.Need-same-length-3
-same-length-3 c = search needs
 
 returns-3 : tie.Need-returns-3
 returns-3 c = ((replaced (c .before .before) (λ f g. c .if1 .left f), refl), room (c .before .before))
@@ -196,9 +181,9 @@ pub beta-spec : {M : Type 1} → statement M
 beta-spec =
     tie.close
     (tie.spec
-    add-body
+    (λ c. search needs)
     measure-requires
-    array-read-times
+    (λ c. search needs)
     argument-end-requires
     sub-length
     sub-length-2
@@ -211,9 +196,9 @@ beta-spec =
     sub-stop
     mul-if2
     shared-slice-read-if2
-    same-length
+    (λ c. search needs)
     returns
-    same-length-2
+    (λ c. search needs)
     returns-2
-    same-length-3
+    (λ c. search needs)
     returns-3)

@@ -7,9 +7,6 @@ use Rattle.step.proofs.PartsTurns.{parts-last, last-no-case, parts-appl
 use Rattle.step.proofs.rules.plan_at.Statement.{statement}
 use Rattle.step.proofs.rules.plan_at.Tie as tie
 
-add-if1 : tie.Need-add-if1
-add-if1 c = search needs
-
 returns : tie.Need-returns
 returns c =
     let s = c .before .before .before in
@@ -19,49 +16,10 @@ returns c =
       λ k. absurd (last-no-case (s .args .at) (s .args .ws .now) (c .if1 .taken) k),
     )
 
-mul-t8 : tie.Need-mul-t8
-mul-t8 c = search needs
-
-shared-slice-read-t12 : tie.Need-shared-slice-read-t12
-shared-slice-read-t12 c = search needs
-
-add-t9 : tie.Need-add-t9
-add-t9 c = search needs
-
-mul-t8-2 : tie.Need-mul-t8-2
-mul-t8-2 c = search needs
-
-shared-slice-read-t12-2 : tie.Need-shared-slice-read-t12-2
-shared-slice-read-t12-2 c = search needs
-
-kind-requires : tie.Need-kind-requires
-kind-requires c κs = search needs
-
-kind-requires-2 : tie.Need-kind-requires-2
-kind-requires-2 c κs = search needs
-
-beta-requires : tie.Need-beta-requires
-beta-requires c κs = search needs
-
-same-length : tie.Need-same-length
-same-length c = search needs
-
-returns-2 : tie.Need-returns-2
-returns-2 c = search needs
-
-kind-requires-3 : tie.Need-kind-requires-3
-kind-requires-3 c κs = search needs
-
 inspect-requires : tie.Need-inspect-requires
 inspect-requires c κs =
     let s = c .before .before .before .before .before .before .before .before .before .before in
     (record { place = s .pre .0; further = search needs; case-is = refl; constructor-is = refl; case = search needs; constructor = search needs }, s .pre .1)
-
-same-length-2 : tie.Need-same-length-2
-same-length-2 c = search needs
-
-returns-3 : tie.Need-returns-3
-returns-3 c = search needs
 
 returns-4 : tie.Need-returns-4
 returns-4 c =
@@ -82,22 +40,22 @@ pub plan-at-spec : {M : Type 1} → statement M
 plan-at-spec =
     tie.close
     (tie.spec
-    add-if1
+    (λ c. search needs)
     returns
-    mul-t8
-    shared-slice-read-t12
-    add-t9
-    mul-t8-2
-    shared-slice-read-t12-2
-    kind-requires
-    kind-requires-2
-    beta-requires
-    same-length
-    returns-2
-    kind-requires-3
+    (λ c. search needs)
+    (λ c. search needs)
+    (λ c. search needs)
+    (λ c. search needs)
+    (λ c. search needs)
+    (λ c κs. search needs)
+    (λ c κs. search needs)
+    (λ c κs. search needs)
+    (λ c. search needs)
+    (λ c. search needs)
+    (λ c κs. search needs)
     inspect-requires
-    same-length-2
-    returns-3
+    (λ c. search needs)
+    (λ c. search needs)
     returns-4
     returns-5
     returns-6)
