@@ -3,7 +3,6 @@ pub mod Sums
 pub mod LinkRules
 pub mod Fits
 pub mod RecordLaws
-pub mod Loops
 pub mod Namings
 pub mod Hanging
 pub mod Walks

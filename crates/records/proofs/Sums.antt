@@ -1,13 +1,14 @@
--- Tests of every index from 1 to n, and sums over them.
+-- Tests of every index from 1 to n, the loops that make them, and sums over these indices.
 use Prim.Native.Nat.{ℕ, zero, suc, _+_, _*_, _≤_}
 use mathlib.Core.Path.{_≡_, refl, ap, ap₂, sym, _∙_}
-use mathlib.Core.Bool.{Bool, true, and-eq-true-iff}
+use mathlib.Core.Bool.{Bool, true, and-eq-true-iff, false, _&&_, and-false}
 use mathlib.Core.Logic.{inl, inr}
 use native.Mathlib.Nat.{zero-mul, one-mul, add-mul, mul-suc, eq-or-lt-of-le}
 use native.Mathlib.Omega.{arith}
 use borrow.Author.Tests.{eq-eqb, ne-eqb}
 use Rattle.records.specs.Records.{everyOf, sumOf}
 use Rattle.records.specs.Links.{naming}
+use native.Mathlib.Numerals.{add-one}
 
 pub every-at : (n : ℕ) (p : ℕ → Bool) → everyOf n p ≡ true → (i : ℕ) → 1 ≤ i → i ≤ n → p i ≡ true
 every-at zero p h i l u = absurd (omega arith)
@@ -20,6 +21,25 @@ pub every-of : (n : ℕ) (p : ℕ → Bool) → ((i : ℕ) → 1 ≤ i → i ≤
 every-of zero p h = refl
 every-of (suc n) p h =
     and-eq-true-iff (everyOf n p) (p (suc n)) .1 (every-of n p (λ i l u. h i l (omega arith)), h (suc n) (omega arith) (omega arith))
+
+-- A loop that tests every index: a turn that passes, a turn that refuses, and the end.
+pub every-more : (p : ℕ → Bool) (i : ℕ) → everyOf i p ≡ true → p (i + 1) ≡ true → everyOf (i + 1) p ≡ true
+every-more p i h e = rw add-one (rw (h, ← add-one i) e)
+
+pub every-fails : (n : ℕ) (p : ℕ → Bool) (i : ℕ) → 1 ≤ i → i ≤ n → p i ≡ false → everyOf n p ≡ false
+every-fails zero p i l u e = absurd (omega arith)
+every-fails (suc n) p i l u e =
+    elim (eq-or-lt-of-le u) [
+      | inl q ↦ ap (λ b. everyOf n p && b) (rw q at e) ∙ and-false (everyOf n p)
+      | inr v ↦ ap (λ b. b && p (suc n)) (every-fails n p i l (omega arith) e)
+    ]
+
+pub every-end : (n : ℕ) (p : ℕ → Bool) (i : ℕ) → i ≤ n → n ≤ i → everyOf i p ≡ true → everyOf n p ≡ true
+every-end n p i l u h = let e : i ≡ n = omega arith in rw e at h
+
+pub every-eq : (n : ℕ) (p q : ℕ → Bool) → ((i : ℕ) → 1 ≤ i → i ≤ n → p i ≡ q i) → everyOf n p ≡ everyOf n q
+every-eq zero p q h = refl
+every-eq (suc n) p q h = ap₂ _&&_ (every-eq n p q (λ i l u. h i l (omega arith))) (h (suc n) (omega arith) (omega arith))
 
 pub sum-eq : (n : ℕ) (f g : ℕ → ℕ) → ((i : ℕ) → 1 ≤ i → i ≤ n → f i ≡ g i) → sumOf n f ≡ sumOf n g
 sum-eq zero f g h = refl

@@ -46,14 +46,8 @@ pub fn run(
     requires { ⌜ Ready (now left) (now right) (now scratch) «left_length» «right_length» ⌝ }
     ensures { λ shown. ⌜ Ran budget (rounds (length (now (left .entry))) budget (held (now (left .entry)) «left_length») (held (now (right .entry)) «right_length»)) (shownOf shown) (now (scratch .entry)) (now (left .exit)) (now (right .exit)) (now (scratch .exit)) ⌝ }
 {
-    let mut left_side = Side {
-        length: left_length,
-        from: 0,
-    };
-    let mut right_side = Side {
-        length: right_length,
-        from: 0,
-    };
+    let mut left_side = Side::first(left_length);
+    let mut right_side = Side::first(right_length);
     let mut room = [0u32; ROOM];
     let mut agree: usize = 0;
     let mut spent: u32 = 0;
@@ -62,13 +56,8 @@ pub fn run(
         let left_plan = find(left, left_side.length, left_side.from, scratch);
         let right_plan = find(right, right_side.length, right_side.from, scratch);
         // No term's words are the start of another's, so a term whose words are all shared is the other one.
-        match judge(
-            shared == left_side.length,
-            left_plan,
-            right_plan,
-            budget - spent,
-            left.len(),
-        ) {
+        let equal = shared == left_side.length;
+        match judge(equal, left_plan, right_plan, budget - spent, left.len()) {
             Round::Ends(verdict) => {
                 return Shown {
                     verdict,

@@ -20,6 +20,15 @@ pub struct Side {
     pub from: usize,
 }
 
+impl Side {
+    // Before the first round the search starts at the first word.
+    pub fn first(length: usize) -> Self
+        ensures { λ r. ⌜ r ≡ record { length = length; from = 0 } ⌝ }
+    {
+        Side { length, from: 0 }
+    }
+}
+
 // What a round comes to: it ends in a verdict, or makes so many contractions.
 pub enum Round {
     Ends(Verdict),

@@ -27,7 +27,7 @@ use Rattle.tables.proofs.Meaning.MeaningLaws.{meaning-complete}
 use Rattle.tables.proofs.Meaning.SoundMeans.{sound-means}
 
 -- A list of refusals has one that is met first, or none is met.
-settled : (cs : List (Refusal × Bool)) → ((k : Refusal) × FirstMet k cs) ⊎ NoneMet cs
+pub settled : (cs : List (Refusal × Bool)) → ((k : Refusal) × FirstMet k cs) ⊎ NoneMet cs
 settled [] = inr tt
 settled (c ∷ cs) = go (c .1) refl (settled cs)
   where
@@ -36,7 +36,7 @@ settled (c ∷ cs) = go (c .1) refl (settled cs)
     go false e (inl s) = inl (s .0, inr (e, s .1))
     go false e (inr s) = inr (e, s)
 
-first-met : (k : Refusal) (cs : List (Refusal × Bool)) → FirstMet k cs → firstMet cs ≡ some k
+pub first-met : (k : Refusal) (cs : List (Refusal × Bool)) → FirstMet k cs → firstMet cs ≡ some k
 first-met k (c ∷ cs) (inl h) = rw (h .0) (ap some (h .1))
 first-met k (c ∷ cs) (inr h) = rw (h .0) (first-met k cs (h .1))
 

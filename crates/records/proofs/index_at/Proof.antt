@@ -4,8 +4,5 @@ use borrow.Author.Needs.{needs}
 use Rattle.records.proofs.index_at.Statement.{statement}
 use Rattle.records.proofs.index_at.Tie as tie
 
-cast-result : tie.Need-cast-result
-cast-result c = omega (arith, c .shared-slice-known .given (c .before .args .at))
-
 pub index-at-spec : {M : Type 1} → statement M
-index-at-spec = tie.close (tie.spec (λ c. search needs) (λ c. search needs) cast-result (λ c. search needs))
+index-at-spec = tie.close (tie.spec (λ c. search needs) (λ c. search needs) (λ c. omega (arith, c .shared-slice-known .given (c .before .args .at))) (λ c. search needs))

@@ -22,20 +22,59 @@ Inv-loop left₀ right₀ scratch₀ left-length right-length budget left-side�
 abbrev μ-loop : tie.MeasureT-loop
 μ-loop left₀ right₀ scratch₀ left-length right-length budget left-side₀ right-side₀ room₀ agree₀ spent₀ left right scratch left-side right-side room agree spent = budget - spent
 
+-- The places of a turn, each from the next one.
+abbrev called : tie.At-loop Inv-loop μ-loop → tie.Start Inv-loop μ-loop
+called p = p .before .before .before .before .before .before
+
+abbrev turn : tie.After-agreeing Inv-loop μ-loop → tie.At-loop Inv-loop μ-loop
+turn p = p .before .before .before
+
+abbrev compared : tie.After-find Inv-loop μ-loop → tie.After-agreeing Inv-loop μ-loop
+compared p = p .before .before .before
+
+abbrev left-found : tie.After-find2 Inv-loop μ-loop → tie.After-find Inv-loop μ-loop
+left-found p = p .before .before .before .before .before
+
+abbrev right-found : tie.After-judge Inv-loop μ-loop → tie.After-find2 Inv-loop μ-loop
+right-found p = p .before .before .before .before
+
+abbrev counted : tie.After-agreed Inv-loop μ-loop → tie.After-count Inv-loop μ-loop
+counted p = p .before .before .before
+
+abbrev agreed : tie.After-advance Inv-loop μ-loop → tie.After-agreed Inv-loop μ-loop
+agreed p = p .before .before .before .before
+
+abbrev left-moved : tie.After-room3 Inv-loop μ-loop → tie.After-advance Inv-loop μ-loop
+left-moved p = p .before .before .before .before .before .before .before .before
+
+abbrev right-moved : tie.After-room4 Inv-loop μ-loop → tie.After-advance2 Inv-loop μ-loop
+right-moved p = p .before .before .before .before .before
+
+first-requires : tie.Need-first-requires Inv-loop μ-loop
+first-requires c κs = search needs
+
+first-requires-2 : tie.Need-first-requires-2 Inv-loop μ-loop
+first-requires-2 c κs = search needs
+
 loop-holds : tie.Need-loop-holds Inv-loop μ-loop
-loop-holds c = going-first (c .before .before .before .args .budget) (c .before .before .before .pre) (omega arith)
+loop-holds c =
+    let s = c .before .before .before .before .before in
+    rw (c .before .first .ensures, c .first2 .ensures) (going-first (s .args .budget) (s .pre) (omega arith))
 
 agreeing-requires : tie.Need-agreeing-requires Inv-loop μ-loop
 agreeing-requires c κs = compares (c .before .before .loop .inv)
 
 find-requires : tie.Need-find-requires Inv-loop μ-loop
-find-requires c κs = (c .before .before .before .before .before .loop .inv .left-searched, left-room (c .before .before .before .before .before .loop .inv))
+find-requires c κs = let g = turn (c .before .before) .loop .inv in (g .left-searched, left-room g)
 
 find-requires-2 : tie.Need-find-requires-2 Inv-loop μ-loop
-find-requires-2 c κs = (c .before .before .before .before .before .before .before .before .before .before .loop .inv .right-searched, right-room (c .before .before .before .before .before .before .before .before .before .before .loop .inv) (c .before .before .before .before .find .last .1 .1 .1 .0) (c .before .before .before .before .find .kept .1 .1 .1 .0))
+find-requires-2 c κs =
+    let f = c .before .before .before .before in
+    let g = turn (compared f) .loop .inv in
+    (g .right-searched, right-room g (f .find .last .1 .1 .1 .0) (f .find .kept .1 .1 .1 .0))
 
 sub-judge : tie.Need-sub-judge Inv-loop μ-loop
-sub-judge c = c .before .before .before .before .before .before .before .before .before .before .before .before .before .before .loop .inv .within
+sub-judge c = turn (compared (left-found (c .before .before .before))) .loop .inv .within
 
 judge-requires : tie.Need-judge-requires Inv-loop μ-loop
 judge-requires c κs = search needs
@@ -43,94 +82,117 @@ judge-requires c κs = search needs
 enum-known-verdict : tie.Need-enum-known-verdict Inv-loop μ-loop
 enum-known-verdict c = search needs
 
--- The turn in which a judgement is made, and the call that it belongs to.
+-- What is known where a round is judged: the turn and the call that it belongs to, and what the calls before it tell.
 module _ (c : tie.After-judge Inv-loop μ-loop) where
-  abbrev turn : tie.At-loop Inv-loop μ-loop
-  turn = c .before .before .before .before .before .before .before .before .before .before .before .before .before .before .before
+  abbrev left-search : tie.After-find Inv-loop μ-loop
+  left-search = left-found (right-found c)
+
+  abbrev here : tie.At-loop Inv-loop μ-loop
+  here = turn (compared left-search)
 
   abbrev call : tie.Start Inv-loop μ-loop
-  call = c .before .before .before .before .before .before .before .before .before .before .before .before .before .before .before .before .before .before .before
+  call = called here
 
-  shares : c .before .before .before .before .before .before .before .before .before .before .before .before .agreeing .result
-      ≡ common (take (turn .loop .left-side .length) (turn .loop .left)) (take (turn .loop .right-side .length) (turn .loop .right))
-  shares = c .before .before .before .before .before .before .before .before .before .before .before .before .agreeing .ensures
+  shares : compared left-search .agreeing .result
+      ≡ common (take (here .loop .left-side .length) (here .loop .left)) (take (here .loop .right-side .length) (here .loop .right))
+  shares = compared left-search .agreeing .ensures
 
-  left-plan : planOf (c .before .before .before .before .before .before .before .before .before .find .result) ≡ planned (held (turn .loop .left) (turn .loop .left-side .length))
-  left-plan = plan-is (turn .loop .left) (turn .loop .left-side .length) (c .before .before .before .before .before .before .before .before .before .find .result) (c .before .before .before .before .before .before .before .before .before .find .ensures .0)
+  left-plan : planOf (left-search .find .result) ≡ planned (held (here .loop .left) (here .loop .left-side .length))
+  left-plan = plan-is (here .loop .left) (here .loop .left-side .length) (left-search .find .result) (left-search .find .ensures .0)
 
-  right-plan : planOf (c .before .before .before .before .find2 .result) ≡ planned (held (turn .loop .right) (turn .loop .right-side .length))
-  right-plan = plan-is (turn .loop .right) (turn .loop .right-side .length) (c .before .before .before .before .find2 .result) (c .before .before .before .before .find2 .ensures .0)
+  right-plan : planOf (right-found c .find2 .result) ≡ planned (held (here .loop .right) (here .loop .right-side .length))
+  right-plan = plan-is (here .loop .right) (here .loop .right-side .length) (right-found c .find2 .result) (right-found c .find2 .ensures .0)
 
   -- The searches keep the scratch's length.
-  scratch-same : length (c .before .before .before .before .find2 .last .1 .1 .1 .0) ≡ length (turn .loop .scratch)
-  scratch-same = c .before .before .before .before .find2 .kept .1 .1 .1 .0 ∙ c .before .before .before .before .before .before .before .before .before .find .kept .1 .1 .1 .0
+  scratch-same : length (right-found c .find2 .last .1 .1 .1 .0) ≡ length (here .loop .scratch)
+  scratch-same = right-found c .find2 .kept .1 .1 .1 .0 ∙ left-search .find .kept .1 .1 .1 .0
 
   -- The judged round of the rounds' definition.
   abbrev Judged : Round → Type 0
   Judged x =
-      roundBy same (length (call .args .left .now)) (call .args .budget - turn .loop .spent) (held (turn .loop .left) (turn .loop .left-side .length))
-      (held (turn .loop .right) (turn .loop .right-side .length)) ≡ x
+      roundBy same (length (call .args .left .now)) (call .args .budget - here .loop .spent) (held (here .loop .left) (here .loop .left-side .length))
+      (held (here .loop .right) (here .loop .right-side .length)) ≡ x
 
   the-round : {x : Round} → roundOf (c .judge .result) ≡ x → Judged x
-  the-round e = judged (turn .loop .inv) shares left-plan right-plan (sym e ∙ c .judge .ensures)
+  the-round e = judged (here .loop .inv) shares left-plan right-plan (sym e ∙ c .judge .ensures)
 
 same-length : tie.Need-same-length Inv-loop μ-loop
-same-length c = turn (c .before .before .before) .loop .inv .left-kept
+same-length c = here (c .before .before .before) .loop .inv .left-kept
 
 same-length-2 : tie.Need-same-length-2 Inv-loop μ-loop
-same-length-2 c = turn (c .before .before .before) .loop .inv .right-kept
+same-length-2 c = here (c .before .before .before) .loop .inv .right-kept
 
 same-length-3 : tie.Need-same-length-3 Inv-loop μ-loop
-same-length-3 c = scratch-same (c .before .before .before) ∙ turn (c .before .before .before) .loop .inv .scratch-kept
+same-length-3 c = let j = c .before .before .before in scratch-same j ∙ here j .loop .inv .scratch-kept
 
 returns : tie.Need-returns Inv-loop μ-loop
-returns c = ran (turn (c .before .before .before) .loop .inv) (scratch-same (c .before .before .before)) (the-round (c .before .before .before) (ap roundOf (c .before .verdict .given .1)))
+returns c =
+    let j = c .before .before .before in
+    ran (here j .loop .inv) (scratch-same j) (the-round j (ap roundOf (c .before .verdict .given .1)))
 
 enum-known-count : tie.Need-enum-known-count Inv-loop μ-loop
 enum-known-count c = search needs
 
-goes-on : (c : tie.After-count Inv-loop μ-loop) → Judged (c .before .before) (goes (c .count .given .0 .0))
-goes-on c = the-round (c .before .before) (ap roundOf (c .count .given .1))
+-- A round that goes on, from the place where its contractions are counted.
+abbrev judgement : tie.After-count Inv-loop μ-loop → tie.After-judge Inv-loop μ-loop
+judgement c = c .before .before
+
+goes-on : (c : tie.After-count Inv-loop μ-loop) → Judged (judgement c) (goes (c .count .given .0 .0))
+goes-on c = the-round (judgement c) (ap roundOf (c .count .given .1))
 
 agreed-requires : tie.Need-agreed-requires Inv-loop μ-loop
-agreed-requires c κs = let j = c .before .before .before .before in agreeing (turn j .loop .inv) (shares j) (left-plan j) (right-plan j)
+agreed-requires c κs = let j = judgement (c .before .before) in agreeing (here j .loop .inv) (shares j) (left-plan j) (right-plan j)
 
 slice-aggregate-advance : tie.Need-slice-aggregate-advance Inv-loop μ-loop
-slice-aggregate-advance c = omega (arith, c .before .before .before .before .before .before .before .before .before .before .before .before .before .before .before .before .before .before .before .before .before .before .before .loop .inv .room-length)
+slice-aggregate-advance c = omega (arith, here (judgement (counted (c .before .before .before))) .loop .inv .room-length)
 
 advance-requires : tie.Need-advance-requires Inv-loop μ-loop
-advance-requires c κs = let j = c .before .before .before .before .before .before .before .before in left-advances (turn j .loop .inv) (goes-on (c .before .before .before .before .before .before)) (scratch-same j) (j .before .before .before .before .before .before .before .before .before .find .ensures .0)
+advance-requires c κs =
+    let n = counted (c .before .before .before) in
+    let j = judgement n in
+    left-advances (here j .loop .inv) (goes-on n) (scratch-same j) (left-search j .find .ensures .0)
 
 slice-aggregate-advance-2 : tie.Need-slice-aggregate-advance-2 Inv-loop μ-loop
-slice-aggregate-advance-2 c = omega (arith, c .before .before .before .before .before .before .before .before .advance .kept .1 .1 .1 .1 .0, c .before .before .before .before .before .before .before .before .before .before .before .before .before .before .before .before .before .before .before .before .before .before .before .before .before .before .before .before .before .before .before .before .loop .inv .room-length)
+slice-aggregate-advance-2 c =
+    let m = left-moved c in
+    omega (arith, m .advance .kept .1 .1 .1 .1 .0, here (judgement (counted (agreed m))) .loop .inv .room-length)
 
 advance-requires-2 : tie.Need-advance-requires-2 Inv-loop μ-loop
 advance-requires-2 c κs =
-    let j = c .before .before .before .before .before .before .before .before .before .before .before .before .before .before .before .before .before in
-    let a = c .before .before .before .before .before .before .before .before .advance in
-    right-advances (turn j .loop .inv) (goes-on (c .before .before .before .before .before .before .before .before .before .before .before .before .before .before .before)) (a .kept .0) (a .kept .1 .1 .1 .0 ∙ scratch-same j) (a .ensures .0)
-    (omega (arith, a .kept .1 .1 .1 .1 .0, turn j .loop .inv .room-length)) (j .before .before .before .before .find2 .ensures .0)
+    let m = left-moved c in
+    let n = counted (agreed m) in
+    let j = judgement n in
+    let a = m .advance in
+    right-advances (here j .loop .inv) (goes-on n) (a .kept .0) (a .kept .1 .1 .1 .0 ∙ scratch-same j) (a .ensures .0)
+    (omega (arith, a .kept .1 .1 .1 .1 .0, here j .loop .inv .room-length)) (right-found j .find2 .ensures .0)
+
+-- The place where the left side has moved, from the end of the turn.
+abbrev moved : tie.After-room4 Inv-loop μ-loop → tie.After-advance Inv-loop μ-loop
+moved c = left-moved (right-moved c .before)
 
 add-spent : tie.Need-add-spent Inv-loop μ-loop
 add-spent c =
-    let j = c .before .before .before .before .before .before .before .before .before .before .before .before .before .before .before .before .before .before .before .before .before .before .before in
-    let s = spends (turn j .loop .inv) (goes-on (c .before .before .before .before .before .before .before .before .before .before .before .before .before .before .before .before .before .before .before .before .before)) in
-    omega (arith, s .0, s .1, turn j .loop .inv .within, call j .fits .budget)
+    let n = counted (agreed (moved c)) in
+    let j = judgement n in
+    let s = spends (here j .loop .inv) (goes-on n) in
+    omega (arith, s .0, s .1, here j .loop .inv .within, call j .fits .budget)
 
 loop-less : tie.Need-loop-less Inv-loop μ-loop
 loop-less c =
-    let j = c .before .before .before .before .before .before .before .before .before .before .before .before .before .before .before .before .before .before .before .before .before .before .before in
-    let s = spends (turn j .loop .inv) (goes-on (c .before .before .before .before .before .before .before .before .before .before .before .before .before .before .before .before .before .before .before .before .before)) in
-    omega (arith, s .0, s .1, turn j .loop .inv .within, call j .fits .budget)
+    let n = counted (agreed (moved c)) in
+    let j = judgement n in
+    let s = spends (here j .loop .inv) (goes-on n) in
+    omega (arith, s .0, s .1, here j .loop .inv .within, call j .fits .budget)
 
 loop-again : tie.Need-loop-again Inv-loop μ-loop
 loop-again c =
-    let j = c .before .before .before .before .before .before .before .before .before .before .before .before .before .before .before .before .before .before .before .before .before .before .before in
-    let a = c .before .before .before .before .before .before .before .before .before .before .before .before .before .before .advance in
-    let b = c .before .before .before .before .before .advance2 in
-    going-on (turn j .loop .inv) (goes-on (c .before .before .before .before .before .before .before .before .before .before .before .before .before .before .before .before .before .before .before .before .before)) (a .kept .0) (a .kept .1 .1 .1 .0 ∙ scratch-same j) (a .ensures .0) (b .kept .0) (b .kept .1 .1 .1 .0) (b .ensures .0)
-    (omega (arith, a .kept .1 .1 .1 .1 .0, b .kept .1 .1 .1 .1 .0, turn j .loop .inv .room-length))
-    (shares j) (left-plan j) (right-plan j) (c .before .before .before .before .before .before .before .before .before .before .before .before .before .before .before .before .before .before .agreed .ensures)
+    let n = counted (agreed (moved c)) in
+    let j = judgement n in
+    let a = moved c .advance in
+    let b = right-moved c .advance2 in
+    going-on (here j .loop .inv) (goes-on n) (a .kept .0) (a .kept .1 .1 .1 .0 ∙ scratch-same j) (a .ensures .0) (b .kept .0) (b .kept .1 .1 .1 .0) (b .ensures .0)
+    (omega (arith, a .kept .1 .1 .1 .1 .0, b .kept .1 .1 .1 .1 .0, here j .loop .inv .room-length))
+    (shares j) (left-plan j) (right-plan j) (agreed (moved c) .agreed .ensures)
 
 pub run-spec : {M : Type 1} → statement M
 run-spec =
@@ -138,6 +200,8 @@ run-spec =
     (tie.spec
     Inv-loop
     μ-loop
+    first-requires
+    first-requires-2
     loop-holds
     agreeing-requires
     find-requires

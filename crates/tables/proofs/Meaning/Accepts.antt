@@ -28,7 +28,7 @@ use Rattle.records.specs.Children.{children, numberFits, subjectFirst, sortsFit
 use Rattle.tables.specs.FreeNumbers.{freeFits}
 use Rattle.tables.proofs.Meaning.Nodes.{tag-fits, node-accepted, node-scoped}
 use Rattle.tables.proofs.Meaning.Held.{held}
-use Rattle.records.proofs.LinkRules.{Linked, children-enough}
+use Rattle.records.proofs.LinkRules.{Linked}
 use Rattle.tables.proofs.Meaning.ChainMeaning.{terms-chain, case-chain}
 use Rattle.records.proofs.Fits.{Valued, Fitted}
 
@@ -37,7 +37,7 @@ module _ (T : Table) (L : Linked T) (values : Valued T) (fits : Fitted T) where
   unfolding childrenFit
   number-fits {i} {kind} k m =
       let tested = and-eq-true-iff (numberFits kind (length (children T i))) (sortsFit kind (children T i)) .0 (rw (k .2) at (fits .children-fit i (k .0) (k .1))) .0 in
-      rw (terms-chain T L m (T .n) (children-enough T L i (k .0) (k .1)) .0) at tested
+      rw (terms-chain T L m .0) at tested
 
   value-of : {i kind : ℕ} → OfKind T kind i → valueFits kind (T .at i .value) ≡ true
   value-of {i} k = rw (k .2) at (values .value-fits i (k .0) (k .1))
@@ -49,7 +49,7 @@ module _ (T : Table) (L : Linked T) (values : Valued T) (fits : Fitted T) where
       let rs = children T i in
       let both = and-eq-true-iff (numberFits caseKind (length rs)) (subjectFirst rs) .0 (rw (k .2) at (fits .children-fit i (k .0) (k .1))) in
       let most = leb-true (length rs) (suc branchLimit) (and-eq-true-iff (leb 1 (length rs)) (leb (length rs) (suc branchLimit)) .0 (both .0) .1) in
-      let counted = case-chain T L m ms (T .n) (children-enough T L i (k .0) (k .1)) in
+      let counted = case-chain T L m ms in
       (omega (arith, counted .0), counted .1 .0 (both .1))
 
   branch-fits : {i : ℕ} → OfKind T branchKind i → IsTag (tagOf (T .at i .value)) × (countOf (T .at i .value) ≤ argumentLimit)

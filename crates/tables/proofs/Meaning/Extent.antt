@@ -9,10 +9,9 @@ use native.Mathlib.Omega.{arith}
 use lib.ListN.{length-append}
 use Rattle.calculus.specs.Term.{Sort, term, terms, branches, Exp}
 use Rattle.calculus.specs.Words.{words, size}
-use Rattle.records.specs.Records.{Table, sumOf}
+use Rattle.records.specs.Records.{Table, sumOf, hanging}
 use Rattle.tables.specs.Meaning.{Means, plain, case-of, no-term, a-term, no-branch, a-branch}
 use Rattle.records.specs.Links.{naming, namings}
-use Rattle.records.specs.Records.{hanging}
 use Rattle.records.proofs.Sums.{sum-eq, sum-ones, sum-add, sum-times, sum-swap, sum-unnamed, sum-named}
 use Rattle.records.proofs.LinkRules.{Ahead, Linked}
 use Rattle.tables.proofs.Meaning.Nodes.{node-size}

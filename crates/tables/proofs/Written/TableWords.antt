@@ -4,8 +4,7 @@ use mathlib.Core.Path.{_≡_, refl, sym, ap, ap₂, _∙_}
 use mathlib.Core.List.{List, [], _∷_}
 use native.Mathlib.Omega.{arith}
 use lib.ListN.{length, getD}
-use Rattle.records.specs.Records.{Record, Table, recordAt, form1, inForm1, recordsWords}
-use Rattle.records.specs.Records.{entry}
+use Rattle.records.specs.Records.{Record, Table, recordAt, form1, inForm1, recordsWords, entry}
 use Rattle.records.proofs.RecordLaws.{entry-path}
 use Rattle.tables.proofs.Written.Standing.{Stand}
 

@@ -13,13 +13,12 @@ use Rattle.calculus.specs.Words.{size, workspaceMost}
 use Rattle.calculus.specs.Accepted.{Accepted}
 use Rattle.calculus.proofs.WordLaws.{accepted-scoped, size-positive, accepted-packable}
 use Rattle.calculus.proofs.Indices.{indices-bounded}
-use Rattle.records.specs.Records.{form1, recordAt, inForm1, view}
+use Rattle.records.specs.Records.{form1, recordAt, inForm1, view, entry}
 use Rattle.tables.specs.Meaning.{Means}
 use Rattle.records.specs.Header.{wrongWorkspace, wrongLength, wrongHeader}
 use Rattle.records.specs.Links.{wrongLink}
 use Rattle.tables.specs.FreeNumbers.{wrongFree}
 use Rattle.tables.specs.PrefixOrder.{nothing, InPrefixOrder}
-use Rattle.records.specs.Records.{entry}
 use Rattle.tables.specs.Write.{records, tableOf}
 use Rattle.records.proofs.Tests.{record-isRecord}
 use Rattle.records.proofs.LinkRules.{linked-passes}

@@ -34,9 +34,6 @@ add-passed c =
     let start = c .before .before .before .before in
     omega (arith, ap length (here c .goes-on), walk-short _ _ (start .pre), sized _ (start .pre .length-fits), c .before .before .loop .inv .1)
 
-loop-less : tie.Need-loop-less Inv-loop μ-loop
-loop-less c = omega (arith, ap length (here c .goes-on))
-
 loop-again : tie.Need-loop-again Inv-loop μ-loop
 loop-again c = (here c .after, omega (arith, ap length (here c .goes-on), c .before .before .loop .inv .1))
 
@@ -46,4 +43,4 @@ returns c =
     omega (arith, ap length (chain-end T _ (c .loop-test .left)), c .before .loop .inv .1)
 
 pub chain-length-spec : {M : Type 1} → statement M
-chain-length-spec = tie.close (tie.spec Inv-loop μ-loop loop-holds at-requires add-passed loop-less loop-again returns)
+chain-length-spec = tie.close (tie.spec Inv-loop μ-loop loop-holds at-requires add-passed (λ c. omega (arith, ap length (here c .goes-on))) loop-again returns)

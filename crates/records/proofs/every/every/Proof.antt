@@ -8,7 +8,7 @@ use Rattle.records.specs.Records.{everyOf}
 use Rattle.records.specs.Every.{asked}
 use Rattle.records.specs.Types.{viewed}
 use Rattle.records.proofs.RecordLaws.{headed}
-use Rattle.records.proofs.Loops.{every-more, every-fails, every-end}
+use Rattle.records.proofs.Sums.{every-more, every-fails, every-end}
 use Rattle.records.proofs.every.every.Statement.{statement}
 use Rattle.records.proofs.every.every.Tie as tie
 

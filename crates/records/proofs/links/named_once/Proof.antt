@@ -8,7 +8,7 @@ use Rattle.calculus.specs.Words.{workspaceMost}
 use Rattle.records.specs.Links.{more, counted, namings}
 use Rattle.records.specs.Types.{stored, viewed}
 use Rattle.records.proofs.RecordLaws.{headed}
-use Rattle.records.proofs.Loops.{every-eq}
+use Rattle.records.proofs.Sums.{every-eq}
 use Rattle.records.proofs.Namings.{Begun, begun}
 use Rattle.records.proofs.links.named_once.Statement.{statement}
 use Rattle.records.proofs.links.named_once.Tie as tie

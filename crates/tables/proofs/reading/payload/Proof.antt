@@ -4,21 +4,6 @@ use borrow.Author.Tests.{ne-eqb}
 use Rattle.tables.proofs.reading.payload.Statement.{statement}
 use Rattle.tables.proofs.reading.payload.Tie as tie
 
-mul-result : tie.Need-mul-result
-mul-result c = omega (arith, rw (c .match .keys1) at (c .before .pre .payload-fits))
-
-cast-result : tie.Need-cast-result
-cast-result c = omega (arith, rw (c .match .keys1) at (c .before .pre .payload-fits))
-
-add-result : tie.Need-add-result
-add-result c = omega (arith, rw (c .match .keys1) at (c .before .pre .payload-fits))
-
-cast-result-2 : tie.Need-cast-result-2
-cast-result-2 c = omega (arith, rw (c .match .keys2) at (c .before .pre .payload-fits))
-
-sub-result : tie.Need-sub-result
-sub-result c = c .before .pre .subject (c .match .keys2)
-
 returns : tie.Need-returns
 returns c = rw (c .match .keys1)
 
@@ -30,4 +15,4 @@ returns-3 c = let r = c .match .rest in rw (ne-eqb _ 3 (r .0 .1), ne-eqb _ 4 (r 
 
 pub payload-spec : {M : Type 1} → statement M
 payload-spec =
-    tie.close (tie.spec mul-result cast-result add-result cast-result-2 sub-result returns returns-2 returns-3)
+    tie.close (tie.spec (λ c. omega (arith, rw (c .match .keys1) at (c .before .pre .payload-fits))) (λ c. omega (arith, rw (c .match .keys1) at (c .before .pre .payload-fits))) (λ c. omega (arith, rw (c .match .keys1) at (c .before .pre .payload-fits))) (λ c. omega (arith, rw (c .match .keys2) at (c .before .pre .payload-fits))) (λ c. c .before .pre .subject (c .match .keys2)) returns returns-2 returns-3)
