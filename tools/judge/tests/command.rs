@@ -247,6 +247,20 @@ fn without_a_repository_or_a_program_there_is_nothing_to_run() {
     );
 }
 
+#[test]
+fn a_folder_that_is_no_repository_is_left_alone() {
+    let other = Path::new(env!("CARGO_TARGET_TMPDIR")).join("other");
+    fs::create_dir_all(&other).expect("a folder");
+    for path in [other.to_str().expect("text"), "/no/such/folder"] {
+        let message = refused(3, &["--repository", path, "0", "0"]);
+        assert_eq!(
+            message,
+            format!("judge: {path} is no repository: it has no crates.txt\n")
+        );
+    }
+    assert!(!other.join("target").exists());
+}
+
 /// Stands in for rt: builds a program from the file `source` unless its stamp is of that source.
 const RT: &str = "#!/bin/sh
 [ \"$*\" = 'check verdict' ] || exit 2
@@ -395,7 +409,10 @@ fn a_refusal_names_side_and_reason() {
             "5",
             "more than 15 arguments or branches, or branch tags that do not rise",
         ),
-        ("6", "a free number is above 255"),
+        (
+            "6",
+            "a free number, an index less the binders around it, is above 255",
+        ),
         ("8", "3 words are more than C, which is 2048"),
     ] {
         for (side, terms) in [("left", [wrong, right]), ("right", [right, wrong])] {
