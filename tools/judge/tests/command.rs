@@ -14,6 +14,8 @@ const ECHO: &str = "#!/bin/sh\necho $(od -An -v -tu4)\n";
 /// Prints a line without reading its input.
 const DEAF: &str = "#!/bin/sh\nexec <&-\necho Input\n";
 const SILENT: &str = "#!/bin/sh\ncat >/dev/null\n";
+const BLANK: &str = "#!/bin/sh\ncat >/dev/null\necho\n";
+const NO_LINE_END: &str = "#!/bin/sh\ncat >/dev/null\nprintf 'Same 0 1 1'\n";
 const TWO_LINES: &str = "#!/bin/sh\ncat >/dev/null\necho Same\necho Same\n";
 const FAILING: &str = "#!/bin/sh\ncat >/dev/null\necho Same 0 1 1\nexit 3\n";
 /// Prints its budget as a line's number: `Refused 6`, or a verdict.
@@ -40,6 +42,8 @@ fn repository() -> &'static Path {
             ("verdict", ECHO),
             ("deaf", DEAF),
             ("silent", SILENT),
+            ("blank", BLANK),
+            ("no-line-end", NO_LINE_END),
             ("two-lines", TWO_LINES),
             ("failing", FAILING),
             ("lines", LINES),
@@ -219,6 +223,8 @@ fn a_program_may_stop_reading() {
 fn a_program_that_prints_no_line_is_status_3() {
     for (name, reason) in [
         ("silent", "printed something else than one line"),
+        ("blank", "printed something else than one line"),
+        ("no-line-end", "printed something else than one line"),
         ("two-lines", "printed something else than one line"),
         ("failing", "failed: exit status: 3"),
         ("not-executable", "cannot be run: Permission denied"),
@@ -261,9 +267,11 @@ fn a_folder_that_is_no_repository_is_left_alone() {
     assert!(!other.join("target").exists());
 }
 
-/// Stands in for rt: builds a program from the file `source` unless its stamp is of that source.
+/// Stands in for rt: builds a program from the file `source` unless its stamp is of that source. What
+/// stands on standard input is not for it.
 const RT: &str = "#!/bin/sh
 [ \"$*\" = 'check verdict' ] || exit 2
+[ -z \"$(cat)\" ] || exit 2
 grep -q slow source && sleep 2.5
 if cmp -s source target/stamp/verdict; then
     echo 'rt: verdict proved (unchanged since it was last proved)'
@@ -275,6 +283,7 @@ if grep -q wrong source; then
     echo 'rt: verdict NOT PROVED (exit 1, 3 s)'
     exit 1
 fi
+grep -q nothing source && exit
 mkdir -p target/bin target/stamp
 { echo '#!/bin/sh'; cat source; } >target/bin/verdict
 chmod +x target/bin/verdict
@@ -302,10 +311,12 @@ impl Repository {
             repository().join("commands").into_os_string(),
             path_without_rt(),
         ];
+        let input = fs::File::open(self.root.join("source"));
         let output = Command::new(env!("CARGO_BIN_EXE_judge"))
             .args(["0", "0"])
             .current_dir(&self.root)
             .env("PATH", path.join(":".as_ref()))
+            .stdin(input.expect("an input for nobody"))
             .output()
             .expect("judge runs");
         answer(output)
@@ -372,6 +383,16 @@ fn a_changed_source_is_judged_by_a_new_program() {
     assert!(message.contains("judge: verdict NOT PROVED (exit 1, 3 s)\n"));
     assert!(message.contains("did not build target/bin/verdict from these sources"));
     assert!(message.contains("Its log is "), "{message}");
+}
+
+#[test]
+fn a_build_that_leaves_no_program_is_said() {
+    let repository = Repository::new("nothing", "nothing");
+    let (status, output, message) = repository.judge();
+    assert_eq!((status, output.as_str()), (3, ""));
+    assert!(message.starts_with(
+        "judge: `rt check verdict` did not build target/bin/verdict from these sources: exit status: 0\n"
+    ), "{message}");
 }
 
 #[test]
@@ -535,6 +556,10 @@ fn word_errors_name_the_place() {
         "judge: word 2: expected a number from 0 to 4294967295, found ``\n"
     );
     assert_eq!(
+        refused(2, &["--text", "1,0,,"]),
+        "judge: word 3: expected a number from 0 to 4294967295, found ``\n"
+    );
+    assert_eq!(
         refused(2, &["--text", "2", "x"]),
         "judge: word 2: expected a number from 0 to 4294967295, found `x`\n"
     );
@@ -571,5 +596,7 @@ fn help_is_short() {
         assert!(help.contains(option), "{option}");
     }
     assert_eq!(judge(&["0", "-h"]).1, help);
-    assert_eq!(judge(&["--version"]), printed("judge 0.1.0"));
+    for option in ["--version", "-V"] {
+        assert_eq!(judge(&[option]), printed("judge 0.1.0"));
+    }
 }
