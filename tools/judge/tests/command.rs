@@ -149,6 +149,7 @@ fn after_two_dashes_nothing_is_an_option() {
     assert_eq!(judge(&["--", "0", "1"]), line);
     assert_eq!(judge(&["0", "--", "1"]), line);
     assert!(refused(2, &["--", "--budget", "1"]).starts_with("judge: left term, column 1: "));
+    assert!(refused(2, &["--", "0", "--help"]).starts_with("judge: right term, column 1: "));
 }
 
 #[test]
@@ -435,6 +436,7 @@ fn a_refusal_names_side_and_reason() {
             "a free number, an index less the binders around it, is above 255",
         ),
         ("8", "3 words are more than C, which is 2048"),
+        ("10", "refusal 10"),
     ] {
         for (side, terms) in [("left", [wrong, right]), ("right", [right, wrong])] {
             let arguments = ["--program", "target/bin/sides", "--budget", number];
