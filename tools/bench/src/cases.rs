@@ -298,4 +298,30 @@ mod tests {
             }
         }
     }
+
+    #[test]
+    fn a_point_stands_at_the_words_that_it_names() {
+        for Point { x, case } in growing_touched() {
+            // The redex is the whole term, and so is what replaces it.
+            let next = x - case.left.length();
+            assert_eq!(flat::line(&case.input(1)), format!("Budget 1 {next} 1"));
+        }
+        for Point { x, case } in growing_untouched() {
+            assert_eq!(case.left.length(), x + 9);
+        }
+    }
+
+    #[test]
+    fn the_stack_is_measured_on_both_sides_and_the_left_table() {
+        let case = Case::new(
+            "pair".to_string(),
+            r"\0",
+            "7",
+            "Different 0 2 1".to_string(),
+        );
+        let (left, right, table) = ([1, 0], [56], [1, 2, 1, 0, 1, 0, 2, 0, 0, 0, 0, 0]);
+        let words = [&[5, C, 2][..], &left, &[1], &right, &[12], &table].concat();
+        let bytes: Vec<u8> = words.into_iter().flat_map(u32::to_le_bytes).collect();
+        assert_eq!(case.words(5), bytes);
+    }
 }

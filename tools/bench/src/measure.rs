@@ -124,8 +124,14 @@ impl Counted {
     fn instructions(&self, program: &Path, counter: Counter) -> Option<f64> {
         let run = counter.count(program, &self.input)?;
         let without = counter.count(program, &self.without)?;
-        Some((run as f64 - without as f64) / f64::from(spent(&self.line).max(1)))
+        Some(each_contraction(run, without, &self.line))
     }
+}
+
+/// What one run has more than another, for each contraction of its line or, without one, for the
+/// press.
+fn each_contraction(run: u64, without: u64, line: &str) -> f64 {
+    (run as f64 - without as f64) / f64::from(spent(line).max(1))
 }
 
 #[cfg(test)]
@@ -136,5 +142,23 @@ mod tests {
     fn spent_is_the_second_field() {
         assert_eq!(spent("Same 2 1 1"), 2);
         assert_eq!(spent("Input"), 0);
+    }
+
+    #[test]
+    fn instructions_are_those_of_the_press() {
+        assert_eq!(each_contraction(1_100, 100, "Budget 10 9 1"), 100.0);
+        assert_eq!(each_contraction(1_100, 100, "Different 0 1 1"), 1_000.0);
+        assert_eq!(each_contraction(100, 150, "Same 2 1 1"), -25.0);
+    }
+
+    #[test]
+    fn another_line_is_an_error() {
+        let shell = Path::new("/bin/sh");
+        let input = input_file("checked", b"echo Same 2 1 1").expect("an input");
+        assert!(checked(shell, &input, "Same 2 1 1").is_ok());
+        assert_eq!(
+            checked(shell, &input, "Same 2 1 2").err().as_deref(),
+            Some("/bin/sh printed `Same 2 1 1` instead of `Same 2 1 2`")
+        );
     }
 }

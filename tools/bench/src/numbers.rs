@@ -36,6 +36,7 @@ mod tests {
         assert_eq!(rounded(1.0), "1.00");
         assert_eq!(rounded(12.34), "12.3");
         assert_eq!(rounded(123.4), "123");
+        assert_eq!(rounded(999.6), "1,000");
         assert_eq!(rounded(12_345.0), "12,300");
         assert_eq!(rounded(6_337_000.0), "6,340,000");
     }

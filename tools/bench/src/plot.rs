@@ -182,4 +182,53 @@ mod tests {
         }
         assert!(svg.ends_with("</svg>\n"));
     }
+
+    #[test]
+    fn every_point_stands_where_its_numbers_say() {
+        // One y axis, from 10 to 1,000; the x axes go from 1 to 10 and from 1 to 100.
+        let first = Panel {
+            title: "first",
+            x_axis: "x",
+            lines: [
+                vec![(1.0, 10.0), (10.0, 1_000.0)],
+                vec![(10.0, 100.0)],
+                vec![(1.0, 1_000.0)],
+            ],
+        };
+        let second = Panel {
+            title: "second",
+            x_axis: "x",
+            lines: [
+                vec![(1.0, 100.0), (100.0, 10.0)],
+                vec![(10.0, 10.0)],
+                vec![(10.0, 100.0)],
+            ],
+        };
+        let svg = svg(&[first, second]);
+        assert!(svg.contains("viewBox=\"0 0 904 420\""), "{svg}");
+        // The first drawing goes from 72 to 432, the second from 520 to 880, both from 364 up to 64.
+        for (points, colour) in [
+            ("72.0,364.0 432.0,64.0", COLOURS[0]),
+            ("432.0,214.0", COLOURS[1]),
+            ("72.0,64.0", COLOURS[2]),
+            ("520.0,214.0 880.0,364.0", COLOURS[0]),
+            ("700.0,364.0", COLOURS[1]),
+            ("700.0,214.0", COLOURS[2]),
+        ] {
+            let line = format!("<polyline points=\"{points}\" fill=\"none\" stroke=\"{colour}\"");
+            assert!(svg.contains(&line), "{line}\n{svg}");
+        }
+        for (x, y, name) in [
+            (64.0, 368.0, "10"),
+            (64.0, 218.0, "100"),
+            (64.0, 68.0, "1,000"),
+            (432.0, 382.0, "10"),
+            (880.0, 382.0, "100"),
+        ] {
+            let mark = format!("<text x=\"{x:.1}\" y=\"{y:.1}\" ");
+            let is_there =
+                |line: &str| line.starts_with(&mark) && line.contains(&format!(">{name}<"));
+            assert!(svg.lines().any(is_there), "{mark}{name}\n{svg}");
+        }
+    }
 }

@@ -142,4 +142,22 @@ mod tests {
         let line = "<not supported>,,instructions:u,0,100.00,,";
         assert_eq!(perf.counted(line), None);
     }
+
+    #[test]
+    fn the_smallest_stack_limit_is_found() {
+        let least = |script: &str| {
+            let input = InputFile::new("stack-limit", script.as_bytes()).expect("an input");
+            stack_kib(Path::new("/bin/sh"), &input, "enough")
+        };
+        assert_eq!(
+            least("test $(ulimit -s) -ge 1001 && echo enough"),
+            Some(1_004)
+        );
+        assert_eq!(
+            least("test $(ulimit -s) -ge 8192 && echo enough"),
+            Some(8_192)
+        );
+        assert_eq!(least("test $(ulimit -s) -ge 8193 && echo enough"), None);
+        assert_eq!(least("echo something else"), None);
+    }
 }

@@ -54,18 +54,22 @@ impl Probe {
     pub fn measure(&self, case: &Case, budget: u32, line: &str) -> Result<Stack, String> {
         let input = InputFile::new("stack", &case.words(budget)).map_err(|e| e.to_string())?;
         let (printed, _) = line_of(&self.program, &input)?;
-        let numbers: Option<Vec<usize>> = printed.split(' ').map(|n| n.parse().ok()).collect();
-        match numbers.as_deref() {
-            Some(&[made, press, show, load, write]) if made == spent(line) as usize => Ok(Stack {
-                press,
-                show,
-                load,
-                write,
-            }),
-            _ => Err(format!(
-                "the stack's program printed `{printed}` for `{line}`"
-            )),
-        }
+        read(&printed, line)
+            .ok_or_else(|| format!("the stack's program printed `{printed}` for `{line}`"))
+    }
+}
+
+/// What the program measured, if it made the line's contractions.
+fn read(printed: &str, line: &str) -> Option<Stack> {
+    let numbers: Option<Vec<usize>> = printed.split(' ').map(|n| n.parse().ok()).collect();
+    match numbers.as_deref() {
+        Some(&[made, press, show, load, write]) if made == spent(line) as usize => Some(Stack {
+            press,
+            show,
+            load,
+            write,
+        }),
+        _ => None,
     }
 }
 
@@ -104,4 +108,23 @@ fn succeed(command: &mut Command) -> Result<(), String> {
         "{command:?} failed:\n{}",
         String::from_utf8_lossy(&said)
     ))
+}
+
+#[cfg(test)]
+mod tests {
+    use super::*;
+
+    #[test]
+    fn the_stack_of_each_call_is_read() {
+        let stack = Stack {
+            press: 10,
+            show: 20,
+            load: 30,
+            write: 40,
+        };
+        assert_eq!(read("2 10 20 30 40", "Same 2 1 1"), Some(stack));
+        assert_eq!(read("2 10 20 30 40", "Same 3 1 1"), None);
+        assert_eq!(read("2 10 20 30", "Same 2 1 1"), None);
+        assert_eq!(read("Refused 9", "Same 2 1 1"), None);
+    }
 }

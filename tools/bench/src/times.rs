@@ -53,8 +53,7 @@ pub fn times(case: &Case, programs: &Programs) -> Result<Each<Times>, String> {
             }
         }
         for (samples, [run, start]) in samples.iter_mut().zip(shortest) {
-            samples.runs.push(run);
-            samples.presses.push(run - start);
+            samples.take(run, start);
         }
     }
     Ok(samples.map(Samples::times))
@@ -69,6 +68,12 @@ struct Samples {
 }
 
 impl Samples {
+    /// Takes a run, and one that refuses the press.
+    fn take(&mut self, run: f64, start: f64) {
+        self.runs.push(run);
+        self.presses.push(run - start);
+    }
+
     fn times(mut self) -> Times {
         Times {
             run: median(&mut self.runs),
@@ -120,5 +125,27 @@ mod tests {
         assert_eq!(resolved(&mut [5.0, 5.0, 6.0]), Some(sure));
         assert_eq!(resolved(&mut [1.0, -1.0, 3.0, -3.0, 0.5]), None);
         assert_eq!(resolved(&mut [-1.0, -1.0]), None);
+    }
+
+    #[test]
+    fn the_standard_error_of_a_median() {
+        // The distances from 4 are 1, 0, 0, 2: their median is 0.5, and the root of four values 2.
+        let error = 1.4826 * 0.5 * 1.2533 / 2.0;
+        let sure = resolved(&mut [3.0, 4.0, 4.0, 6.0]).expect("it stands out");
+        assert_eq!(sure.value, 4.0);
+        assert!((sure.error - error).abs() < 1e-12);
+        // Two of its errors are not enough: the distances are 1 and 1, the error 1.31 and the value 3.
+        assert_eq!(resolved(&mut [2.0, 4.0]), None);
+    }
+
+    #[test]
+    fn a_press_is_a_run_less_its_start() {
+        let mut samples = Samples::default();
+        for (run, start) in [(5.0, 1.0), (7.0, 3.0), (9.0, 5.0)] {
+            samples.take(run, start);
+        }
+        let times = samples.times();
+        assert_eq!(times.run, 7.0);
+        assert_eq!(times.press.map(|press| press.value), Some(4.0));
     }
 }

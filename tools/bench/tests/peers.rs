@@ -80,6 +80,45 @@ fn both_sides_move_in_one_round() {
 }
 
 #[test]
+fn terms_that_differ_in_one_word() {
+    for (left, right, length) in [
+        ("0", "1", 1),
+        ("#1", "#2", 1),
+        ("#1[0]", "#2[0]", 2),
+        (r"\0", "#1[0]", 2),
+        (r"\0", "?0{}", 2),
+        ("0 1", "#1[0,1]", 3),
+        ("0 1", "0 2", 3),
+        ("1 0", "2 0", 3),
+        ("#1[0,1]", "#1[0,2]", 3),
+        ("?0{1.0:0}", "?1{1.0:0}", 4),
+        ("?0{1.0:0}", "?0{2.0:0}", 4),
+        ("?0{1.0:0}", "?0{1.1:0}", 4),
+        ("?0{1.0:0}", "?0{1.0:1}", 4),
+    ] {
+        let line = line(9, 16, left, right);
+        assert_eq!(
+            line,
+            format!("Different 0 {length} {length}"),
+            "{left} {right}"
+        );
+    }
+}
+
+#[test]
+fn fifteen_arguments_or_branches_are_the_most() {
+    let arguments = |count| format!("#1[{}]", vec!["0"; count].join(","));
+    assert_eq!(line(0, 64, &arguments(15), "0"), "Different 0 16 1");
+    assert_eq!(line(0, 64, &arguments(16), "0"), "Refused 5");
+    let branches = |count| {
+        let branches: Vec<String> = (1..=count).map(|tag| format!("{tag}.0:0")).collect();
+        format!("?0{{{}}}", branches.join(","))
+    };
+    assert_eq!(line(0, 64, &branches(15), "0"), "Different 0 32 1");
+    assert_eq!(line(0, 64, &branches(16), "0"), "Refused 5");
+}
+
+#[test]
 fn refused_tables() {
     for (number, table) in [
         (1, &[][..]),

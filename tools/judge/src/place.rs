@@ -9,9 +9,12 @@ const CUT: &str = "..";
 pub fn marked(text: &str, column: usize) -> String {
     let before = column - 1;
     let skipped = before.saturating_sub(AROUND);
-    let shown = |character: char| match character.is_control() {
-        true => ' ',
-        false => character,
+    // What takes no place of its own, or an unknown one, would move the rest.
+    let is_shown =
+        |character: char| character.is_ascii_graphic() || character.escape_debug().len() == 1;
+    let shown = |character: char| match is_shown(character) {
+        true => character,
+        false => ' ',
     };
     let length = text.chars().count();
     let end = length.min(column + AROUND);
@@ -34,8 +37,10 @@ mod tests {
     }
 
     #[test]
-    fn blanks_are_shown_as_spaces() {
+    fn what_cannot_be_seen_is_shown_as_a_space() {
         assert_eq!(marked("0\t\n)", 4), "    0  )\n       ^");
+        assert_eq!(marked("\u{feff}0", 1), "     0\n    ^");
+        assert_eq!(marked("0 \u{202e}'", 3), "    0  '\n      ^");
     }
 
     #[test]

@@ -77,7 +77,7 @@ fn of_term(number: &str, term: &Term, question: &Question) -> String {
         "5" => {
             format!("more than {MAX_COUNT} arguments or branches, or branch tags that do not rise")
         }
-        "6" => format!("a free number is above {MAX_FREE}"),
+        "6" => format!("a free number, an index less the binders around it, is above {MAX_FREE}"),
         "8" => format!(
             "{} words are more than C, which is {}",
             term.length(),

@@ -14,6 +14,8 @@ const ECHO: &str = "#!/bin/sh\necho $(od -An -v -tu4)\n";
 /// Prints a line without reading its input.
 const DEAF: &str = "#!/bin/sh\nexec <&-\necho Input\n";
 const SILENT: &str = "#!/bin/sh\ncat >/dev/null\n";
+const BLANK: &str = "#!/bin/sh\ncat >/dev/null\necho\n";
+const NO_LINE_END: &str = "#!/bin/sh\ncat >/dev/null\nprintf 'Same 0 1 1'\n";
 const TWO_LINES: &str = "#!/bin/sh\ncat >/dev/null\necho Same\necho Same\n";
 const FAILING: &str = "#!/bin/sh\ncat >/dev/null\necho Same 0 1 1\nexit 3\n";
 /// Prints its budget as a line's number: `Refused 6`, or a verdict.
@@ -40,6 +42,8 @@ fn repository() -> &'static Path {
             ("verdict", ECHO),
             ("deaf", DEAF),
             ("silent", SILENT),
+            ("blank", BLANK),
+            ("no-line-end", NO_LINE_END),
             ("two-lines", TWO_LINES),
             ("failing", FAILING),
             ("lines", LINES),
@@ -145,6 +149,7 @@ fn after_two_dashes_nothing_is_an_option() {
     assert_eq!(judge(&["--", "0", "1"]), line);
     assert_eq!(judge(&["0", "--", "1"]), line);
     assert!(refused(2, &["--", "--budget", "1"]).starts_with("judge: left term, column 1: "));
+    assert!(refused(2, &["--", "0", "--help"]).starts_with("judge: right term, column 1: "));
 }
 
 #[test]
@@ -219,6 +224,8 @@ fn a_program_may_stop_reading() {
 fn a_program_that_prints_no_line_is_status_3() {
     for (name, reason) in [
         ("silent", "printed something else than one line"),
+        ("blank", "printed something else than one line"),
+        ("no-line-end", "printed something else than one line"),
         ("two-lines", "printed something else than one line"),
         ("failing", "failed: exit status: 3"),
         ("not-executable", "cannot be run: Permission denied"),
@@ -247,9 +254,25 @@ fn without_a_repository_or_a_program_there_is_nothing_to_run() {
     );
 }
 
-/// Stands in for rt: builds a program from the file `source` unless its stamp is of that source.
+#[test]
+fn a_folder_that_is_no_repository_is_left_alone() {
+    let other = Path::new(env!("CARGO_TARGET_TMPDIR")).join("other");
+    fs::create_dir_all(&other).expect("a folder");
+    for path in [other.to_str().expect("text"), "/no/such/folder"] {
+        let message = refused(3, &["--repository", path, "0", "0"]);
+        assert_eq!(
+            message,
+            format!("judge: {path} is no repository: it has no crates.txt\n")
+        );
+    }
+    assert!(!other.join("target").exists());
+}
+
+/// Stands in for rt: builds a program from the file `source` unless its stamp is of that source. What
+/// stands on standard input is not for it.
 const RT: &str = "#!/bin/sh
 [ \"$*\" = 'check verdict' ] || exit 2
+[ -z \"$(cat)\" ] || exit 2
 grep -q slow source && sleep 2.5
 if cmp -s source target/stamp/verdict; then
     echo 'rt: verdict proved (unchanged since it was last proved)'
@@ -261,6 +284,7 @@ if grep -q wrong source; then
     echo 'rt: verdict NOT PROVED (exit 1, 3 s)'
     exit 1
 fi
+grep -q nothing source && exit
 mkdir -p target/bin target/stamp
 { echo '#!/bin/sh'; cat source; } >target/bin/verdict
 chmod +x target/bin/verdict
@@ -288,10 +312,12 @@ impl Repository {
             repository().join("commands").into_os_string(),
             path_without_rt(),
         ];
+        let input = fs::File::open(self.root.join("source"));
         let output = Command::new(env!("CARGO_BIN_EXE_judge"))
             .args(["0", "0"])
             .current_dir(&self.root)
             .env("PATH", path.join(":".as_ref()))
+            .stdin(input.expect("an input for nobody"))
             .output()
             .expect("judge runs");
         answer(output)
@@ -361,6 +387,16 @@ fn a_changed_source_is_judged_by_a_new_program() {
 }
 
 #[test]
+fn a_build_that_leaves_no_program_is_said() {
+    let repository = Repository::new("nothing", "nothing");
+    let (status, output, message) = repository.judge();
+    assert_eq!((status, output.as_str()), (3, ""));
+    assert!(message.starts_with(
+        "judge: `rt check verdict` did not build target/bin/verdict from these sources: exit status: 0\n"
+    ), "{message}");
+}
+
+#[test]
 fn the_verdict_decides_the_exit_status_if_asked() {
     for (budget, line, status) in [
         ("11", "Same 1 2 3", 0),
@@ -395,8 +431,12 @@ fn a_refusal_names_side_and_reason() {
             "5",
             "more than 15 arguments or branches, or branch tags that do not rise",
         ),
-        ("6", "a free number is above 255"),
+        (
+            "6",
+            "a free number, an index less the binders around it, is above 255",
+        ),
         ("8", "3 words are more than C, which is 2048"),
+        ("10", "refusal 10"),
     ] {
         for (side, terms) in [("left", [wrong, right]), ("right", [right, wrong])] {
             let arguments = ["--program", "target/bin/sides", "--budget", number];
@@ -518,6 +558,10 @@ fn word_errors_name_the_place() {
         "judge: word 2: expected a number from 0 to 4294967295, found ``\n"
     );
     assert_eq!(
+        refused(2, &["--text", "1,0,,"]),
+        "judge: word 3: expected a number from 0 to 4294967295, found ``\n"
+    );
+    assert_eq!(
         refused(2, &["--text", "2", "x"]),
         "judge: word 2: expected a number from 0 to 4294967295, found `x`\n"
     );
@@ -554,5 +598,7 @@ fn help_is_short() {
         assert!(help.contains(option), "{option}");
     }
     assert_eq!(judge(&["0", "-h"]).1, help);
-    assert_eq!(judge(&["--version"]), printed("judge 0.1.0"));
+    for option in ["--version", "-V"] {
+        assert_eq!(judge(&[option]), printed("judge 0.1.0"));
+    }
 }

@@ -20,8 +20,10 @@ pub enum Feed<'a> {
 /// How a program ended.
 #[derive(Clone, Debug, PartialEq, Eq)]
 pub enum Ending {
-    /// By itself, with these bytes printed.
+    /// By itself, with these bytes printed and exit status 0.
     Printed(Vec<u8>),
+    /// By itself, with another exit status.
+    Failed(i32),
     /// By a signal.
     Crashed,
     /// Not at all within its time, or it printed more than was asked for.
@@ -88,7 +90,8 @@ fn ending(mut child: Child, most: usize, time: Duration) -> io::Result<Ending> {
     loop {
         if let Some(status) = child.try_wait()? {
             return Ok(match status.code() {
-                Some(_) => Ending::Printed(printed),
+                Some(0) => Ending::Printed(printed),
+                Some(status) => Ending::Failed(status),
                 None => Ending::Crashed,
             });
         }

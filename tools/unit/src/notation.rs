@@ -331,8 +331,9 @@ impl Reader<'_> {
             found: match self.rest.peek() {
                 None => "the end".to_string(),
                 Some(' ') => "a space".to_string(),
-                Some(control) if control.is_control() => format!("`{}`", control.escape_debug()),
-                Some(character) => format!("`{character}`"),
+                Some(seen) if seen.is_ascii_graphic() => format!("`{seen}`"),
+                // By its number where nothing of it would be seen.
+                Some(other) => format!("`{}`", other.escape_debug()),
             },
         }
     }

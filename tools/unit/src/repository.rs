@@ -29,6 +29,12 @@ pub fn find(folder: &Path) -> Option<PathBuf> {
 /// The program of the repository, proved and linked by rt unless it is there already and nothing it
 /// depends on has changed. Lines for the user go to `tell`.
 pub fn program(root: &Path, tell: &mut dyn FnMut(&str)) -> Result<PathBuf, String> {
+    if !root.join(CRATES).is_file() {
+        return Err(format!(
+            "{} is no repository: it has no {CRATES}",
+            root.display()
+        ));
+    }
     let program = root.join(PROGRAM);
     if !program.is_file() {
         // Where it cannot be removed rt builds nothing, and that is found below.

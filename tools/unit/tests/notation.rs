@@ -196,10 +196,7 @@ fn a_term_does_not_end_as_it_must() {
 fn after_a_blank_an_item_could_follow() {
     const ITEMS: &str = r"an index, `(`, `\`, `#`, `?`";
     assert_eq!(error("0 )"), format!("3: {ITEMS} or the end, `)`"));
-    assert_eq!(
-        error("0 \u{a0}1"),
-        format!("3: {ITEMS} or the end, `\u{a0}`")
-    );
+    assert_eq!(error("0 λ"), format!("3: {ITEMS} or the end, `λ`"));
     assert_eq!(error("(0 ]"), format!("4: {ITEMS} or `)`, `]`"));
     assert_eq!(error("#1[0 )"), format!("6: {ITEMS}, `,` or `]`, `)`"));
     assert_eq!(error("?0 :"), format!("4: {ITEMS} or `{{`, `:`"));
@@ -207,6 +204,13 @@ fn after_a_blank_an_item_could_follow() {
         error("?0{1.0:0 :"),
         format!("10: {ITEMS}, `,` or `}}`, `:`")
     );
+}
+
+#[test]
+fn a_character_that_cannot_be_seen_is_named_by_its_number() {
+    assert_eq!(error("0\u{a0}1"), r"2: a space or the end, `\u{a0}`");
+    misses_item("\u{feff}0", 1, r"`\u{feff}`");
+    misses_item("\u{301}", 1, r"`\u{301}`");
 }
 
 #[test]

@@ -202,6 +202,7 @@ impl Run {
             Ok(Ending::Printed(bytes)) => bytes,
             Ok(Ending::Stopped(bytes)) if !bytes.is_empty() => bytes,
             Ok(Ending::Stopped(_)) => b"(nothing in time)".to_vec(),
+            Ok(Ending::Failed(status)) => format!("(exit status {status})").into_bytes(),
             Ok(Ending::Crashed) => b"(ended by a signal)".to_vec(),
             Err(error) => format!("(not run: {error})").into_bytes(),
         };

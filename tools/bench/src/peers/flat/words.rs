@@ -173,3 +173,77 @@ fn free_numbers_fit(words: &[u32], binders: &mut Binders) -> bool {
         fits
     })
 }
+
+#[cfg(test)]
+mod tests {
+    use super::*;
+
+    fn is_whole(words: &[u32]) -> bool {
+        whole(words, &mut Binders::new())
+    }
+
+    #[test]
+    fn whole_terms() {
+        for words in [
+            &[0][..],
+            &[2_040],
+            &[1, 2_048],
+            &[2, 1, 0, 24],
+            &[131],
+            &[32_643],
+            &[147, 0, 8],
+            &[4, 0],
+            &[12, 0, 133, 2_040],
+            &[12, 0, 253, 2_160],
+            &[20, 0, 133, 0, 261, 0],
+        ] {
+            assert!(is_whole(words), "{words:?}");
+        }
+    }
+
+    #[test]
+    fn words_that_are_no_whole_term() {
+        for words in [
+            // Missing and surplus words.
+            &[][..],
+            &[0, 0],
+            &[1],
+            &[2, 0],
+            &[147, 0],
+            &[12, 0],
+            // Kinds, payloads, tags and counts out of range.
+            &[6],
+            &[7],
+            &[9, 0],
+            &[10, 0, 0],
+            &[3],
+            &[32_771],
+            &[12, 0, 5, 0],
+            // Branches in the place of terms, terms in that of branches, tags that do not rise.
+            &[133, 0],
+            &[12, 133, 0],
+            &[12, 0, 0],
+            &[20, 0, 133, 0, 133, 0],
+            &[20, 0, 261, 0, 133, 0],
+            // Free numbers 256.
+            &[2_048],
+            &[1, 2_056],
+            &[12, 0, 133, 2_048],
+            &[12, 0, 253, 2_168],
+            &[2, 1, 0, 2_048],
+        ] {
+            assert!(!is_whole(words), "{words:?}");
+        }
+    }
+
+    #[test]
+    fn a_case_has_up_to_fifteen_branches() {
+        let case = |branches: u32| {
+            let all = (1..=branches).flat_map(|tag| [tag * 128 + 5, 0]);
+            let words: Vec<u32> = [branches * 8 + 4, 0].into_iter().chain(all).collect();
+            is_whole(&words)
+        };
+        assert!(case(15));
+        assert!(!case(16));
+    }
+}

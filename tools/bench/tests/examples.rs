@@ -1,0 +1,127 @@
+//! What the README and `judge --help` say of pairs and tables, against the peers.
+
+use bench::peers::{flat, graph};
+use unit::program::input;
+use unit::{table, Term};
+
+const README: &str = include_str!("../../../README.md");
+const HELP: &str = include_str!("../../judge/src/help.txt");
+
+/// The line that both peers print.
+fn printed(input: &[u8]) -> String {
+    let line = flat::line(input);
+    assert_eq!(graph::line(input), line);
+    line
+}
+
+/// The line for a command `judge`, which is given its options and two terms.
+fn judged(command: &str) -> String {
+    let (mut budget, mut c) = (1_000, 2_048);
+    let mut terms: Vec<Term> = Vec::new();
+    let mut arguments = arguments(command).into_iter();
+    while let Some(argument) = arguments.next() {
+        let mut number = || arguments.next().and_then(|text| text.parse().ok());
+        match argument.as_str() {
+            "--budget" => budget = number().expect("a budget"),
+            "--words" => c = number().expect("a number of words"),
+            text => terms.push(text.parse().expect("a term")),
+        }
+    }
+    assert_eq!(terms.len(), 2, "{command}");
+    printed(&input(budget, c, &terms[0], &terms[1]))
+}
+
+/// The arguments as a shell takes them apart: at spaces, but not within single quotes.
+fn arguments(command: &str) -> Vec<String> {
+    let mut arguments = Vec::new();
+    for (nth, part) in command.split('\'').enumerate() {
+        match nth % 2 {
+            0 => arguments.extend(part.split_whitespace().map(str::to_string)),
+            _ => arguments.push(part.to_string()),
+        }
+    }
+    arguments
+}
+
+/// The line for a left table as it stands, beside the variable 0.
+fn loaded(left: &str) -> String {
+    let numbers = left.split(',').map(|text| text.trim().parse());
+    let left: Vec<u32> = numbers.collect::<Result<_, _>>().expect("a table");
+    let right = table(&"0".parse().expect("a term"));
+    let mut words = vec![1_000, 2_048];
+    for table in [left, right] {
+        words.push(table.len() as u32);
+        words.extend(table);
+    }
+    let bytes: Vec<u8> = words.into_iter().flat_map(u32::to_le_bytes).collect();
+    printed(&bytes)
+}
+
+/// The cells of each row of the README's table below a heading, without its titles.
+fn rows(heading: &str) -> Vec<Vec<&'static str>> {
+    let heading = format!("\n## {heading}\n");
+    let (_, below) = README.split_once(&heading).expect("the heading");
+    let lines = below.lines().skip_while(|line| !line.starts_with('|'));
+    let lines = lines.take_while(|line| line.starts_with('|')).skip(2);
+    let cells = |line: &'static str| line.trim_matches(['|', ' ']).split(" | ").collect();
+    lines.map(cells).collect()
+}
+
+/// What stands between backquotes.
+fn code(text: &str) -> Vec<&str> {
+    text.split('`').skip(1).step_by(2).collect()
+}
+
+#[test]
+fn the_four_verdicts() {
+    let rows = rows("The four verdicts");
+    assert_eq!(rows.len(), 4);
+    for cells in rows {
+        let (pair, line) = (code(cells[0]), code(cells[1]));
+        let options = pair.get(2).unwrap_or(&"");
+        let command = format!("{options} '{}' '{}'", pair[0], pair[1]);
+        assert_eq!([judged(&command)], *line, "{command}");
+    }
+}
+
+#[test]
+fn the_refusals() {
+    let rows = rows("The refusals");
+    assert_eq!(rows.len(), 10);
+    let mut tried = Vec::new();
+    for cells in rows {
+        let (number, text) = (cells[0], cells[1]);
+        let line = if let Some((_, table)) = text.split_once("`load` of ") {
+            loaded(table)
+        } else if let Some(command) = code(text).first() {
+            judged(command.strip_prefix("./judge ").expect("a command"))
+        } else {
+            continue;
+        };
+        assert_eq!(line, format!("Refused {number}"), "{text}");
+        tried.push(number);
+    }
+    assert_eq!(tried, ["1", "2", "3", "4", "5", "6", "7", "8", "9"]);
+}
+
+#[test]
+fn the_first_command() {
+    let (_, text) = README.split_once("\n    ./judge ").expect("a command");
+    let command = text.lines().next().expect("a line");
+    let (_, text) = text.split_once("It prints ").expect("what it prints");
+    assert_eq!(judged(command), code(text)[0]);
+}
+
+#[test]
+fn the_examples_of_the_help() {
+    let (_, text) = HELP.split_once("\nExamples\n").expect("examples");
+    let examples = text.lines().filter_map(|line| {
+        let (command, line) = line.trim().strip_prefix("judge ")?.split_once("  ")?;
+        (!command.starts_with("--")).then_some((command, line.trim()))
+    });
+    let examples: Vec<_> = examples.collect();
+    assert_eq!(examples.len(), 3);
+    for (command, line) in examples {
+        assert_eq!(judged(command), line, "{command}");
+    }
+}
