@@ -44,19 +44,14 @@ neither : (a b : Bool) → (a || b) ≡ false → b ≡ false
 neither true b h = absurd (true≢false h)
 neither false b h = h
 
-three : (a b c : Bool) → not (a && b && c) ≡ false → (a ≡ true) × (b ≡ true) × (c ≡ true)
-three false b c h = absurd (true≢false h)
-three true false c h = absurd (true≢false h)
-three true true false h = absurd (true≢false h)
-three true true true h = (refl, refl, refl)
-
 module _ (S : Stored) where
   pub sized : wrongLength S ≡ false → (1 ≤ view S .n) × (view S .n ≤ workspaceMost) × (length (S .words) ≡ S .form .recordWords * (view S .n + 1))
   unfolding wrongLength
   sized h =
       let n = view S .n in
-      let tests = three (leb 1 n) (leb n workspaceMost) _ (neither (ltb (length (S .words)) (S .form .recordWords)) _ h) in
-      (leb-true 1 n (tests .0), leb-true n workspaceMost (tests .1), eqb-true _ _ (tests .2))
+      let outer = and-eq-true-iff (leb 1 n && leb n workspaceMost) _ .0 (not-false _ (neither (ltb (length (S .words)) (S .form .recordWords)) _ h)) in
+      let inner = and-eq-true-iff (leb 1 n) (leb n workspaceMost) .0 (outer .0) in
+      (leb-true 1 n (inner .0), leb-true n workspaceMost (inner .1), eqb-true _ _ (outer .1))
 
   -- Every record up to n lies inside the table, and so do the first three words of the header.
   pub inside : wrongLength S ≡ false → (i : ℕ) → i ≤ view S .n → Inside S i

@@ -1,5 +1,5 @@
 -- Loading refuses exactly what it must, and otherwise leaves the term that the table means.
-use Prim.Native.Nat.{ℕ, _+_, _-_, _*_}
+use Prim.Native.Nat.{ℕ, _+_, _-_}
 use mathlib.Core.Path.{_≡_, refl, sym, ap, _∙_}
 use mathlib.Core.Bool.{Bool, true, false, and-eq-true-iff}
 use mathlib.Core.List.{List, [], _∷_, _++_}
@@ -22,7 +22,6 @@ use Rattle.records.specs.Children.{wrongChildren}
 use Rattle.tables.specs.FreeNumbers.{wrongFree}
 use Rattle.tables.specs.Load.{refused, returned, checks, firstMet, refuseLoad, place, loadUnless, loadStored}
 use Rattle.tables.specs.Theorems.{Sound, Meant, FirstMet, NoneMet, LoadsExactly, Loading-exact}
-use Rattle.records.proofs.RecordLaws.{sized}
 use Rattle.tables.proofs.Meaning.MeaningLaws.{meaning-complete}
 use Rattle.tables.proofs.Meaning.SoundMeans.{sound-means}
 
@@ -71,10 +70,7 @@ passes S C h =
 pub passes-unmet : (S : Stored) (C : ℕ) → Passes S C → NoneMet (checks S C)
 passes-unmet S C p = search needs
 
--- What refusals 1 and 2 leave.
-pub table-length : (S : Stored) → wrongLength S ≡ false → length (S .words) ≡ S .form .recordWords * (view S .n + 1)
-table-length S h = sized S h .2
-
+-- What refusal 2 leaves.
 pub header-words : (S : Stored) → wrongHeader S ≡ false
     → (S .form .headerFits (S .words) ≡ true) × (isRecord (view S) (view S .root) ≡ true)
 unfolding wrongHeader

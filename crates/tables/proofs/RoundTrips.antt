@@ -18,9 +18,9 @@ use Rattle.tables.specs.PrefixOrder.{InPrefixOrder}
 use Rattle.records.proofs.Fits.{fitted}
 use Rattle.tables.proofs.Written.Standing.{records-length}
 use Rattle.tables.proofs.Written.TableWords.{stand-words}
-use Rattle.records.proofs.RecordLaws.{entry-path}
+use Rattle.records.proofs.RecordLaws.{entry-path, sized}
 use Rattle.tables.proofs.Written.PrefixStanding.{root-stands}
-use Rattle.tables.proofs.LoadLaws.{Passes, passes, passes-unmet, table-length, header-words, load-returned, loading-exact}
+use Rattle.tables.proofs.LoadLaws.{Passes, passes, passes-unmet, header-words, load-returned, loading-exact}
 use Rattle.tables.proofs.Written.WriteLaws.{workspace-short, write-returned, write-filled}
 use Rattle.tables.proofs.Written.WrittenTable.{written-in-order, written-means, written-passes}
 
@@ -41,7 +41,7 @@ in-order-table table t C p m size-is order =
     let stands = root-stands T t (T .root) (suc (T .n)) last m order in
     let header = and-eq-true-iff (eqb (getD table 0 0) (form1 .number)) (eqb (getD table 3 0) 0) .0 (header-words (inForm1 table) (p .header-fits) .0) in
     stand-words (entry (form1 .number) (size t) 1 0 ∷ records 1 0 t) table 0 T
-    (omega (arith, table-length (inForm1 table) (p .length-fits), records-length t 1 0))
+    (omega (arith, sized (inForm1 table) (p .length-fits) .2, records-length t 1 0))
     (λ j. let same : 0 + j ≡ j = omega arith in ap (recordAt (inForm1 table)) same)
     (entry-path (eqb-true _ _ (header .0)) (sym size-is) (stands .0) (eqb-true _ _ (header .1)), stands .1)
 
@@ -53,7 +53,7 @@ write-after-load table workspace out l answered same-length =
     let p = passes (inForm1 table) C (unmet .0) in
     let t = held .0 in
     let fits : l ≤ C = omega (arith, ltb-false C (view (inForm1 table) .n) (p .short-enough), unmet .1) in
-    let room : length out ≡ form1 .recordWords * (l + 1) = omega (arith, table-length (inForm1 table) (p .length-fits), unmet .1) in
+    let room : length out ≡ form1 .recordWords * (l + 1) = omega (arith, sized (inForm1 table) (p .length-fits) .2, unmet .1) in
     let written = write-filled t C l (load table workspace .workspace) out (held .2) (held .3) (held .4) (p .workspace-fits) fits room in (
       ap (λ r. r .answer) written,
       rw written (

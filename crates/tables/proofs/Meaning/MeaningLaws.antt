@@ -80,34 +80,28 @@ Far n term i b = 2 * n + 2 ≤ b + 2 * i
 Far n terms i b = (i ≡ 0) ⊎ (2 * n + 3 ≤ b + 2 * i)
 Far n branches i b = (i ≡ 0) ⊎ (2 * n + 3 ≤ b + 2 * i)
 
--- Below a record and after it, one less is enough.
-far-ahead : (T : Table) (i l b : ℕ) → 2 * T .n + 1 ≤ b + 2 * i → Ahead T i l → Far (T .n) terms l b
-far-ahead T i l b h (inl e) = inl e
-far-ahead T i l b h (inr a) = inr (omega arith)
+-- At a link of a record one less is enough.
+less : (T : Table) (i l b : ℕ) → i ≤ T .n → 2 * T .n + 1 ≤ b + 2 * i → Ahead T i l → (1 ≤ b) × Far (T .n) terms l b
+less T i l b u h (inl e) = (omega arith, inl e)
+less T i l b u h (inr a) = (omega arith, inr (omega arith))
 
 far-chain : (n i b : ℕ) → 1 ≤ i → Far n terms i b → 2 * n + 3 ≤ b + 2 * i
 far-chain n i b l (inl e) = absurd (omega arith)
 far-chain n i b l (inr h) = h
 
 module _ {T : Table} (L : Linked T) where
-  below : (i b : ℕ) → 1 ≤ i → i ≤ T .n → 2 * T .n + 1 ≤ b + 2 * i → (1 ≤ b) × Far (T .n) terms (T .at i .first) b
-  below i b l u h = (omega arith, far-ahead T i _ b h (L .first-ahead i l u))
-
-  after : (i b : ℕ) → 1 ≤ i → i ≤ T .n → 2 * T .n + 1 ≤ b + 2 * i → (1 ≤ b) × Far (T .n) terms (T .at i .next) b
-  after i b l u h = (omega arith, far-ahead T i _ b h (L .next-ahead i l u))
-
   meant-complete : {s : Sort} {i : ℕ} {e : Exp s} → Means T s i e → (b : ℕ) → 1 ≤ b → Far (T .n) s i b → meant T b s i ≡ some e
   unfolding meant meantTerm meantTerms meantBranch meantBranches bind
   meant-complete m zero l h = absurd (omega arith)
   meant-complete {i = i} (plain k n m) (suc b) l h =
-      let enough = below i b (k .0) (k .1) (omega arith) in
+      let enough = less T i _ b (k .1) (omega arith) (L .first-ahead i (k .0) (k .1)) in
       if-true (isRecord T i) _ _ (record-isRecord T i (k .0) (k .1))
       ∙ if-false (eqb (T .at i .kind) caseKind) _ _ (ne-eqb (T .at i .kind) caseKind (λ e. omega (arith, node-kind n)))
       ∙ rw (meant-complete m b (enough .0) (enough .1), k .2) (node-made n)
   meant-complete {i = i} (case-of k z m ms) (suc b) l h =
       let r = term-inside m in
       let later = ahead-later T i _ (L .first-ahead i (k .0) (k .1)) (r .0) in
-      let enough = after (T .at i .first) b (r .0) (r .1) (omega arith) in
+      let enough = less T (T .at i .first) _ b (r .1) (omega arith) (L .next-ahead (T .at i .first) (r .0) (r .1)) in
       if-true (isRecord T i) _ _ (record-isRecord T i (k .0) (k .1))
       ∙ if-true (eqb (T .at i .kind) caseKind) _ _ (eq-eqb _ _ (k .2))
       ∙ rw (z, meant-complete m b (enough .0) (omega arith), meant-complete ms b (enough .0) (enough .1))
@@ -115,17 +109,17 @@ module _ {T : Table} (L : Linked T) where
   meant-complete {i = i} (a-term m ms) (suc b) l h =
       let r = term-inside m in
       let here = far-chain (T .n) i (suc b) (r .0) h in
-      let enough = after i b (r .0) (r .1) (omega arith) in
+      let enough = less T i _ b (r .1) (omega arith) (L .next-ahead i (r .0) (r .1)) in
       if-false (eqb i 0) _ _ (ne-eqb i 0 (λ z. omega arith))
       ∙ rw (meant-complete m b (enough .0) (omega arith), meant-complete ms b (enough .0) (enough .1))
   meant-complete no-branch (suc b) l h = refl
   meant-complete {i = i} (a-branch k m ms) (suc b) l h =
       let here = far-chain (T .n) i (suc b) (k .0) h in
-      let enough = below i b (k .0) (k .1) (omega arith) in
+      let enough = less T i _ b (k .1) (omega arith) (L .first-ahead i (k .0) (k .1)) in
       if-false (eqb i 0) _ _ (ne-eqb i 0 (λ z. omega arith))
       ∙ if-true (isRecord T i && eqb (T .at i .kind) branchKind) _ _
       (and-eq-true-iff (isRecord T i) (eqb (T .at i .kind) branchKind) .1 (record-isRecord T i (k .0) (k .1), eq-eqb _ _ (k .2)))
-      ∙ rw (meant-complete m b (enough .0) (enough .1), meant-complete ms b (enough .0) (after i b (k .0) (k .1) (omega arith) .1))
+      ∙ rw (meant-complete m b (enough .0) (enough .1), meant-complete ms b (enough .0) (less T i _ b (k .1) (omega arith) (L .next-ahead i (k .0) (k .1)) .1))
 
 pub meaning-complete : Meaning-complete
 unfolding meaning

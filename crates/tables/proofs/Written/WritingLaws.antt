@@ -61,9 +61,6 @@ positive-push : (k : ℕ) (ks : List ℕ) → Positive ks → Positive (push k k
 positive-push zero ks h = h
 positive-push (suc k) ks h = (omega arith, h)
 
-drop-all : (l : List ℕ) (i : ℕ) → length l ≤ i → drop i l ≡ []
-drop-all l i h = drop-of-length-le l h
-
 entries-none : (i : ℕ) (ws : List ℕ) → entries i [] ws ≡ []
 entries-none i [] = refl
 entries-none i (w ∷ ws) = refl
@@ -82,7 +79,7 @@ pub record Putting (ws table₀ table levels : List ℕ) (top i : ℕ) : Type 0 
 pub putting-start : (ws table zeros levels : List ℕ) (top : ℕ) → length zeros ≡ workspaceMost + 1 → length levels ≡ length zeros
     → Pushed zeros (workspaceMost + 1) 1 levels top → Putting ws table table levels top 0
 putting-start ws table zeros levels top z l p =
-    let start : drop top levels ≡ 1 ∷ [] = p .levels ∙ ap (λ ks. 1 ∷ ks) (drop-all zeros (workspaceMost + 1) (omega arith)) in
+    let start : drop top levels ≡ 1 ∷ [] = p .levels ∙ ap (λ ks. 1 ∷ ks) (drop-of-length-le zeros {i = workspaceMost + 1} (omega arith)) in
     record {
       within = omega arith;
       levels-length = l ∙ z;
@@ -95,12 +92,12 @@ putting-start ws table zeros levels top z l p =
 
 pub putting-end : (ws table₀ table levels : List ℕ) (top i : ℕ) → length ws ≤ i → Putting ws table₀ table levels top i
     → table ≡ sets table₀ (form1 .recordWords) (recordsWords (entries 1 (1 ∷ []) ws))
-putting-end ws table₀ table levels top i h p = rw (drop-all ws i h) at (p .to-put)
+putting-end ws table₀ table levels top i h p = rw (drop-of-length-le ws h) at (p .to-put)
 
 pub putting-stops : (ws table₀ table levels : List ℕ) (top i : ℕ) → top ≡ workspaceMost + 1 → Putting ws table₀ table levels top i
     → table ≡ sets table₀ (form1 .recordWords) (recordsWords (entries 1 (1 ∷ []) ws))
 putting-stops ws table₀ table levels top i h p =
-    let none : drop top levels ≡ [] = drop-all levels top (omega (arith, p .levels-length)) in
+    let none : drop top levels ≡ [] = drop-of-length-le levels {i = top} (omega (arith, p .levels-length)) in
     rw (none, entries-none (i + 1) (drop i ws)) at (p .to-put)
 
 module _ (ws table₀ table levels : List ℕ) (top i : ℕ) (l : i < length ws) (u : top < workspaceMost + 1) (p : Putting ws table₀ table levels top i) where

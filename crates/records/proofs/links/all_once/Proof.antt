@@ -27,12 +27,12 @@ loop-holds c = (omega arith, refl)
 returns : tie.Need-returns Inv-loop μ-loop
 returns c =
     let l = c .before .before .before in
-    sym (every-fails (l .before .args .n) (once (l .before .args .counts .now)) (l .loop .i + 1) (omega arith) (omega arith) (ne-eqb _ 1 (c .if1 .taken)))
+    sym (every-fails (l .before .args .n) (once (l .before .args .counts .now)) (l .loop .i + 1) (omega arith) (omega arith) (ne-eqb (getD (l .before .args .counts .now) (l .loop .i + 1) 0) 1 (λ e. omega (arith, c .if1 .taken))))
 
 loop-again : tie.Need-loop-again Inv-loop μ-loop
 loop-again c =
     let l = c .before .before .before in
-    (omega arith, every-more (once (l .before .args .counts .now)) (l .loop .i) (l .loop .inv .1) (eq-eqb _ 1 (c .if1 .left)))
+    (omega arith, every-more (once (l .before .args .counts .now)) (l .loop .i) (l .loop .inv .1) (eq-eqb (getD (l .before .args .counts .now) (l .loop .i + 1) 0) 1 (omega (arith, c .if1 .left))))
 
 returns-2 : tie.Need-returns-2 Inv-loop μ-loop
 returns-2 c =

@@ -117,15 +117,6 @@ read-term-word-requires : (t : ℕ) → read-term-lts.Need-word-requires (term-c
 read-term-word-requires t c κs =
     rw (c .chain-length .ensures, parts (c .before .at .ensures) .first) (here t (c .before) .wordable)
 
-read-term-mul-workspace : (t : ℕ) → read-term-lts.Need-mul-workspace (term-claims t) (read-term-at t) read-term.Post
-read-term-mul-workspace t c = omega (arith, c .before .before .before .before .before .pre .1 .1)
-
-read-term-slice-write-workspace : (t : ℕ) → read-term-lts.Need-slice-write-workspace (term-claims t) (read-term-at t) read-term.Post
-read-term-slice-write-workspace t c = omega (arith, c .before .before .before .before .before .pre .1 .1)
-
-read-term-add-read-chain : (t : ℕ) → read-term-lts.Need-add-read-chain (term-claims t) (read-term-at t) read-term.Post
-read-term-add-read-chain t c = omega (arith, c .before .before .before .before .before .before .pre .1 .1)
-
 read-term-read-chain-requires : (t : ℕ) → read-term-lts.Need-read-chain-requires (term-claims t) (read-term-at t) read-term.Post
 read-term-read-chain-requires t c κs =
     let start = c .before .before .before .before .before .before in
@@ -166,9 +157,9 @@ pub +read-chain+read-term-spec : {M : Type 1} → statement M
     (read-term-at-requires t)
     (read-term-chain-length-requires t)
     (read-term-word-requires t)
-    (read-term-mul-workspace t)
-    (read-term-slice-write-workspace t)
-    (read-term-add-read-chain t)
+    (λ c. omega (arith, c .before .before .before .before .before .pre .1 .1))
+    (λ c. omega (arith, c .before .before .before .before .before .pre .1 .1))
+    (λ c. omega (arith, c .before .before .before .before .before .before .pre .1 .1))
     (read-term-read-chain-requires t)
     (read-term-same-length t)
     (read-term-returns t))
