@@ -2,9 +2,9 @@
 use Prim.Native.Nat.{ℕ, zero, suc, _+_, _-_, _≤_, _<_, min}
 use native.Mathlib.Omega.{arith}
 use mathlib.Core.Path.{_≡_, refl, sym, _∙_, ap}
-use mathlib.Core.List.{List, _∷_}
-use lib.ListN.{length, take, replicate, length-replicate}
-use lib.Seq.{sets, length-take-le}
+use mathlib.Core.List.{List, _∷_, _++_}
+use lib.ListN.{length, take, drop, replicate, length-append, length-replicate}
+use lib.Seq.{sets, take-at, length-take-le}
 use borrow.Author.Tests.{le-leb, lt-leb, eq-eqb, ne-eqb}
 use Rattle.vectors.specs.Text.{nowhere, after}
 use Rattle.vectors.specs.Lists.{dash, comma, itemAt, Listed, unlisted, withMore, items, listAt}
@@ -22,6 +22,14 @@ module _ (a k m n : ℕ) (is : n ≡ min k m) where
 
   pub lent-length : n ≡ length (take n (replicate m a))
   lent-length = sym (length-take-le n (replicate m a) (rw length-replicate (omega arith)))
+
+  -- What a call leaves of them is lent again.
+  pub lent-again : (new : List ℕ) → length new ≡ length (take n (replicate m a))
+      → (n ≤ length (new ++ drop n (replicate m a))) × (n ≡ length (take n (new ++ drop n (replicate m a)))) × (take n (new ++ drop n (replicate m a)) ≡ new)
+  lent-again new same =
+      let len : length new ≡ n = same ∙ sym lent-length in
+      let back = take-at new (drop n (replicate m a)) n len in
+      (rw length-append (omega arith), sym (ap length back ∙ len), back)
 
   pub part-length : (ws : List ℕ) → length ws ≡ m → n ≡ length (take n ws)
   part-length ws e = sym (length-take-le n ws (omega arith))

@@ -30,13 +30,13 @@ abbrev pub listMost : ℕ
 listMost = recordWords * (workspaceMost + 2)
 
 -- A word, or a number of times and a word.
-abbrev pub itemFrom : List ℕ → (times next from : ℕ) → Item
-itemFrom text times next from =
-    cond (eqb from nowhere) (record { times = 1; word = times; next = next })
-    (record { times = times; word = numberAt text from .value; next = numberAt text from .next })
-
 unfoldable pub itemAt : List ℕ → (at : ℕ) → Item
-itemAt text at = itemFrom text (numberAt text at .value) (numberAt text at .next) (after text (numberAt text at .next) star)
+itemAt text at =
+    let first = numberAt text at in
+    let from = after text (first .next) star in
+    let second = numberAt text from in
+    cond (eqb from nowhere) (record { times = 1; word = first .value; next = first .next })
+    (record { times = first .value; word = second .value; next = second .next })
 
 -- Lent words, how many of them the items so far have put there, and where reading goes on.
 pub record Listed : Type 0 where
@@ -51,8 +51,9 @@ abbrev pub unlisted : List ℕ → Listed
 unlisted ws = record { words = ws; count = 0; next = nowhere }
 
 -- One item more, where it fits.
-abbrev pub withItem : Listed → Item → Listed
-withItem l i =
+unfoldable pub withMore : List ℕ → Listed → Listed
+withMore text l =
+    let i = itemAt text (l .next) in
     cond (leb (l .count + i .times) (length (l .words)))
     (record {
       words = sets (l .words) (l .count) (replicate (i .times) (i .word));
@@ -61,24 +62,20 @@ withItem l i =
     })
     (unlisted (l .words))
 
-unfoldable pub withMore : List ℕ → Listed → Listed
-withMore text l = withItem l (itemAt text (l .next))
-
 -- Items until no comma follows, at most `turns` of them.
-abbrev pub goesOn : (rest : Listed → Listed) → Listed → (from : ℕ) → Listed
-goesOn rest l from = cond (eqb from nowhere) l (rest (record { words = l .words; count = l .count; next = from }))
-
 unfoldable pub items : (turns : ℕ) → List ℕ → Listed → Listed
 items zero text l = l
-items (suc k) text l = goesOn (items k text) (withMore text l) (after text (withMore text l .next) comma)
+items (suc k) text l =
+    let m = withMore text l in
+    let from = after text (m .next) comma in
+    cond (eqb from nowhere) m (items k text (record { words = m .words; count = m .count; next = from }))
 
 -- A list has fewer items than its line has bytes.
-abbrev pub listFrom : List ℕ → (at none : ℕ) → (words : List ℕ) → Listed
-listFrom text at none ws =
-    cond (eqb none nowhere) (items (length text) text (record { words = ws; count = 0; next = at })) (record { words = ws; count = 0; next = none })
-
 unfoldable pub listAt : List ℕ → (at : ℕ) → (words : List ℕ) → Listed
-listAt text at ws = listFrom text at (after text at dash) ws
+listAt text at ws =
+    let none = after text at dash in
+    cond (eqb none nowhere) (items (length text) text (record { words = ws; count = 0; next = at }))
+    (record { words = ws; count = 0; next = none })
 
 -- Words beside the list at a position: whether they are its words and then a tail of equal ones.
 abbrev pub comparedWith : Listed → (words : List ℕ) (tail : ℕ) → Compared

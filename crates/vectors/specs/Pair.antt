@@ -53,23 +53,27 @@ verdictAt line at =
     (record { verdict = verdict.Same; next = after line at sameWord })
 
 -- `left n`, `right n` and `scratch n`, each with its default.
-abbrev pub givenBy : (left right scratch : Setting) → Given
-givenBy l r s = record { left = l .value; right = r .value; scratch = s .value; next = s .next }
-
 unfoldable pub givenAt : List ℕ → (at left right scratch : ℕ) → Given
 givenAt line at left right scratch =
     let l = settingAt line at leftWord left in
     let r = settingAt line (l .next) rightWord right in
-    givenBy l r (settingAt line (r .next) scratchWord scratch)
+    let s = settingAt line (r .next) scratchWord scratch in
+    record { left = l .value; right = r .value; scratch = s .value; next = s .next }
 
 -- Both workspaces beside the words at a position, with a tail, and the scratch beside equal words.
-abbrev pub lentBy : (left right : Compared) (scratch : Bool) → Lent
-lentBy l r scratch = record { equal = (l .equal && r .equal) && scratch; left = l .count; right = r .count; next = r .next }
-
 unfoldable pub lentAt : List ℕ → (at : ℕ) → (left right : List ℕ) (tail : ℕ) (scratch : List ℕ) (word : ℕ) → Lent
 lentAt line at left right tail scratch word =
     let l = comparedAt line at left tail in
-    lentBy l (comparedAt line (l .next) right tail) (areWords scratch scratch 0 word)
+    let r = comparedAt line (l .next) right tail in
+    record {
+      equal = (l .equal && r .equal) && areWords scratch scratch 0 word;
+      left = l .count;
+      right = r .count;
+      next = r .next;
+    }
+
+abbrev pub lentBy : List ℕ → (at : ℕ) → Pressed → (tail word : ℕ) → Lent
+lentBy line at p tail word = lentAt line at (p .memory .left) (p .memory .right) tail (p .scratch) word
 
 -- Between two calls: where the line is read on, where it has the words of both terms, their lengths, what lies beyond them in their workspaces, and
 -- the session.
@@ -116,33 +120,13 @@ countedAfter v spent terms lent answer session s =
 -- What a press left, beside what the line says at a position.
 unfoldable pub checked : List ℕ → (at : ℕ) → Pressed → Stage → Stage
 checked line at p s =
-    let left = p .memory .left in
-    let right = p .memory .right in
+    let session = p .memory .session in
     let refused = after line at refusedWord in
     let v = verdictAt line at in
     let spent = numberAt line (v .next) in
     cond (eqb refused nowhere)
-    (countedAfter (verdictOf (v .verdict)) (spent .value) (spent .next) (lentAt line (spent .next) left right 0 (p .scratch) 0) (p .answer) (p .memory .session) s)
-    (refusedAfter line refused (lentAt line (s .terms) left right (s .tail) (p .scratch) junk) (p .answer) (p .memory .session) s)
-
--- A press with the budget that comes next.
-pub record Ran : Type 0 where
-  pub stage : Stage
-  pub left : List ℕ
-  pub right : List ℕ
-  pub scratch : List ℕ
-
-abbrev pub ranOf : code.State → (left right scratch : List ℕ) → Ran
-ranOf r left right scratch = record { stage = stageOf r; left = left; right = right; scratch = scratch }
-
-abbrev pub ranAfter : List ℕ → (at : ℕ) → Stage → Pressed → Ran
-ranAfter line at s p = record { stage = checked line at p s; left = p .memory .left; right = p .memory .right; scratch = p .scratch }
-
-unfoldable pub pressRan : List ℕ → Given → (left right scratch : List ℕ) → Stage → Ran
-pressRan line g left right scratch s =
-    let budget = numberAt line (after line (g .next) pressWord) in
-    ranAfter line (budget .next) s
-    (press (record { left = left; right = right; session = s .session }) (callOf scratch (g .left) (g .right) (budget .value)))
+    (countedAfter (verdictOf (v .verdict)) (spent .value) (spent .next) (lentBy line (spent .next) p 0 0) (p .answer) session s)
+    (refusedAfter line refused (lentBy line (s .terms) p (s .tail) junk) (p .answer) session s)
 
 -- A call leaves a stage and both workspaces.
 pub record Stepped : Type 0 where
@@ -153,11 +137,17 @@ pub record Stepped : Type 0 where
 abbrev pub steppedOf : code.State → (left right : List ℕ) → Stepped
 steppedOf r left right = record { stage = stageOf r; left = left; right = right }
 
-abbrev pub ranStep : Ran → Stepped
-ranStep r = record { stage = r .stage; left = r .left; right = r .right }
+-- A press with the budget that comes next, and a scratch of junk.
+abbrev pub steppedAfter : List ℕ → (at : ℕ) → Stage → Pressed → Stepped
+steppedAfter line at s p = record { stage = checked line at p s; left = p .memory .left; right = p .memory .right }
 
 unfoldable pub pressStep : List ℕ → Given → (left right : List ℕ) → Stage → Stepped
-pressStep line g left right s = ranStep (pressRan line g left right (junkWords (g .scratch)) s)
+pressStep line g left right s =
+    let budget = numberAt line (after line (g .next) pressWord) in
+    steppedAfter line (budget .next) s
+    (press
+    (record { left = left; right = right; session = s .session })
+    (callOf (junkWords (g .scratch)) (g .left) (g .right) (budget .value)))
 
 -- The part that is shown, beside the list at a position.
 abbrev pub partShown : (left right : List ℕ) (l r : ℕ) → List ℕ
@@ -170,8 +160,9 @@ unfoldable pub shownAfter : List ℕ → (at : ℕ) → (left right : List ℕ) 
 shownAfter line at left right l r = let part = partShown left right l r in shownBy part (comparedAt line at part 0)
 
 -- A call with what stands in front of it.
-abbrev pub stepGiven : List ℕ → Given → Stepped → Stepped
-stepGiven line g s =
+unfoldable pub stepped : List ℕ → Stepped → Stepped
+stepped line s =
+    let g = givenAt line (s .stage .at) (s .stage .left) (s .stage .right) (length (s .left)) in
     let shown = after line (g .next) showWord in
     cond (eqb shown nowhere) (pressStep line g (s .left) (s .right) (s .stage))
     (record {
@@ -179,9 +170,6 @@ stepGiven line g s =
       left = s .left;
       right = s .right;
     })
-
-unfoldable pub stepped : List ℕ → Stepped → Stepped
-stepped line s = stepGiven line (givenAt line (s .stage .at) (s .stage .left) (s .stage .right) (length (s .left))) s
 
 -- Calls to the line's end, at most `turns` of them; a line has fewer calls than bytes.
 pub record Ended : Type 0 where
@@ -192,13 +180,12 @@ pub record Ended : Type 0 where
 abbrev pub endedOf : Bool → (left right : List ℕ) → Ended
 endedOf holds left right = record { holds = holds; left = left; right = right }
 
-abbrev pub stepsOn : List ℕ → (rest : Stepped → Ended) → Stepped → Ended
-stepsOn line rest s =
-    let at = s .stage .at in cond (leb (length line) at) (endedOf (eqb at (length line)) (s .left) (s .right)) (rest s)
-
 unfoldable pub stepsFrom : (turns : ℕ) → List ℕ → Stepped → Ended
 stepsFrom zero line s = endedOf false (s .left) (s .right)
-stepsFrom (suc k) line s = stepsOn line (stepsFrom k line) (stepped line s)
+stepsFrom (suc k) line s =
+    let t = stepped line s in
+    let at = t .stage .at in
+    cond (leb (length line) at) (endedOf (eqb at (length line)) (t .left) (t .right)) (stepsFrom k line t)
 
 -- The session that the first call gets: a fresh one, or after `total` one that has spent a number and has lengths of no term.
 pub record Opened : Type 0 where
@@ -208,16 +195,12 @@ pub record Opened : Type 0 where
 abbrev pub openedOf : codeOpened.Opened → Opened
 openedOf o = record { session = sessionOf (o .session); next = o .next }
 
-abbrev pub openedFrom : List ℕ → (at from : ℕ) → Opened
-openedFrom line at from =
-    cond (eqb from nowhere) (record { session = fresh; next = at })
-    (record {
-      session = record { total = numberAt line from .value; left = room; right = room; verdict = Full };
-      next = numberAt line from .next;
-    })
-
 unfoldable pub openedAt : List ℕ → (at : ℕ) → Opened
-openedAt line at = openedFrom line at (after line at totalWord)
+openedAt line at =
+    let from = after line at totalWord in
+    let n = numberAt line from in
+    cond (eqb from nowhere) (record { session = fresh; next = at })
+    (record { session = record { total = n .value; left = room; right = room; verdict = Full }; next = n .next })
 
 -- Two terms, a session and calls.
 abbrev pub startAt : (at : ℕ) → (left right : Listed) → Opened → Stepped

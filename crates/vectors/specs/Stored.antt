@@ -55,23 +55,18 @@ chainAt line from ws =
       next = index .next;
     }
 
-abbrev pub tableFrom : List ℕ → (at from : ℕ) → (words : List ℕ) → Listed
-tableFrom line at from ws = cond (eqb from nowhere) (listAt line at ws) (chainAt line from ws)
-
 unfoldable pub tableAt : List ℕ → (at : ℕ) → (words : List ℕ) → Listed
-tableAt line at ws = tableFrom line at (after line at chainKeyword) ws
+tableAt line at ws =
+    let from = after line at chainKeyword in
+    cond (eqb from nowhere) (listAt line at ws) (chainAt line from ws)
 
 -- A written table is the one that the line names after `writes`, or else the one that was loaded.
-abbrev pub isWhole : List ℕ → (written : List ℕ) → Compared → Bool
-isWhole line written c = (c .equal && eqb (c .count) (length written)) && eqb (c .next) (length line)
-
-abbrev pub tableIs : List ℕ → (at from : ℕ) → (written loaded : List ℕ) → Bool
-tableIs line at from written loaded =
-    cond (eqb from nowhere) (areWords written loaded (length loaded) junk && eqb at (length line))
-    (isWhole line written (comparedAt line from written junk))
-
 unfoldable pub isTable : List ℕ → (at : ℕ) → (written loaded : List ℕ) → Bool
-isTable line at written loaded = tableIs line at (after line at writesWord) written loaded
+isTable line at written loaded =
+    let from = after line at writesWord in
+    let c = comparedAt line from written junk in
+    cond (eqb from nowhere) (areWords written loaded (length loaded) junk && eqb at (length line))
+    ((c .equal && eqb (c .count) (length written)) && eqb (c .next) (length line))
 
 -- Writing a term: a refusal changes nothing, and else the table is the one that the line says.
 abbrev pub writtenAs : List ℕ → (at : ℕ) → (loaded : List ℕ) → (len : ℕ) → Written → Verified

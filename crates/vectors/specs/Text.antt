@@ -64,10 +64,8 @@ numberAt text at =
     cond (ltb (length text) at) (numberRead 0 at at) (digits (pastSpace text at) 0 (pastSpace text at) (drop (pastSpace text at) text))
 
 -- The number behind a keyword if it comes next, and else a number that needs no text.
-abbrev pub settingFrom : List ℕ → (at from default : ℕ) → Setting
-settingFrom text at from default =
-    cond (eqb from nowhere) (record { value = default; next = at })
-    (record { value = numberAt text from .value; next = numberAt text from .next })
-
 unfoldable pub settingAt : List ℕ → (at : ℕ) → (keyword : List ℕ) → (default : ℕ) → Setting
-settingAt text at keyword default = settingFrom text at (after text at keyword) default
+settingAt text at keyword default =
+    let from = after text at keyword in
+    let n = numberAt text from in
+    cond (eqb from nowhere) (record { value = default; next = at }) (record { value = n .value; next = n .next })

@@ -1,8 +1,8 @@
 // Vectors: calls of the unit on real words, compared with what they should give. Each line of standard input is a vector or a comment; what a vector
 // expects stands in its line. Prints those that fail, how many pass, and how many there are. An input that is missing or cut off has fewer.
 //
-// `rt check vectors` proves and runs it, and so does, afterwards, `target/bin/vectors < crates/vectors/stdin`. The interpreter of `rt try` stops it at
-// its limit of steps.
+// `rt check vectors` proves and runs it; afterwards `target/bin/vectors < crates/vectors/stdin` runs it again. The interpreter of `rt try` stops it at its
+// limit of steps.
 use crate::vector::tally_all;
 use libc::STDIN_FILENO;
 use libc::STDOUT_FILENO;

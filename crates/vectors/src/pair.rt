@@ -32,7 +32,7 @@ ghost use Rattle.rounds.specs.Types.{verdictOf};
 ghost use Rattle.press.specs.Types.{sessionOf, answerOf, pressedOf};
 ghost use Rattle.vectors.specs.Answers.{numberOf, sameVerdict, isSession, isShown, isRefused};
 ghost use Rattle.vectors.specs.Pair.{room, junk, onlyIf, verdictAt, givenAt, lentAt, stageOf, refusedAfter, countedAfter, checked};
-ghost use Rattle.vectors.specs.Pair.{ranOf, pressRan, steppedOf, pressStep, shownAfter, stepped, endedOf, stepsFrom, openedOf, openedAt, pairRun, pairHolds};
+ghost use Rattle.vectors.specs.Pair.{steppedOf, pressStep, shownAfter, stepped, endedOf, stepsFrom, openedOf, openedAt, pairRun, pairHolds};
 
 // One word more than a workspace may have.
 pub const ROOM: usize = Word::WORKSPACE_MOST + 1;
@@ -276,38 +276,32 @@ fn check_press(
     check_counted(verdict, spent.value, spent.next, lent, pressed, state)
 }
 
-// `press budget` and the expected answer.
-fn press_with(
-    line: &[u8],
-    given: Given,
-    left: &mut [u32],
-    right: &mut [u32],
-    scratch: &mut [u32],
-    state: State,
-) -> State
-    ensures { λ r. ⌜ ranOf r (now (left .exit)) (now (right .exit)) (now (scratch .exit)) ≡ pressRan (now (line .entry)) given (now (left .entry)) (now (right .entry)) (now (scratch .entry)) (stageOf state) ⌝ }
-{
-    let budget = read_number(line, after(line, given.next, b"press"));
-    let session = state.session;
-    let pressed = press_owned(
-        left,
-        right,
-        scratch,
-        given.left,
-        given.right,
-        budget.value,
-        session,
-    );
-    check_press(line, budget.next, left, right, scratch, pressed, state)
-}
-
-// The same with a scratch of junk.
+// `press budget` and the expected answer, with a scratch of junk.
 fn press_step(line: &[u8], given: Given, left: &mut [u32], right: &mut [u32], state: State) -> State
     ensures { λ r. ⌜ steppedOf r (now (left .exit)) (now (right .exit)) ≡ pressStep (now (line .entry)) given (now (left .entry)) (now (right .entry)) (stageOf state) ⌝ }
 {
     let mut scratch = [JUNK; ROOM];
     let n = lent(given.scratch, ROOM);
-    press_with(line, given, left, right, &mut scratch[..n], state)
+    let budget = read_number(line, after(line, given.next, b"press"));
+    let session = state.session;
+    let pressed = press_owned(
+        left,
+        right,
+        &mut scratch[..n],
+        given.left,
+        given.right,
+        budget.value,
+        session,
+    );
+    check_press(
+        line,
+        budget.next,
+        left,
+        right,
+        &scratch[..n],
+        pressed,
+        state,
+    )
 }
 
 // Whether the part that comes next is shown: where reading goes on.

@@ -27,7 +27,6 @@ use tables::write;
 ghost use mathlib.Core.Path.{_≡_};
 ghost use Prim.Native.Nat.{_≤_};
 ghost use lib.ListN.{length};
-ghost use lib.ListN.{length as List·length};
 ghost use Rattle.tables.specs.Types.{answerOf};
 ghost use Rattle.vectors.specs.Answers.{isReturned};
 ghost use Rattle.vectors.specs.Lists.{listMost, listedOf};
