@@ -19,7 +19,7 @@ use Rattle.calculus.specs.Conversion.{Joined}
 use Rattle.calculus.specs.Rounds.{Same, Different, Budget, Full, same, roundsIn, roundsBy}
 use Rattle.calculus.specs.Refusal.{WrongWorkspace, OverBudget, NoTerm}
 use Rattle.calculus.specs.Bench.{shown as showing}
-use Rattle.press.specs.Session.{fresh}
+use Rattle.press.specs.State.{fresh}
 use Rattle.press.specs.Limits.{Limits}
 use Rattle.press.specs.Answer.{refused, shown, Memory, Call}
 use Rattle.press.specs.Press.{press}

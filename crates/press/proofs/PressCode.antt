@@ -20,8 +20,8 @@ use Rattle.calculus.proofs.WorkspaceLaws.{sized-most, sized-equal, first-equal,
 use Rattle.step.specs.Held.{held, Holds}
 use Rattle.rounds.specs.Run.{Ready, Ran}
 use Rattle.words.specs.IsTerm.{isTerm}
-use Rattle.press.specs.Session.{Session}
-use Rattle.press.specs.Session.{budgetLimit, totalLimit, affordable}
+use Rattle.press.specs.State.{Session}
+use Rattle.press.specs.State.{budgetLimit, totalLimit, affordable}
 use Rattle.press.specs.Answer.{shown, Memory, Call, Pressed}
 use Rattle.press.specs.Press.{refuse, conclude, pressTerms, press}
 

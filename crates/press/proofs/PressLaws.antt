@@ -14,7 +14,7 @@ use Rattle.calculus.specs.Words.{words, size}
 use Rattle.calculus.specs.Workspace.{sized, padded}
 use Rattle.calculus.specs.Refusal.{Refusal, WrongWorkspace, OverBudget, NoTerm}
 use Rattle.calculus.specs.Rounds.{Outcome, Shown, same, rounds}
-use Rattle.press.specs.Session.{budgetLimit, totalLimit, affordable}
+use Rattle.press.specs.State.{budgetLimit, totalLimit, affordable}
 use Rattle.press.specs.Answer.{refused, shown, Memory, Call, Pressed}
 use Rattle.press.specs.Press.{refuse, conclude, pressTerms, press}
 use Rattle.press.specs.Claim.{Contains, Reply, refuses, spends, replyOf, Progress, replyTo, advance, LeavesBy}

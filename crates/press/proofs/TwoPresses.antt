@@ -14,7 +14,7 @@ use Rattle.calculus.specs.Words.{size}
 use Rattle.calculus.specs.Workspace.{sized, termAt}
 use Rattle.calculus.specs.Refusal.{WrongWorkspace, OverBudget}
 use Rattle.calculus.specs.Rounds.{Outcome, Shown, shows, withSpent, same, after, rounds}
-use Rattle.press.specs.Session.{budgetLimit, totalLimit, affordable}
+use Rattle.press.specs.State.{budgetLimit, totalLimit, affordable}
 use Rattle.press.specs.Answer.{shown, Memory, Call}
 use Rattle.press.specs.Press.{refuse, conclude, pressTerms, press}
 use Rattle.press.specs.Claim.{Contains, together, Two-presses}

@@ -16,7 +16,7 @@ use Rattle.calculus.specs.Accepted.{Accepted}
 use Rattle.calculus.specs.Refusal.{Refusal, WrongWorkspace, OverBudget, NoTerm}
 use Rattle.calculus.specs.Conversion.{Reaches, Joined}
 use Rattle.calculus.specs.Rounds.{Same, Different, Decided, Outcome, Shown, shows, withSpent, rounds}
-use Rattle.press.specs.Session.{budgetLimit, totalLimit}
+use Rattle.press.specs.State.{budgetLimit, totalLimit}
 use Rattle.press.specs.Answer.{Answer, refused, shown, Memory, Call, Pressed}
 use Rattle.press.specs.Press.{press}
 use Rattle.press.specs.Presses.{final, history, spentIn, budgetInOneGo, lastShown}

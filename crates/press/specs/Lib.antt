@@ -1,5 +1,5 @@
 -- What a press and a showing do, as functions of everything at entry, and the claim about lists of presses.
-pub mod Session
+pub mod State
 pub mod Answer
 pub mod Press
 pub mod Showing

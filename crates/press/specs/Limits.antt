@@ -4,8 +4,8 @@ use mathlib.Core.Bool.{true, false}
 use mathlib.Core.List.{[], _∷_}
 use Rattle.calculus.specs.Workspace.{sized}
 use Rattle.calculus.specs.Rounds.{Budget}
-use Rattle.press.specs.Session.{fresh}
-use Rattle.press.specs.Session.{affordable}
+use Rattle.press.specs.State.{fresh}
+use Rattle.press.specs.State.{affordable}
 
 pub record Limits : Type 0 where
   pub words-15 : sized (15 ∷ 15 ∷ 15 ∷ []) ≡ false

@@ -4,11 +4,11 @@ use mathlib.Core.List.{List}
 use Rattle.words.specs.declared.refusal.Refusal as codeRefusal
 use Rattle.words.specs.Types.{refusalOf}
 use Rattle.rounds.specs.Types.{verdictOf, shownOf}
-use Rattle.press.specs.declared.session.Session as codeSession
+use Rattle.press.specs.declared.state.Session as codeSession
 use Rattle.press.specs.declared.answer.Answer as codeAnswer
 use Rattle.press.specs.declared.answer.Answer.the-variants as answer
 use Rattle.press.specs.declared.answer.Pressed as codePressed
-use Rattle.press.specs.Session.{Session}
+use Rattle.press.specs.State.{Session}
 use Rattle.press.specs.Answer.{Answer, refused, shown, Memory, Call, Pressed}
 
 abbrev pub sessionOf : codeSession.Session → Session

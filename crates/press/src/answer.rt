@@ -1,7 +1,7 @@
 // What a press answers and leaves.
 ghost use mathlib.Core.Path.{_≡_};
 ghost use Rattle.press.specs.Types.{refusedWith};
-use crate::session::Session;
+use crate::state::Session;
 use rounds::Shown;
 use words::refusal::Refusal;
 

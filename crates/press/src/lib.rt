@@ -5,21 +5,21 @@ ghost use lib.ListN.{length};
 ghost use Rattle.calculus.specs.Rounds.{rounds};
 ghost use Rattle.step.specs.Held.{held};
 ghost use Rattle.rounds.specs.Run.{Ready};
-ghost use Rattle.press.specs.Session.{totalLimit};
+ghost use Rattle.press.specs.State.{totalLimit};
 ghost use Rattle.press.specs.Press.{press, conclude};
 ghost use Rattle.press.specs.Types.{sessionOf, memoryOf, callOf, pressedOf};
 use answer::Answer;
 use answer::Pressed;
 use rounds::run;
-use session::Session;
-use session::budget_passes;
+use state::Session;
+use state::budget_passes;
 use words::clear;
 use words::refusal::Refusal;
 use words::workspace::sized;
 
 pub mod answer;
-pub mod session;
 mod showing;
+pub mod state;
 
 pub use showing::show;
 

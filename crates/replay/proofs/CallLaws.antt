@@ -4,7 +4,7 @@ use mathlib.Core.Path.{_≡_, refl, sym, _∙_, ap}
 use mathlib.Core.List.{List, _++_}
 use native.Mathlib.Omega.{arith}
 use lib.ListN.{length, take, drop, replicate, set, length-append, length-drop, length-replicate}
-use lib.Seq.{sets, take-at, length-take-le}
+use lib.Seq.{sets, take-at, drop-at, length-take-le}
 use Rattle.press.specs.declared.answer.Pressed.{Pressed}
 use Rattle.press.specs.Press.{press}
 use Rattle.press.specs.Types.{memoryOf, callOf, pressedOf}
@@ -27,6 +27,10 @@ module _ {n limit : ℕ} (xs : List ℕ) (fits : n ≤ limit) (full : length xs 
   pub take-full : length (take n xs) ≡ n
   take-full = length-take-le n xs fits-full
 
+-- Words at the start of the room.
+at-front : {n : ℕ} {slice front : List ℕ} (room : List ℕ) → length slice ≡ n → slice ≡ front → slice ++ drop n room ≡ front ++ drop (length front) room
+at-front {n} {slice} room len e = ap (λ k. slice ++ drop k room) (sym len) ∙ ap (λ t. t ++ drop (length t) room) e
+
 -- A press whose scratch is the first words of a longer slice.
 module _ (call : Call) (kept : Kept) (l r s l′ r′ s′ room : List ℕ) (p : Pressed) where
   abbrev n : ℕ
@@ -34,46 +38,53 @@ module _ (call : Call) (kept : Kept) (l r s l′ r′ s′ room : List ℕ) (p :
 
   pub press-does : n ≤ length s → length s′ ≡ length (take n s)
       → pressedOf p l′ r′ s′ ≡ press (memoryOf l r (kept .session)) (callOf (replicate (length (take n s)) filler) (call .left) (call .right) (call .budget))
-      → Does (performPress (stateOf l r s kept) call) l′ r′ (s′ ++ drop n s) room (record { kept = record { scratch = n; session = p .session }; report = report.Pressed (p .answer) })
+      → Does (performPress (stateOf l r s kept) call) s room l′ r′ (s′ ++ drop n s) room (record { kept = record { scratch = n; session = p .session }; report = report.Pressed (p .answer) })
   press-does inside same e =
       let all = length-take-le n s inside in
       let is : pressedOf p l′ r′ s′ ≡ press (memoryOf l r (kept .session)) (callOf (replicate n filler) (call .left) (call .right) (call .budget)) = e ∙ ap (λ k. press (memoryOf l r (kept .session)) (callOf (replicate k filler) (call .left) (call .right) (call .budget))) all in
       record {
         state = ap (λ t. record { memory = memoryOf l′ r′ (p .session); scratch = t }) (take-at s′ (drop n s) n (same ∙ all)) ∙ ap (λ q. afterPress q .state) is;
         told = ap (λ q. afterPress q .told) is;
+        behind = drop-at s′ (drop n s) n (same ∙ all);
+        placed = refl;
       }
 
 -- The other calls change neither the scratch nor what is kept.
 module _ (kept : Kept) (l r s : List ℕ) (side : Side) where
   -- A table by way of the first words of the room.
-  pub load-does : (l′ r′ room′ bytes : List ℕ) (at : ℕ) {n limit : ℕ} (room : List ℕ) → n ≤ limit → length room ≡ limit → {a : Answer}
-      → Loads side (wordsFrom (length (take n room)) bytes at) l r l′ r′ a
-      → Does (performLoad (stateOf l r s kept) side (wordsFrom n bytes at)) l′ r′ s room′ (record { kept = kept; report = report.Loaded a })
-  load-does l′ r′ room′ bytes at {n} room fits full {a} loads =
-      let is : Loads side (wordsFrom n bytes at) l r l′ r′ a = rw (take-full room fits full) at loads in
+  pub load-does : (l′ r′ slice bytes : List ℕ) (at : ℕ) {n limit : ℕ} (room : List ℕ) → n ≤ limit → length room ≡ limit → length slice ≡ length (take n room) → {a : Answer}
+      → Loads side (wordsFrom (length (take n room)) bytes at) l r l′ r′ slice a
+      → Does (performLoad (stateOf l r s kept) side (wordsFrom n bytes at)) s room l′ r′ s (slice ++ drop n room) (record { kept = kept; report = report.Loaded a })
+  load-does l′ r′ slice bytes at {n} room fits full same {a} loads =
+      let is : Loads side (wordsFrom n bytes at) l r l′ r′ slice a = rw (take-full room fits full) at loads in
       record {
         state = ap (λ ws. record { memory = replaced (memoryOf l r (kept .session)) ws; scratch = take (kept .scratch) s }) (is .workspaces);
         told = ap ofLoad (is .answer);
+        behind = refl;
+        placed = at-front room (same ∙ take-full room fits full) (is .slice);
       }
 
   pub write-does : (len : ℕ) {n limit : ℕ} (room : List ℕ) → n ≤ limit → length room ≡ limit → (t : List ℕ) → length t ≡ length (take n room) → (a : Answer)
       → writtenOf a t ≡ write (chosen side l r) len (replicate (length (take n room)) filler)
-      → Does (performWrite (stateOf l r s kept) side len n) l r s (t ++ drop n room) (record { kept = kept; report = report.Written a n })
+      → Does (performWrite (stateOf l r s kept) side len n) s room l r s (t ++ drop n room) (record { kept = kept; report = report.Written a n })
   write-does len {n} room fits full t same a e =
       let all = take-full room fits full in
+      let is : writtenOf a t ≡ write (chosen side l r) len (replicate n filler) = e ∙ ap (λ k. write (chosen side l r) len (replicate k filler)) all in
       record {
         state = refl;
-        told =
-            ap (ofWrite (tableAnswerOf a)) (take-at t (drop n room) n (same ∙ all))
-            ∙ ap (λ w. afterWrite (stateOf l r s kept) w .told) (e ∙ ap (λ k. write (chosen side l r) len (replicate k filler)) all);
+        told = ap (ofWrite (tableAnswerOf a)) (take-at t (drop n room) n (same ∙ all)) ∙ ap (λ w. afterWrite (stateOf l r s kept) w .told) is;
+        behind = refl;
+        placed = at-front room (same ∙ all) (ap (λ w. w .table) is);
       }
 
   pub store-does : (l′ r′ room : List ℕ) (at word : ℕ) → (l′, r′) ≡ changed side l r (set (chosen side l r) at word)
-      → Does (performStore (stateOf l r s kept) side at word) l′ r′ s room (record { kept = kept; report = report.Stored })
+      → Does (performStore (stateOf l r s kept) side at word) s room l′ r′ s room (record { kept = kept; report = report.Stored })
   store-does l′ r′ room at word stores =
       record {
         state = ap (λ ws. record { memory = replaced (memoryOf l r (kept .session)) ws; scratch = take (kept .scratch) s }) stores;
         told = refl;
+        behind = refl;
+        placed = refl;
       }
 
 -- A slice that is filled whole.

@@ -2,9 +2,9 @@
 use Prim.Native.Nat.{ℕ, _≤_}
 use mathlib.Core.Path.{_≡_}
 use mathlib.Core.Bool.{cond}
-use mathlib.Core.List.{List, [], _∷_}
+use mathlib.Core.List.{List, [], _++_}
 use lib.Dec.{eqb, ltb}
-use lib.ListN.{length, take, replicate, set}
+use lib.ListN.{length, take, drop, replicate, set}
 use Rattle.press.specs.Answer.{Memory}
 use Rattle.press.specs.Press.{press}
 use Rattle.press.specs.Answer as press
@@ -43,10 +43,11 @@ pub data Told : Type 0 where
   ofWrite : tables.Answer → (table : List ℕ) → Told
   ofSet ofStore ofPrint : Told
 
--- The state that an operation leaves, and what it tells.
+-- The state that an operation leaves, what it tells, and the words that it leaves at the start of the room for tables.
 pub record Performed : Type 0 where
   pub state : State
   pub told : Told
+  pub front : List ℕ
 
 -- The workspace of a side, and both workspaces with another in its place.
 abbrev pub chosen : Side → (left right : List ℕ) → List ℕ
@@ -78,10 +79,11 @@ performLoad s side table =
             scratch = s .scratch;
           };
       told = ofLoad (loaded .answer);
+      front = table;
     }
 
 abbrev pub afterPress : press.Pressed → Performed
-afterPress p = record { state = record { memory = p .memory; scratch = p .scratch }; told = ofPress (p .answer) }
+afterPress p = record { state = record { memory = p .memory; scratch = p .scratch }; told = ofPress (p .answer); front = [] }
 
 abbrev pub performPress : State → Call → Performed
 performPress s c = afterPress (press (s .memory) (callOf (replicate (c .scratch) filler) (c .left) (c .right) (c .budget)))
@@ -89,10 +91,10 @@ performPress s c = afterPress (press (s .memory) (callOf (replicate (c .scratch)
 abbrev pub performShow : State → (left right : ℕ) → Performed
 performShow s l r =
     let m = s .memory in
-    record { state = s; told = ofShow (show (m .left) (m .right) l r) }
+    record { state = s; told = ofShow (show (m .left) (m .right) l r); front = [] }
 
 abbrev pub afterWrite : State → written.Written → Performed
-afterWrite s w = record { state = s; told = ofWrite (w .answer) (w .table) }
+afterWrite s w = record { state = s; told = ofWrite (w .answer) (w .table); front = w .table }
 
 abbrev pub performWrite : State → Side → (len table : ℕ) → Performed
 performWrite s side len table = afterWrite s (write (chosen side (s .memory .left) (s .memory .right)) len (replicate table filler))
@@ -105,6 +107,7 @@ performStore s side at word =
     record {
       state = record { memory = replaced (s .memory) (changed side l r (set (chosen side l r) at word)); scratch = s .scratch };
       told = ofStore;
+      front = [];
     }
 
 -- What an operation of a script does and tells.
@@ -121,9 +124,10 @@ performed bytes (operation.Set session) s =
             scratch = s .scratch;
           };
       told = ofSet;
+      front = [];
     }
 performed bytes (operation.Store side at word) s = performStore s side at word
-performed bytes operation.Print s = record { state = s; told = ofPrint }
+performed bytes operation.Print s = record { state = s; told = ofPrint; front = [] }
 
 -- The state in lent slices: the scratch is the first words of a longer slice.
 abbrev pub stateOf : (left right scratch : List ℕ) → Kept → State
@@ -146,14 +150,18 @@ reportOf room report.Set = ofSet
 reportOf room report.Stored = ofStore
 reportOf room report.State = ofPrint
 
--- What an operation was to do is done: the slices and what is kept are the state that it leaves, and the report is what it tells.
-pub record Does (due : Performed) (left right scratch room : List ℕ) (r : Done) : Type 0 where
-  pub state : stateOf left right scratch (r .kept) ≡ due .state
-  pub told : reportOf room (r .report) ≡ due .told
+-- What an operation was to do is done: the slices and what is kept are the state that it leaves, and the report is what it tells. The words behind the
+-- scratch stay, and so do those behind what is left at the start of the room.
+pub record Does (due : Performed) (scratch room left′ right′ scratch′ room′ : List ℕ) (r : Done) : Type 0 where
+  pub state : stateOf left′ right′ scratch′ (r .kept) ≡ due .state
+  pub told : reportOf room′ (r .report) ≡ due .told
+  pub behind : drop (r .kept .scratch) scratch′ ≡ drop (r .kept .scratch) scratch
+  pub placed : room′ ≡ due .front ++ drop (length (due .front)) room
 
--- Loading by itself: both workspaces, and the answer.
-pub record Loads (side : Side) (table left right left′ right′ : List ℕ) (r : codeAnswer.Answer) : Type 0 where
+-- Loading by itself, by way of a slice that holds the table afterwards: both workspaces, and the answer.
+pub record Loads (side : Side) (table left right left′ right′ slice′ : List ℕ) (r : codeAnswer.Answer) : Type 0 where
   pub workspaces : (left′, right′) ≡ changed side left right (load table (chosen side left right) .workspace)
+  pub slice : slice′ ≡ table
   pub answer : tableAnswerOf r ≡ load table (chosen side left right) .answer
 
 -- The slices are as long as the operations need.

@@ -4,7 +4,7 @@ use crate::script::Operation;
 use crate::script::Side;
 use press::answer::Answer;
 use press::answer::Pressed;
-use press::session::Session;
+use press::state::Session;
 use session::press_owned;
 use text::bytes::words_from;
 use words::slices::fill;
@@ -97,7 +97,7 @@ fn press(
     room: &[u32],
 ) -> Done
     requires { ⌜ call .scratch ≤ length (now scratch) ⌝ }
-    ensures { λ r. ⌜ Does (performPress (stateOf (now (left .entry)) (now (right .entry)) (now (scratch .entry)) kept) call) (now (left .exit)) (now (right .exit)) (now (scratch .exit)) (now (room .entry)) r ⌝ }
+    ensures { λ r. ⌜ Does (performPress (stateOf (now (left .entry)) (now (right .entry)) (now (scratch .entry)) kept) call) (now (scratch .entry)) (now (room .entry)) (now (left .exit)) (now (right .exit)) (now (scratch .exit)) (now (room .entry)) r ⌝ }
 {
     let n = call.scratch;
     let session = kept.session;
@@ -146,7 +146,7 @@ fn load(
     table: &mut [u32],
 ) -> tables::Answer
     requires { ⌜ at + wordBytes * length (now table) ≤ length (now bytes) ⌝ }
-    ensures { λ r. ⌜ Loads side (wordsFrom (length (now (table .entry))) (now (bytes .entry)) at) (now (left .entry)) (now (right .entry)) (now (left .exit)) (now (right .exit)) r ⌝ }
+    ensures { λ r. ⌜ Loads side (wordsFrom (length (now (table .entry))) (now (bytes .entry)) at) (now (left .entry)) (now (right .entry)) (now (left .exit)) (now (right .exit)) (now (table .exit)) r ⌝ }
 {
     words_from(bytes, at, table);
     match side {
@@ -209,7 +209,7 @@ pub fn perform(
 ) -> Done
     requires { ⌜ Fits (now bytes) operation ⌝ }
     requires { ⌜ Lent (now scratch) (now room) ⌝ }
-    ensures { λ r. ⌜ Does (performed (now (bytes .entry)) operation (stateOf (now (left .entry)) (now (right .entry)) (now (scratch .entry)) kept)) (now (left .exit)) (now (right .exit)) (now (scratch .exit)) (now (room .exit)) r ⌝ }
+    ensures { λ r. ⌜ Does (performed (now (bytes .entry)) operation (stateOf (now (left .entry)) (now (right .entry)) (now (scratch .entry)) kept)) (now (scratch .entry)) (now (room .entry)) (now (left .exit)) (now (right .exit)) (now (scratch .exit)) (now (room .exit)) r ⌝ }
 {
     match operation {
         Operation::Load { side, at, words } => {

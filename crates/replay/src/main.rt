@@ -7,7 +7,7 @@ use crate::script::TABLE_MOST;
 use crate::script::operation_at;
 use libc::STDIN_FILENO;
 use libc::STDOUT_FILENO;
-use press::session::Session;
+use press::state::Session;
 use text::bytes::WORD_BYTES;
 use text::bytes::word_at;
 use words::Word;

@@ -1,6 +1,6 @@
 // What a script asks: operations of little-endian words, one after the other. The first word of an operation is its number; one table tells how many
 // words each has, and one the largest number that each of its operands may be.
-use press::session::Session;
+use press::state::Session;
 use rounds::Verdict;
 use text::bytes::WORD_BYTES;
 use text::bytes::word_at;

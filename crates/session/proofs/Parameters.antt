@@ -36,7 +36,7 @@ use denote.Builtin.{u32, usize}
 use denote.Ref.{RefT}
 use denote.Slice.{sliceTy, sliceVal, MutSlice, Room, finally}
 use denote.Steps.{owned, nothing}
-use Rattle.press.specs.declared.session.Session.{Session}
+use Rattle.press.specs.declared.state.Session.{Session}
 use Rattle.press.specs.declared.answer.Pressed.{Pressed}
 use Rattle.press.specs.Press.{press}
 use Rattle.press.specs.Types.{memoryOf, callOf, pressedOf}

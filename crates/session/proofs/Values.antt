@@ -26,11 +26,11 @@ use denote.Memory.{mem, cellAt, partOf}
 use denote.Struct.Steps.{spelt}
 use denote.Struct.Laws as structs
 use denote.Enum.Laws as enums
-use Rattle.press.specs.declared.session.Session.{Session}
+use Rattle.press.specs.declared.state.Session.{Session}
 use Rattle.press.specs.declared.answer.Answer.{Answer}
 use Rattle.press.specs.declared.answer.Pressed.{Pressed}
-use Rattle.press.proofs.session.Session as S
-use Rattle.press.proofs.session.Session.Laws as S′
+use Rattle.press.proofs.state.Session as S
+use Rattle.press.proofs.state.Session.Laws as S′
 use Rattle.press.proofs.answer.Answer as A
 use Rattle.press.proofs.answer.Answer.Laws as A′
 use Rattle.press.proofs.answer.Pressed as P

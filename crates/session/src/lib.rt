@@ -4,7 +4,7 @@ ghost use Rattle.press.specs.Press.{press};
 ghost use Rattle.press.specs.Types.{memoryOf, callOf, pressedOf};
 use press::answer::Answer;
 use press::answer::Pressed;
-use press::session::Session;
+use press::state::Session;
 
 // The covered press, with the session lent: total, lengths and verdict are stored in it, and the answer is handed back. A refusal leaves it as it
 // was.

@@ -7,7 +7,7 @@ use native.Mathlib.Numerals.{add-one}
 use native.Mathlib.Omega.{arith}
 use lib.Dec.{eqb}
 use borrow.Author.Tests.{eq-eqb, ne-eqb}
-use lib.ListN.{length, getD, drop, drop-of-length-le}
+use lib.ListN.{length, getD, drop, drop-of-length-le, List·getD-eq-default}
 use lib.Seq.{drop-cons, drop-drop}
 use Rattle.calculus.specs.Words.{abstractionKind, applicationKind, constructorKind, caseKind, kindOf, payloadOf, tagOf, countOf}
 use Rattle.calculus.specs.Skip.{skip, span}
@@ -15,6 +15,7 @@ use Rattle.calculus.specs.Contraction.{by-beta}
 use Rattle.calculus.proofs.SkipLaws.{skip-drop}
 use Rattle.step.specs.declared.rules.Found.{Found}
 use Rattle.step.specs.declared.rules.Found.the-variants as found
+use Rattle.step.specs.Plan.{CaseAt}
 use Rattle.step.specs.Parts.{nothing, parted, branchBody, withBody, caseParts, parts}
 
 pub branchBody-none : (t n i : ℕ) (ws : List ℕ) → branchBody zero t n i ws ≡ found.Nothing
@@ -94,6 +95,9 @@ caseParts-found i w v ws e₁ e₂ e₃ e₄ e₅ e₆ =
 pub parts-last : (i : ℕ) (ws : List ℕ) → i < length ws → length ws ≤ i + 1 → parts i (drop i ws) ≡ nothing
 unfolding parts
 parts-last i ws h l = rw (drop-cons ws i 0 h, drop-of-length-le ws {i = suc i} (omega arith))
+
+pub last-no-case : (i : ℕ) (ws : List ℕ) → length ws ≤ i + 1 → CaseAt ws i → ⊥
+last-no-case i ws l k = let e = rw (List·getD-eq-default ws 0 {n = i + 1} l) at (k .1) in omega arith
 
 -- The two first words are those of an application of an abstraction, of a case of a constructor, or others.
 module _ (i : ℕ) (ws : List ℕ) (within : i + 1 < length ws) where

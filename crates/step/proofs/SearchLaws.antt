@@ -138,12 +138,14 @@ module _ {ws : List ℕ} {n : ℕ} {scratch₀ scratch : List ℕ} {i known : �
       }
 
   -- A turn that sees nothing, and one that sees a stuck case and fills in the ends inside it.
-  pub searching-on : {scratch′ : List ℕ} → i < n → (parts i (drop i ws) ≡ nothing) × (scratch′ ≡ scratch) → Searching ws n scratch₀ scratch′ (i + 1) known
-  searching-on l h = record { searched = search-goes-on l (h .0); table = rw (h .1) (ends-later (v .table) (omega arith)); kept = ap length (h .1) ∙ v .kept }
+  pub searching-on : {scratch′ : List ℕ} → i < n → parts i (drop i ws) ≡ nothing → scratch′ ≡ scratch → Searching ws n scratch₀ scratch′ (i + 1) known
+  searching-on l e same =
+      record { searched = search-goes-on l e; table = rw same (ends-later (v .table) (omega arith)); kept = ap length same ∙ v .kept }
 
-  pub searching-stuck : {scratch′ filled : List ℕ} {end : ℕ} → i < n → (parts i (drop i ws) ≡ nothing) × (scratch′ ≡ scratch) × (known ≤ i)
+  pub searching-stuck : {scratch′ filled : List ℕ} {end : ℕ} → i < n → parts i (drop i ws) ≡ nothing → scratch′ ≡ scratch
       → Filled ws i scratch′ end filled → length filled ≡ length scratch′ → Searching ws n scratch₀ filled (i + 1) end
-  searching-stuck l h f k = record { searched = search-goes-on l (h .0); table = ends-later (f .table) (omega arith); kept = k ∙ ap length (h .1) ∙ v .kept }
+  searching-stuck l e same f k =
+      record { searched = search-goes-on l e; table = ends-later (f .table) (omega arith); kept = k ∙ ap length same ∙ v .kept }
 
   pub search-ends : n ≤ i → redexAt (held ws n) ≡ none
   search-ends l = redex-absent (held ws n) (λ p m. v .searched .before p (omega (arith, termAt-start ws n (held ws n) (v .searched .holds .term) .long)))

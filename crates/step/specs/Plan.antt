@@ -15,6 +15,7 @@ use Rattle.calculus.specs.First.{firstTerms}
 use Rattle.calculus.specs.Contraction.{Rule as Calculus, by-beta, by-case}
 use Rattle.calculus.specs.Position.{stepAt, redexAt}
 use Rattle.words.specs.Limits.{payloadBound}
+use Rattle.words.specs.Room.{Room}
 use Rattle.substitution.specs.Rewritten.{substituting, standing}
 use Rattle.substitution.specs.Results.{Substitutable, Replaced}
 use Rattle.step.specs.declared.Rule.{Rule}
@@ -54,12 +55,16 @@ abbrev pub Planned : List ℕ → ℕ → Plan → Type 0
 Planned ws n Normal = redexAt (held ws n) ≡ none
 Planned ws n (Contract r) = (redexAt (held ws n) ≡ some (r .at)) × Plans ws n r
 
--- What is seen at one position, where the room was lent with a table of ends before `known`: it is as it was unless a redex is seen, and a stuck
--- case is told only where the ends inside it are not known.
+-- A case of a constructor stands at a position.
+abbrev pub CaseAt : List ℕ → (at : ℕ) → Type 0
+CaseAt ws at = (kindOf (getD ws at 0) ≡ caseKind) × (kindOf (getD ws (at + 1) 0) ≡ constructorKind)
+
+-- What is seen at one position, where the room was lent with a table of ends before `known`: it is as it was unless a redex is seen, whose walks
+-- use it. A stuck case is told where the ends inside it are not known.
 abbrev pub SeenAt : List ℕ → (n at known : ℕ) → (room : List ℕ) → Seen → (room′ : List ℕ) → Type 0
-SeenAt ws n at known room seen.Nothing room′ = (parts at (drop at ws) ≡ nothing) × (room′ ≡ room)
-SeenAt ws n at known room seen.Stuck room′ = (parts at (drop at ws) ≡ nothing) × (room′ ≡ room) × (known ≤ at)
-SeenAt ws n at known room (seen.Redex r) room′ = Plans ws n r × (r .at ≡ at)
+SeenAt ws n at known room seen.Nothing room′ = (parts at (drop at ws) ≡ nothing) × (room′ ≡ room) × (CaseAt ws at → at < known)
+SeenAt ws n at known room seen.Stuck room′ = (parts at (drop at ws) ≡ nothing) × (room′ ≡ room) × CaseAt ws at × (known ≤ at)
+SeenAt ws n at known room (seen.Redex r) room′ = Plans ws n r × (r .at ≡ at) × Room room room′
 
 -- A word of the held term stands at the position, and the room serves a walk over the term.
 pub record At (ws : List ℕ) (n at : ℕ) (room : List ℕ) : Type 0 where

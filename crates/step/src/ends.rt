@@ -1,4 +1,4 @@
-// A table of where items end: none inside a stuck case is walked to twice in one search.
+// A table of where items end, so that stuck cases nested in one another cost one pass.
 use words::Word;
 use words::extent;
 ghost use mathlib.Core.Path.{_≡_};

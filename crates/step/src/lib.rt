@@ -11,6 +11,7 @@ use tail::move_words;
 use words::slices::copy;
 ghost use Prim.Native.Nat.{_≤_};
 ghost use lib.ListN.{length};
+ghost use Rattle.words.specs.Room.{Room};
 ghost use Rattle.step.specs.Search.{Searched};
 ghost use Rattle.step.specs.Plan.{Planned, HasRoom, Contracted};
 
@@ -45,6 +46,7 @@ pub enum Plan {
 pub fn find(ws: &[u32], n: usize, from: usize, scratch: &mut [u32]) -> Plan
     requires { ⌜ Searched (now ws) n from × (n ≤ length (now scratch)) ⌝ }
     ensures { λ r. ⌜ Planned (now (ws .entry)) n r ⌝ }
+    ensures { λ r. ⌜ Room (now (scratch .entry)) (now (scratch .exit)) ⌝ }
 {
     let mut i = from;
     let mut known: usize = 0;
@@ -72,6 +74,7 @@ pub fn contract(
 ) -> usize
     requires { ⌜ HasRoom (now ws) n redex (now scratch) (now room) ⌝ }
     ensures { λ r. ⌜ Contracted (now (ws .entry)) n redex (now (scratch .entry)) r (now (ws .exit)) (now (scratch .exit)) ⌝ }
+    ensures { λ r. ⌜ Room (now (room .entry)) (now (room .exit)) ⌝ }
 {
     let at = redex.at;
     let put = substitute(

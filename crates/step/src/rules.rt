@@ -11,6 +11,7 @@ ghost use mathlib.Core.Path.{_≡_};
 ghost use Prim.Native.Nat.{_≤_, _<_};
 ghost use lib.ListN.{length, drop};
 ghost use Rattle.calculus.specs.Words.{workspaceMost};
+ghost use Rattle.words.specs.Room.{Room};
 ghost use Rattle.step.specs.Ends.{Ends};
 ghost use Rattle.step.specs.Parts.{branchBody};
 ghost use Rattle.step.specs.Plan.{At, SeenAt, Plans, EndTold, Applied, Inspected, Selected};
@@ -47,9 +48,9 @@ fn branch_body(
         if left == 0 {
             return Found::Nothing;
         }
-        let w = Word(ws[i]);
-        if tag == w.tag() {
-            if count == w.count() {
+        let word = Word(ws[i]);
+        if tag == word.tag() {
+            if count == word.count() {
                 return Found::At(i + 1, left - 1);
             }
             return Found::Nothing;
@@ -81,6 +82,7 @@ fn argument_end(ws: &[u32], args: usize, times: usize, last: u32) -> usize
 fn beta(ws: &[u32], n: usize, at: usize, room: &mut [u32]) -> Redex
     requires { ⌜ Applied (now ws) n at (now room) ⌝ }
     ensures { λ r. ⌜ Plans (now (ws .entry)) n r × (r .at ≡ at) ⌝ }
+    ensures { λ r. ⌜ Room (now (room .entry)) (now (room .exit)) ⌝ }
 {
     let body = at + 2;
     let found = measure(ws, body, 1, room);
@@ -131,6 +133,7 @@ fn selected(
 ) -> Redex
     requires { ⌜ Selected (now ws) n at left body after count (now room) ⌝ }
     ensures { λ r. ⌜ Plans (now (ws .entry)) n r × (r .at ≡ at) ⌝ }
+    ensures { λ r. ⌜ Room (now (room .entry)) (now (room .exit)) ⌝ }
 {
     let args = at + 2;
     let found = measure(ws, body, count, room);

@@ -10,11 +10,11 @@ fn lower(ws: &mut [u32], from: usize, to: usize, out: usize)
     ensures { λ _. ⌜ now (ws .exit) ≡ sets (now (ws .entry)) out (slice from to (now (ws .entry))) ⌝ }
 {
     let mut i = from;
-    let mut o = out;
+    let mut next = out;
     while i < to {
-        ws[o] = ws[i];
+        ws[next] = ws[i];
         i += 1;
-        o += 1;
+        next += 1;
     }
 }
 

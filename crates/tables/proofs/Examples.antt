@@ -12,12 +12,12 @@ use Rattle.calculus.specs.Decide.{both₃, isTag?, startsAbove?, rising?, every
 use Rattle.calculus.specs.Read.{takeTerm, takeTerms, takeBranches, readLam, readApp, readCon, readCase, readBranch, item, items, oneTerm, read}
 use Rattle.calculus.specs.Refusal.{number}
 use Rattle.calculus.specs.Workspace.{termAt}
-use Rattle.tables.specs.Records.{view, inForm1}
+use Rattle.records.specs.Records.{view, inForm1}
 use Rattle.tables.specs.Meaning.{termOf, meantTerm, meantTerms, meantBranch, meantBranches, meant, meaning}
-use Rattle.tables.specs.Header.{wrongLength, wrongHeader}
-use Rattle.tables.specs.Values.{valueFits, wrongValue}
-use Rattle.tables.specs.Links.{namings, wrongLink}
-use Rattle.tables.specs.Children.{childrenFit, wrongChildren}
+use Rattle.records.specs.Header.{wrongLength, wrongHeader}
+use Rattle.records.specs.Values.{valueFits, wrongValue}
+use Rattle.records.specs.Links.{namings, wrongLink}
+use Rattle.records.specs.Children.{childrenFit, wrongChildren}
 use Rattle.tables.specs.Load.{Answer, refused, returned, Loaded, loadStored, load}
 use Rattle.tables.specs.PrefixOrder.{InPrefixOrder, nothing, chained}
 use Rattle.tables.specs.Write.{write}

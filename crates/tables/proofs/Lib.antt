@@ -1,4 +1,3 @@
-pub mod Refusal
 pub mod Meaning
 pub mod Written
 pub mod LoadLaws

@@ -1,9 +1,10 @@
 -- Loading where no refusal is met: what the code relies on there, and what it leaves.
 use Prim.Native.Nat.{ℕ, _+_, _-_, _≤_}
-use mathlib.Core.Path.{_≡_, refl, sym, ap, ap₂, _∙_}
-use mathlib.Core.Bool.{Bool, true, false, cond}
-use mathlib.Core.List.{List, [], _∷_, _++_}
-use mathlib.Core.Option.{some, none}
+use mathlib.Core.Path.{_≡_, sym, ap, ap₂, _∙_}
+use mathlib.Core.Bool.{Bool}
+use mathlib.Core.List.{List, _++_}
+use mathlib.Core.Logic.{inl, inr}
+use mathlib.Core.Option.{none}
 use native.Mathlib.Omega.{arith}
 use lib.ListN.{length, take, drop, replicate}
 use lib.Seq.{sets-eq, take-append-seam}
@@ -11,24 +12,23 @@ use borrow.Author.Tests.{ltb-false}
 use Rattle.calculus.specs.Words.{words, size}
 use Rattle.calculus.specs.Refusal.{Refusal}
 use Rattle.calculus.specs.Workspace.{padded}
-use Rattle.tables.specs.Records.{Stored, view}
+use Rattle.records.specs.Records.{Stored, view}
 use Rattle.tables.specs.Reading.{termWords, Readable}
 use Rattle.tables.specs.Load.{returned, Loaded, checks, firstMet, loadStored}
 use Rattle.tables.specs.Theorems.{Meant, NoneMet}
 use Rattle.words.specs.Placed.{Placed}
-use Rattle.tables.proofs.Refusal.LinkRules.{linked}
-use Rattle.tables.proofs.LoadLaws.{Passes, passes, unmet-means, load-returned}
-use Rattle.tables.proofs.Refusal.RecordLaws.{rooted}
+use Rattle.records.proofs.LinkRules.{linked}
+use Rattle.tables.proofs.LoadLaws.{settled, first-met, Passes, passes, unmet-means, load-returned}
+use Rattle.records.proofs.RecordLaws.{rooted}
 use Rattle.tables.proofs.Meaning.ReadingMeaning.{means-spelled}
 use Rattle.words.proofs.PlacedLaws.{placed-length}
 
 none-first : (cs : List (Refusal × Bool)) → firstMet cs ≡ none → NoneMet cs
-none-first [] h = tt
-none-first (c ∷ cs) h = go (c .1) refl h (λ k. none-first cs k)
-  where
-    go : (b : Bool) → c .1 ≡ b → cond b (some (c .0)) (firstMet cs) ≡ none → (firstMet cs ≡ none → NoneMet cs) → NoneMet (c ∷ cs)
-    go true e k f = let never : _≡_ {A = ℕ} 0 1 = cc in absurd (omega arith)
-    go false e k f = (e, f k)
+none-first cs h =
+    elim (settled cs) [
+      | inl met ↦ let first = first-met (met .0) cs (met .1) in let never : _≡_ {A = ℕ} 0 1 = cc in absurd (omega arith)
+      | inr unmet ↦ unmet
+    ]
 
 module _ (S : Stored) (workspace : List ℕ) (h : firstMet (checks S (length workspace)) ≡ none) where
   unmet : NoneMet (checks S (length workspace))

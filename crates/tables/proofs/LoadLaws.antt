@@ -13,21 +13,21 @@ use Rattle.calculus.specs.Term.{term, Term}
 use Rattle.calculus.specs.Words.{words, size}
 use Rattle.calculus.specs.Refusal.{Refusal}
 use Rattle.calculus.specs.Workspace.{padded}
-use Rattle.tables.specs.Records.{Stored, view, isRecord}
+use Rattle.records.specs.Records.{Stored, view, isRecord}
 use Rattle.tables.specs.Meaning.{Means}
-use Rattle.tables.specs.Header.{wrongWorkspace, wrongLength, wrongHeader, tooLong}
-use Rattle.tables.specs.Values.{wrongValue}
-use Rattle.tables.specs.Links.{wrongLink}
-use Rattle.tables.specs.Children.{wrongChildren}
+use Rattle.records.specs.Header.{wrongWorkspace, wrongLength, wrongHeader, tooLong}
+use Rattle.records.specs.Values.{wrongValue}
+use Rattle.records.specs.Links.{wrongLink}
+use Rattle.records.specs.Children.{wrongChildren}
 use Rattle.tables.specs.FreeNumbers.{wrongFree}
 use Rattle.tables.specs.Load.{refused, returned, checks, firstMet, refuseLoad, place, loadUnless, loadStored}
 use Rattle.tables.specs.Theorems.{Sound, Meant, FirstMet, NoneMet, LoadsExactly, Loading-exact}
-use Rattle.tables.proofs.Refusal.RecordLaws.{sized}
+use Rattle.records.proofs.RecordLaws.{sized}
 use Rattle.tables.proofs.Meaning.MeaningLaws.{meaning-complete}
 use Rattle.tables.proofs.Meaning.SoundMeans.{sound-means}
 
 -- A list of refusals has one that is met first, or none is met.
-settled : (cs : List (Refusal × Bool)) → ((k : Refusal) × FirstMet k cs) ⊎ NoneMet cs
+pub settled : (cs : List (Refusal × Bool)) → ((k : Refusal) × FirstMet k cs) ⊎ NoneMet cs
 settled [] = inr tt
 settled (c ∷ cs) = go (c .1) refl (settled cs)
   where
@@ -36,7 +36,7 @@ settled (c ∷ cs) = go (c .1) refl (settled cs)
     go false e (inl s) = inl (s .0, inr (e, s .1))
     go false e (inr s) = inr (e, s)
 
-first-met : (k : Refusal) (cs : List (Refusal × Bool)) → FirstMet k cs → firstMet cs ≡ some k
+pub first-met : (k : Refusal) (cs : List (Refusal × Bool)) → FirstMet k cs → firstMet cs ≡ some k
 first-met k (c ∷ cs) (inl h) = rw (h .0) (ap some (h .1))
 first-met k (c ∷ cs) (inr h) = rw (h .0) (first-met k cs (h .1))
 

@@ -7,6 +7,5 @@ pub mod Exists
 pub mod Held
 pub mod Accepts
 pub mod SoundMeans
-pub mod Hanging
 pub mod ReadingLaws
 pub mod ReadingMeaning

@@ -9,19 +9,19 @@ use lib.ListN.{length, getD}
 use borrow.Author.Tests.{ltb-false, eqb-true}
 use Rattle.calculus.specs.Term.{term, Term}
 use Rattle.calculus.specs.Words.{size, workspaceMost}
-use Rattle.tables.specs.Records.{form1, recordAt, inForm1, view}
+use Rattle.records.specs.Records.{form1, recordAt, inForm1, view, entry}
 use Rattle.tables.specs.Meaning.{Means}
 use Rattle.tables.specs.Load.{load}
-use Rattle.tables.specs.Write.{entry, records, tableOf}
+use Rattle.tables.specs.Write.{records, tableOf}
 use Rattle.tables.specs.Theorems.{Load-after-write, Write-after-load}
 use Rattle.tables.specs.PrefixOrder.{InPrefixOrder}
-use Rattle.tables.proofs.Refusal.Fits.{fitted}
+use Rattle.records.proofs.Fits.{fitted}
 use Rattle.tables.proofs.Written.Standing.{records-length}
-use Rattle.tables.proofs.Written.TableWords.{entry-path, stand-words}
+use Rattle.tables.proofs.Written.TableWords.{stand-words}
+use Rattle.records.proofs.RecordLaws.{entry-path}
 use Rattle.tables.proofs.Written.PrefixStanding.{root-stands}
 use Rattle.tables.proofs.LoadLaws.{Passes, passes, passes-unmet, table-length, header-words, load-returned, loading-exact}
-use Rattle.tables.proofs.Written.WriteCode.{workspace-short}
-use Rattle.tables.proofs.Written.WriteLaws.{write-returned, write-filled}
+use Rattle.tables.proofs.Written.WriteLaws.{workspace-short, write-returned, write-filled}
 use Rattle.tables.proofs.Written.WrittenTable.{written-in-order, written-means, written-passes}
 
 pub load-after-write : Load-after-write

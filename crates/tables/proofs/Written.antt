@@ -5,7 +5,6 @@ pub mod StandingFits
 pub mod TableWords
 pub mod PrefixStanding
 pub mod WrittenTable
-pub mod WriteLaws
 pub mod EntriesLaws
 pub mod WritingLaws
-pub mod WriteCode
+pub mod WriteLaws

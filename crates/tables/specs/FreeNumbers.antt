@@ -4,7 +4,7 @@ use mathlib.Core.Logic.{ite}
 use mathlib.Core.Option.{Option, some, none}
 use Rattle.calculus.specs.Term.{Term}
 use Rattle.calculus.specs.Decide.{scoped?}
-use Rattle.tables.specs.Records.{Table}
+use Rattle.records.specs.Records.{Table}
 use Rattle.tables.specs.Meaning.{meaning}
 
 -- Refusal 6: a free number above 255.

@@ -1,4 +1,4 @@
--- Stored tables ("The stored table"): what a table means, which tables are refused, loading and writing.
+-- Stored tables ("The stored table"): what a table means, loading and writing.
 pub mod Records
 pub mod Types
 pub mod Meaning
@@ -6,7 +6,6 @@ pub mod Header
 pub mod Values
 pub mod Links
 pub mod Children
-pub mod Every
 pub mod Reading
 pub mod FreeNumbers
 pub mod Load

@@ -8,12 +8,12 @@ use Rattle.calculus.specs.Term.{Term}
 use Rattle.calculus.specs.Words.{words, size}
 use Rattle.calculus.specs.Workspace.{padded}
 use Rattle.calculus.specs.Refusal.{Refusal, WrongLength, WrongHeader, WrongValue, WrongLink, WrongChildren, WrongFree, WrongWorkspace, TooLong}
-use Rattle.tables.specs.Records.{Table, Stored, view, inForm1}
+use Rattle.records.specs.Records.{Table, Stored, view, inForm1}
 use Rattle.tables.specs.Meaning.{meaning}
-use Rattle.tables.specs.Header.{wrongWorkspace, wrongLength, wrongHeader, tooLong}
-use Rattle.tables.specs.Values.{wrongValue}
-use Rattle.tables.specs.Links.{wrongLink}
-use Rattle.tables.specs.Children.{wrongChildren}
+use Rattle.records.specs.Header.{wrongWorkspace, wrongLength, wrongHeader, tooLong}
+use Rattle.records.specs.Values.{wrongValue}
+use Rattle.records.specs.Links.{wrongLink}
+use Rattle.records.specs.Children.{wrongChildren}
 use Rattle.tables.specs.FreeNumbers.{wrongFree}
 
 -- The answer of loading and of writing: a refusal, or what is returned, the length of the term or the number of records.

@@ -11,7 +11,7 @@ use mathlib.Core.Option.{Option, some, none, Option·map, bind}
 use lib.Dec.{eqb}
 use Rattle.calculus.specs.Term.{Sort, term, terms, branches, Exp, var, lam, app, con, case, nil, cons, end, branch, Term, Terms, Branches}
 use Rattle.calculus.specs.Words.{variableKind, abstractionKind, applicationKind, constructorKind, caseKind, branchKind, tagOf, countOf}
-use Rattle.tables.specs.Records.{Table, OfKind, isRecord}
+use Rattle.records.specs.Records.{Table, OfKind, isRecord}
 
 -- The term of a record that is no case, by its kind, its value and the terms that its children mean: the table of the kinds.
 pub data Node : (kind value : ℕ) → Terms → Term → Type 0 where

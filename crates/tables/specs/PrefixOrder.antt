@@ -1,6 +1,6 @@
 -- Prefix order of records ("The stored table"), said of the records themselves.
 use Prim.Native.Nat.{ℕ, suc}
-use Rattle.tables.specs.Records.{Table}
+use Rattle.records.specs.Records.{Table}
 
 -- `Fills T l i k` says that the chain from link l, with all that belongs to its records, is the records from i up to before k in prefix order:
 -- its first record stands at i, that record's children and all that belongs to them from i + 1 on, and its later siblings right after these.

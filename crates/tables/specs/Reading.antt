@@ -1,29 +1,20 @@
 -- What reading makes of the records that hang at a link ("The stored table": term and chain are read by turns): the words of the term that
 -- the records mean. A record is read with the chain of its children; its next sibling is read after it.
-use Prim.Native.Nat.{ℕ, zero, suc, _-_, _≤_, _<_}
+use Prim.Native.Nat.{ℕ, suc, _-_, _≤_, _<_}
 use mathlib.Core.Path.{_≡_}
-use mathlib.Core.Bool.{true, false, cond}
+use mathlib.Core.Bool.{false, cond}
 use mathlib.Core.List.{List, [], _∷_, _++_}
 use lib.Dec.{eqb}
 use lib.ListN.{length}
 use Rattle.calculus.specs.Words.{constructorKind, caseKind, kindBase, word, pack}
 use Rattle.words.specs.Limits.{payloadBound}
-use Rattle.tables.specs.Records.{Table, Stored, view}
-use Rattle.tables.specs.Values.{wrongValue}
-use Rattle.tables.specs.Children.{children, wrongChildren, Walkable}
+use Rattle.records.specs.Records.{Table, Stored, view, hanging}
+use Rattle.records.specs.Values.{wrongValue}
+use Rattle.records.specs.Children.{children, wrongChildren, Walkable}
 
 -- How many records are still ahead at a link: the one that it names and all after it.
 abbrev pub ahead : Table → (link : ℕ) → ℕ
 ahead T l = cond (eqb l 0) 0 (suc (T .n) - l)
-
--- What `step` makes of a record from what was made at its first child and at its next sibling; `end` is made at link 0. At most `bound` deep.
-unfoldable pub hanging : {A : Type 0} → Table → (end : A) (step : ℕ → A → A → A) (bound link : ℕ) → A
-hanging T end step zero l = end
-hanging T end step (suc k) l =
-    elim (eqb l 0) [
-      | true ↦ end
-      | false ↦ step l (hanging T end step k (T .at l .first)) (hanging T end step k (T .at l .next))
-    ]
 
 -- The word of a record with so many children. A constructor's and a case's payload tell the number of their arguments and branches; any other is
 -- the record's value.

@@ -10,12 +10,12 @@ use Rattle.calculus.specs.Term.{Sort, term, Exp, Term}
 use Rattle.calculus.specs.Words.{words, size}
 use Rattle.calculus.specs.Accepted.{Accepted}
 use Rattle.calculus.specs.Refusal.{Refusal}
-use Rattle.tables.specs.Records.{Table, form1, Stored, view, inForm1, isRecord}
+use Rattle.records.specs.Records.{Table, form1, Stored, view, inForm1, isRecord}
 use Rattle.tables.specs.Meaning.{Means, meaning}
-use Rattle.tables.specs.Header.{wrongWorkspace}
-use Rattle.tables.specs.Values.{wrongValue}
-use Rattle.tables.specs.Links.{wrongLink}
-use Rattle.tables.specs.Children.{wrongChildren}
+use Rattle.records.specs.Header.{wrongWorkspace}
+use Rattle.records.specs.Values.{wrongValue}
+use Rattle.records.specs.Links.{wrongLink}
+use Rattle.records.specs.Children.{wrongChildren}
 use Rattle.tables.specs.FreeNumbers.{wrongFree}
 use Rattle.tables.specs.Load.{refused, returned, checks, loadStored, load}
 use Rattle.tables.specs.PrefixOrder.{InPrefixOrder}

@@ -1,25 +1,2 @@
--- Refusal 3 ("Numbers for refused calls"): kinds and values.
-use Prim.Native.Nat.{ℕ}
-use mathlib.Core.Bool.{Bool, cond, not, _&&_}
-use lib.Dec.{leb, eqb}
-use Rattle.calculus.specs.Words.{variableKind, constructorKind, branchKind, tagOf, countOf}
-use Rattle.calculus.specs.Accepted.{tagLimit, argumentLimit, indexLimit}
-use Rattle.tables.specs.Records.{Record, Table, everyOf}
-
--- Refusal 3: a kind above 5, or a value outside its range. A variable's value is at most 32,767, a constructor's is a tag, a branch's is
--- tag × 16 + bound, every other is 0.
-abbrev pub isTag : ℕ → Bool
-isTag t = leb 1 t && leb t tagLimit
-
-unfoldable pub valueFits : (kind value : ℕ) → Bool
-valueFits k v =
-    cond (eqb k variableKind) (leb v indexLimit)
-    (cond (eqb k constructorKind) (isTag v)
-    (cond (eqb k branchKind) (isTag (tagOf v) && leb (countOf v) argumentLimit)
-    (eqb v 0)))
-
-abbrev pub valued : Record → Bool
-valued r = leb (r .kind) branchKind && valueFits (r .kind) (r .value)
-
-unfoldable pub wrongValue : Table → Bool
-wrongValue T = not (everyOf (T .n) (λ i. valued (T .at i)))
+-- Refusal 3, defined by the crate `records`.
+unfoldable pub use Rattle.records.specs.Values.{valueFits, wrongValue}

@@ -10,12 +10,9 @@ use Rattle.calculus.specs.Term.{Sort, Exp, var, lam, app, con, case, nil, cons,
 use Rattle.calculus.specs.Words.{variableKind, abstractionKind, applicationKind, constructorKind, caseKind, branchKind, pack, size}
 use Rattle.calculus.specs.Workspace.{termAt}
 use Rattle.calculus.specs.Refusal.{Refusal, WrongLength, WrongWorkspace, NoTerm}
-use Rattle.tables.specs.Records.{Record, form1, recordsWords}
-use Rattle.tables.specs.Header.{wrongWorkspace}
+use Rattle.records.specs.Records.{Record, entry, form1, recordsWords}
+use Rattle.records.specs.Header.{wrongWorkspace}
 use Rattle.tables.specs.Load.{Answer, refused, returned}
-
-abbrev pub entry : (kind value first next : ℕ) → Record
-entry k v f x = record { kind = k; value = v; first = f; next = x }
 
 -- A link to i, where a list of arguments or branches stands; 0 where it is empty.
 abbrev pub linkTo : {s : Sort} → ℕ → Exp s → ℕ

@@ -2,7 +2,7 @@
 --
 -- How many items follow a word tells where its children are; the items still to come are counted level by level, so that each word is known to
 -- have a sibling after it or none. As in `Skip`, the functions are total.
-use Prim.Native.Nat.{ℕ, zero, suc, _+_, _-_, _^_, _≤_, _<_}
+use Prim.Native.Nat.{ℕ, zero, suc, _+_, _-_, _≤_}
 use mathlib.Core.Path.{_≡_}
 use mathlib.Core.Bool.{cond}
 use mathlib.Core.List.{List, [], _∷_}
@@ -10,8 +10,7 @@ use lib.Dec.{eqb}
 use lib.ListN.{getD, drop}
 use Rattle.calculus.specs.Words.{constructorKind, caseKind, kindOf, payloadOf, tagOf}
 use Rattle.calculus.specs.Skip.{arity, span}
-use Rattle.tables.specs.Records.{Record}
-use Rattle.tables.specs.Write.{entry}
+use Rattle.records.specs.Records.{Record, entry}
 
 -- The value of a record: a constructor's tag, 0 for a case, and otherwise the payload.
 unfoldable pub valueOf : (kind payload : ℕ) → ℕ
@@ -36,11 +35,6 @@ entries i levels [] = []
 entries i [] (w ∷ ws) = []
 entries i (k ∷ ks) (w ∷ ws) =
     entryOf i (k - 1) w (span 1 (w ∷ ws)) ∷ entries (suc i) (push (arity w) (push (k - 1) ks)) ws
-
--- Both links of a record fit a word of 32 bits.
-pub record Puttable (r : Record) : Type 0 where
-  pub first-fits : r .first < 2 ^ 32
-  pub next-fits : r .next < 2 ^ 32
 
 -- The levels that start at `top` of a slice with one more level on top of them start at `top′`, at most one place before.
 pub record Pushed (before : List ℕ) (top items : ℕ) (after : List ℕ) (top′ : ℕ) : Type 0 where

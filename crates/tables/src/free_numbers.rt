@@ -1,12 +1,12 @@
 // Refusal 6: free numbers, in the words of the term that the records mean.
 use crate::reading::read_term;
-use crate::records::Form;
-use crate::records::root;
+use records::Form;
+use records::root;
 use words::Word;
 use words::is_term;
 ghost use mathlib.Core.Path.{_≡_};
 ghost use Prim.Native.Nat.{_≤_};
-ghost use Rattle.tables.specs.Types.{stored, viewed};
+ghost use Rattle.records.specs.Types.{stored, viewed};
 ghost use Rattle.tables.specs.Reading.{Readable};
 ghost use Rattle.tables.specs.FreeNumbers.{wrongFree};
 

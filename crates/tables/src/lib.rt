@@ -1,36 +1,31 @@
 // Loading a stored table and writing one.
-mod children;
-mod every;
 mod free_numbers;
-mod header;
-mod links;
 mod reading;
-mod records;
-mod values;
 mod writing;
 
-use children::wrong_children;
 use free_numbers::wrong_free;
-use header::wrong_header;
-use header::wrong_length;
-use header::wrong_workspace;
-use links::wrong_links;
 use reading::read_term;
 use records::Form;
 use records::Record;
+use records::children::wrong_children;
 use records::count;
+use records::header::wrong_header;
+use records::header::wrong_length;
+use records::header::wrong_workspace;
+use records::links::wrong_links;
 use records::root;
-use values::wrong_values;
+use records::values::wrong_values;
 use words::clear;
 use words::is_term;
 use words::refusal::Refusal;
 use writing::put_records;
 ghost use mathlib.Core.Path.{_≡_};
 ghost use mathlib.Core.Bool.{false};
-ghost use Rattle.tables.specs.Header.{wrongLength, wrongHeader};
+ghost use Rattle.records.specs.Header.{wrongLength, wrongHeader};
 ghost use Rattle.tables.specs.Load.{recordChecks, checks, firstMet, load};
 ghost use Rattle.tables.specs.Write.{write};
-ghost use Rattle.tables.specs.Types.{stored, viewed, metOf, loadedOf, writtenOf};
+ghost use Rattle.records.specs.Types.{stored, viewed};
+ghost use Rattle.tables.specs.Types.{metOf, loadedOf, writtenOf};
 
 // What loading and writing answer: a refusal, or the length of the term or the number of records.
 pub enum Answer {

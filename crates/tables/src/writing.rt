@@ -1,5 +1,5 @@
 // The records of a term, from its words, into a table ("The stored table").
-use crate::records::Record;
+use records::Record;
 use words::Word;
 use words::extent;
 ghost use mathlib.Core.Path.{_≡_};
@@ -9,8 +9,8 @@ ghost use lib.ListN.{length, getD, drop};
 ghost use lib.Seq.{sets};
 ghost use Rattle.calculus.specs.Words.{workspaceMost, kindOf, payloadOf};
 ghost use Rattle.calculus.specs.Skip.{span};
-ghost use Rattle.tables.specs.Records.{form1, recordsWords};
-ghost use Rattle.tables.specs.Types.{recordOf};
+ghost use Rattle.records.specs.Records.{form1, recordsWords};
+ghost use Rattle.records.specs.Types.{recordOf};
 ghost use Rattle.tables.specs.Writing.{valueOf, linkIf, entryOf, entries, Pushed, Descended};
 
 // Room for a level for each word and one around them.

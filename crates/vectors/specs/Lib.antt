@@ -1,3 +1,9 @@
--- When a vector passes.
+-- What a vector's line says, and when it passes.
+pub mod Text
 pub mod Compared
+pub mod Lists
+pub mod Keywords
 pub mod Answers
+pub mod Pair
+pub mod Stored
+pub mod Vector

@@ -1,13 +1,16 @@
-// Lent words, compared.
+// Lent words: how many there are, and whether they are those that they should be.
 ghost use mathlib.Core.Path.{_≡_};
+ghost use Prim.Native.Nat.{min};
 ghost use Rattle.vectors.specs.Compared.{wordAt, areWords};
 
-// The first n words, or all where there are fewer.
-pub fn front<'a>(words: &'a mut [u32], n: usize) -> &'a mut [u32] {
-    if words.len() < n {
-        return words;
+// So many words of a room are lent: all where it has fewer.
+pub fn lent(n: usize, room: usize) -> usize
+    ensures { λ r. ⌜ r ≡ min n room ⌝ }
+{
+    if n < room {
+        return n;
     }
-    &mut words[..n]
+    room
 }
 
 // The word at a place among the first `count` of a list, and the tail's word beyond them.

@@ -12,7 +12,7 @@
 // and gets the terms' lengths, and a scratch of C words, unless `left n`, `right n` or `scratch n` stand in front of it, in this order. After a press
 // the session and every word of both workspaces and the scratch are compared too.
 use crate::lent::filled;
-use crate::lent::front;
+use crate::lent::lent;
 use crate::text::NOWHERE;
 use crate::text::after;
 use crate::text::compare;
@@ -21,15 +21,18 @@ use crate::text::read_number;
 use crate::text::read_setting;
 use press::answer::Answer;
 use press::answer::Pressed;
-use press::session::Session;
 use press::show;
+use press::state::Session;
 use rounds::Verdict;
 use session::press_owned;
 use words::Word;
 ghost use mathlib.Core.Path.{_≡_};
+ghost use lib.ListN.{length};
 ghost use Rattle.rounds.specs.Types.{verdictOf};
-ghost use Rattle.press.specs.Types.{sessionOf, answerOf};
+ghost use Rattle.press.specs.Types.{sessionOf, answerOf, pressedOf};
 ghost use Rattle.vectors.specs.Answers.{numberOf, sameVerdict, isSession, isShown, isRefused};
+ghost use Rattle.vectors.specs.Pair.{room, junk, onlyIf, verdictAt, givenAt, lentAt, stageOf, refusedAfter, countedAfter, checked};
+ghost use Rattle.vectors.specs.Pair.{ranOf, pressRan, steppedOf, pressStep, shownAfter, stepped, endedOf, stepsFrom, openedOf, openedAt, pairRun, pairHolds};
 
 // One word more than a workspace may have.
 pub const ROOM: usize = Word::WORKSPACE_MOST + 1;
@@ -38,54 +41,49 @@ pub const ROOM: usize = Word::WORKSPACE_MOST + 1;
 pub const JUNK: u32 = 7;
 
 // Between two calls.
-struct State {
+pub struct State {
     // Where the line is read on, or nowhere once something was not as it says.
-    at: usize,
+    pub at: usize,
     // Where the line has the words of both terms, their lengths, and what lies beyond them in their workspaces.
-    terms: usize,
-    left: usize,
-    right: usize,
-    tail: u32,
-    session: Session,
+    pub terms: usize,
+    pub left: usize,
+    pub right: usize,
+    pub tail: u32,
+    pub session: Session,
 }
 
 // The session that the first call gets.
-struct Opened {
-    session: Session,
-    next: usize,
+pub struct Opened {
+    pub session: Session,
+    pub next: usize,
 }
 
-// The lengths that a call gets.
-struct Given {
-    left: usize,
-    right: usize,
-    next: usize,
+// The lengths that a call gets, and its scratch's.
+pub struct Given {
+    pub left: usize,
+    pub right: usize,
+    pub scratch: usize,
+    pub next: usize,
 }
 
-// The scratch's size and the budget that a press gets.
-struct Press {
-    scratch: usize,
-    budget: u32,
-    next: usize,
-}
-
-// An expected answer that is no refusal, without the lengths.
-struct Outcome {
-    verdict: Verdict,
-    spent: u32,
-    next: usize,
+// The verdict that is expected.
+pub struct Named {
+    pub verdict: Verdict,
+    pub next: usize,
 }
 
 // What lies in both workspaces and the scratch beside what should: whether it is that, and the lengths of the terms.
-struct Lent {
-    equal: bool,
-    left: usize,
-    right: usize,
-    next: usize,
+pub struct Lent {
+    pub equal: bool,
+    pub left: usize,
+    pub right: usize,
+    pub next: usize,
 }
 
 // Where reading goes on after a test.
-fn only_if(passed: bool, next: usize) -> usize {
+fn only_if(passed: bool, next: usize) -> usize
+    ensures { λ r. ⌜ r ≡ onlyIf passed next ⌝ }
+{
     if passed {
         return next;
     }
@@ -143,50 +141,48 @@ fn refuses(answer: Answer, number: u32) -> bool
     refusal.number() == number
 }
 
-fn read_spent(line: &[u8], at: usize, verdict: Verdict) -> Outcome {
-    let spent = read_number(line, at);
-    Outcome {
-        verdict,
-        spent: spent.value,
-        next: spent.next,
-    }
-}
-
-fn read_outcome(line: &[u8], at: usize) -> Outcome {
+fn read_verdict(line: &[u8], at: usize) -> Named
+    ensures { λ r. ⌜ r ≡ verdictAt (now (line .entry)) at ⌝ }
+{
     let same = after(line, at, b"Same");
     if same != NOWHERE {
-        return read_spent(line, same, Verdict::Same);
+        return Named {
+            verdict: Verdict::Same,
+            next: same,
+        };
     }
     let different = after(line, at, b"Different");
     if different != NOWHERE {
-        return read_spent(line, different, Verdict::Different);
+        return Named {
+            verdict: Verdict::Different,
+            next: different,
+        };
     }
     let budget = after(line, at, b"Budget");
     if budget != NOWHERE {
-        return read_spent(line, budget, Verdict::Budget);
+        return Named {
+            verdict: Verdict::Budget,
+            next: budget,
+        };
     }
-    read_spent(line, after(line, at, b"Full"), Verdict::Full)
+    Named {
+        verdict: Verdict::Full,
+        next: after(line, at, b"Full"),
+    }
 }
 
-// `left n` and `right n`
-fn read_given(line: &[u8], at: usize, left: usize, right: usize) -> Given {
+// `left n`, `right n` and `scratch n`
+fn read_given(line: &[u8], at: usize, left: usize, right: usize, scratch: usize) -> Given
+    ensures { λ r. ⌜ r ≡ givenAt (now (line .entry)) at left right scratch ⌝ }
+{
     let l = read_setting(line, at, b"left", left);
     let r = read_setting(line, l.next, b"right", right);
+    let s = read_setting(line, r.next, b"scratch", scratch);
     Given {
         left: l.value,
         right: r.value,
-        next: r.next,
-    }
-}
-
-// `scratch n` and `press budget`
-fn read_press(line: &[u8], at: usize, size: usize) -> Press {
-    let scratch = read_setting(line, at, b"scratch", size);
-    let budget = read_number(line, after(line, scratch.next, b"press"));
-    Press {
-        scratch: scratch.value,
-        budget: budget.value,
-        next: budget.next,
+        scratch: s.value,
+        next: s.next,
     }
 }
 
@@ -199,7 +195,9 @@ fn compare_lent(
     tail: u32,
     scratch: &[u32],
     word: u32,
-) -> Lent {
+) -> Lent
+    ensures { λ r. ⌜ r ≡ lentAt (now (line .entry)) at (now (left .entry)) (now (right .entry)) tail (now (scratch .entry)) word ⌝ }
+{
     let l = compare(line, at, left, tail);
     let r = compare(line, l.next, right, tail);
     Lent {
@@ -211,7 +209,9 @@ fn compare_lent(
 }
 
 // After a press that should be refused with the number that comes next: all is as before.
-fn check_refused(line: &[u8], at: usize, lent: Lent, pressed: Pressed, mut state: State) -> State {
+fn check_refused(line: &[u8], at: usize, lent: Lent, pressed: Pressed, mut state: State) -> State
+    ensures { λ r. ⌜ stageOf r ≡ refusedAfter (now (line .entry)) at lent (answerOf (pressed .answer)) (sessionOf (pressed .session)) (stageOf state) ⌝ }
+{
     let number = read_number(line, at);
     let answer = pressed.answer;
     let session = pressed.session;
@@ -225,18 +225,26 @@ fn check_refused(line: &[u8], at: usize, lent: Lent, pressed: Pressed, mut state
     state
 }
 
-// After a press that should answer this outcome.
-fn check_counted(outcome: Outcome, lent: Lent, pressed: Pressed, state: State) -> State {
+// After a press that should answer this verdict, with a number spent and terms that stand at `terms`.
+fn check_counted(
+    verdict: Verdict,
+    spent: u32,
+    terms: usize,
+    lent: Lent,
+    pressed: Pressed,
+    state: State,
+) -> State
+    ensures { λ r. ⌜ stageOf r ≡ countedAfter (verdictOf verdict) spent terms lent (answerOf (pressed .answer)) (sessionOf (pressed .session)) (stageOf state) ⌝ }
+{
     let answer = pressed.answer;
     let session = pressed.session;
-    let verdict = outcome.verdict;
     let old = state.session;
-    let total = old.total as u64 + outcome.spent as u64;
+    let total = old.total as u64 + spent as u64;
     let renewed = is_session(session, total, lent.left, lent.right, verdict);
-    let shown = shows(answer, verdict, outcome.spent, lent.left, lent.right);
+    let shown = shows(answer, verdict, spent, lent.left, lent.right);
     State {
         at: only_if(lent.equal & renewed & shown, lent.next),
-        terms: outcome.next,
+        terms,
         left: lent.left,
         right: lent.right,
         tail: 0,
@@ -253,28 +261,33 @@ fn check_press(
     scratch: &[u32],
     pressed: Pressed,
     state: State,
-) -> State {
+) -> State
+    ensures { λ r. ⌜ stageOf r ≡ checked (now (line .entry)) at (pressedOf pressed (now (left .entry)) (now (right .entry)) (now (scratch .entry))) (stageOf state) ⌝ }
+{
     let refused = after(line, at, b"Refused");
     if refused != NOWHERE {
         let lent = compare_lent(line, state.terms, left, right, state.tail, scratch, JUNK);
         return check_refused(line, refused, lent, pressed, state);
     }
-    let outcome = read_outcome(line, at);
-    let lent = compare_lent(line, outcome.next, left, right, 0, scratch, 0);
-    check_counted(outcome, lent, pressed, state)
+    let named = read_verdict(line, at);
+    let spent = read_number(line, named.next);
+    let lent = compare_lent(line, spent.next, left, right, 0, scratch, 0);
+    let verdict = named.verdict;
+    check_counted(verdict, spent.value, spent.next, lent, pressed, state)
 }
 
-// `scratch n`, `press budget` and the expected answer.
-fn press_step(
+// `press budget` and the expected answer.
+fn press_with(
     line: &[u8],
     given: Given,
     left: &mut [u32],
     right: &mut [u32],
+    scratch: &mut [u32],
     state: State,
-) -> State {
-    let call = read_press(line, given.next, left.len());
-    let mut junk = [JUNK; ROOM];
-    let scratch = front(&mut junk, call.scratch);
+) -> State
+    ensures { λ r. ⌜ ranOf r (now (left .exit)) (now (right .exit)) (now (scratch .exit)) ≡ pressRan (now (line .entry)) given (now (left .entry)) (now (right .entry)) (now (scratch .entry)) (stageOf state) ⌝ }
+{
+    let budget = read_number(line, after(line, given.next, b"press"));
     let session = state.session;
     let pressed = press_owned(
         left,
@@ -282,10 +295,19 @@ fn press_step(
         scratch,
         given.left,
         given.right,
-        call.budget,
+        budget.value,
         session,
     );
-    check_press(line, call.next, left, right, scratch, pressed, state)
+    check_press(line, budget.next, left, right, scratch, pressed, state)
+}
+
+// The same with a scratch of junk.
+fn press_step(line: &[u8], given: Given, left: &mut [u32], right: &mut [u32], state: State) -> State
+    ensures { λ r. ⌜ steppedOf r (now (left .exit)) (now (right .exit)) ≡ pressStep (now (line .entry)) given (now (left .entry)) (now (right .entry)) (stageOf state) ⌝ }
+{
+    let mut scratch = [JUNK; ROOM];
+    let n = lent(given.scratch, ROOM);
+    press_with(line, given, left, right, &mut scratch[..n], state)
 }
 
 // Whether the part that comes next is shown: where reading goes on.
@@ -296,15 +318,19 @@ fn show_step<'a>(
     right: &'a [u32],
     left_length: usize,
     right_length: usize,
-) -> usize {
+) -> usize
+    ensures { λ r. ⌜ r ≡ shownAfter (now (line .entry)) at (now (left .entry)) (now (right .entry)) «left_length» «right_length» ⌝ }
+{
     let part = show(left, right, left_length, right_length);
     let shown = compare(line, at, part, 0);
     only_if(shown.equal & (shown.count == part.len()), shown.next)
 }
 
 // A call with what stands in front of it.
-fn step(line: &[u8], left: &mut [u32], right: &mut [u32], mut state: State) -> State {
-    let given = read_given(line, state.at, state.left, state.right);
+fn step(line: &[u8], left: &mut [u32], right: &mut [u32], mut state: State) -> State
+    ensures { λ r. ⌜ steppedOf r (now (left .exit)) (now (right .exit)) ≡ stepped (now (line .entry)) (steppedOf state (now (left .entry)) (now (right .entry))) ⌝ }
+{
+    let given = read_given(line, state.at, state.left, state.right, left.len());
     let shown = after(line, given.next, b"show");
     if shown == NOWHERE {
         return press_step(line, given, left, right, state);
@@ -314,7 +340,9 @@ fn step(line: &[u8], left: &mut [u32], right: &mut [u32], mut state: State) -> S
 }
 
 // Whether every call goes as the line says, to the line's end.
-fn steps(line: &[u8], left: &mut [u32], right: &mut [u32], start: State) -> bool {
+fn steps(line: &[u8], left: &mut [u32], right: &mut [u32], start: State) -> bool
+    ensures { λ r. ⌜ endedOf r (now (left .exit)) (now (right .exit)) ≡ stepsFrom (length (now (line .entry))) (now (line .entry)) (steppedOf start (now (left .entry)) (now (right .entry))) ⌝ }
+{
     let mut state = start;
     let mut turns = line.len();
     while 0 < turns {
@@ -328,7 +356,9 @@ fn steps(line: &[u8], left: &mut [u32], right: &mut [u32], start: State) -> bool
 }
 
 // The fresh session, or after `total` one that has spent the number and has lengths of no term.
-fn read_session(line: &[u8], at: usize) -> Opened {
+fn read_session(line: &[u8], at: usize) -> Opened
+    ensures { λ r. ⌜ openedOf r ≡ openedAt (now (line .entry)) at ⌝ }
+{
     let from = after(line, at, b"total");
     if from == NOWHERE {
         return Opened {
@@ -349,7 +379,9 @@ fn read_session(line: &[u8], at: usize) -> Opened {
 }
 
 // The two terms, the session and the calls.
-fn run(line: &[u8], at: usize, left: &mut [u32], right: &mut [u32]) -> bool {
+fn run(line: &[u8], at: usize, left: &mut [u32], right: &mut [u32]) -> bool
+    ensures { λ r. ⌜ endedOf r (now (left .exit)) (now (right .exit)) ≡ pairRun (now (line .entry)) at (now (left .entry)) (now (right .entry)) ⌝ }
+{
     let l = read_list(line, at, left);
     let r = read_list(line, l.next, right);
     let opened = read_session(line, r.next);
@@ -366,12 +398,20 @@ fn run(line: &[u8], at: usize, left: &mut [u32], right: &mut [u32]) -> bool {
 }
 
 // Whether a line is right, from its sizes on.
-pub fn pair_holds(line: &[u8], at: usize) -> bool {
+pub fn pair_holds(line: &[u8], at: usize) -> bool
+    ensures { λ r. ⌜ r ≡ pairHolds (now (line .entry)) at ⌝ }
+{
     let mut left = [JUNK; ROOM];
     let mut right = [JUNK; ROOM];
     let c = read_number(line, at);
     let d = read_setting(line, c.next, b",", c.value as usize);
-    let l = front(&mut left, c.value as usize);
-    let r = front(&mut right, d.value);
-    run(line, d.next, l, r)
+    let l = lent(c.value as usize, ROOM);
+    let r = lent(d.value, ROOM);
+    run(line, d.next, &mut left[..l], &mut right[..r])
 }
+
+// Does nothing. Its contract says that each constant is the number that the definitions give its name.
+fn constants()
+    ensures { λ r. do ⌜ (← ⟦ROOM⟧ .entry) ≡ room ⌝ }
+    ensures { λ r. do ⌜ (← ⟦JUNK⟧ .entry) ≡ junk ⌝ }
+{}

@@ -3,13 +3,14 @@
 //     load C table gives words                 the table loads to these words, and writing them gives the table again
 //     load C table gives words writes table    the same, but writing gives another table
 //     load C table Refused number              a refusal, which changes nothing
+//     write C words length size writes table   writing gives a table
 //     write C words length size Refused number
 //
 // The workspace has C words, and the table that is written `size`: all junk before the call, and every word is compared after it. In place of a
 // table, `chain n index` is the table of n - 1 abstractions around a variable.
 use crate::lent::filled;
-use crate::lent::front;
 use crate::lent::holds;
+use crate::lent::lent;
 use crate::pair::JUNK;
 use crate::pair::ROOM;
 use crate::text::LIST_MOST;
@@ -24,10 +25,13 @@ use tables::Answer;
 use tables::load;
 use tables::write;
 ghost use mathlib.Core.Path.{_≡_};
+ghost use Prim.Native.Nat.{_≤_};
+ghost use lib.ListN.{length};
+ghost use lib.ListN.{length as List·length};
 ghost use Rattle.tables.specs.Types.{answerOf};
 ghost use Rattle.vectors.specs.Answers.{isReturned};
-
-const RECORD: u32 = RECORD_WORDS as u32;
+ghost use Rattle.vectors.specs.Lists.{listMost, listedOf};
+ghost use Rattle.vectors.specs.Stored.{verifiedOf, refusedLast, chainWord, chain, tableAt, isTable, writesInto, writesBack, loading, loadHolds, writesWords, writeHolds};
 
 fn returns_count(answer: Answer, count: usize) -> bool
     ensures { λ r. ⌜ r ≡ isReturned (answerOf answer) count ⌝ }
@@ -39,7 +43,9 @@ fn returns_count(answer: Answer, count: usize) -> bool
 }
 
 // Whether the answer is the refusal that the line names last.
-fn refuses(line: &[u8], at: usize, answer: Answer) -> bool {
+fn refuses(line: &[u8], at: usize, answer: Answer) -> bool
+    ensures { λ r. ⌜ r ≡ refusedLast (now (line .entry)) at (answerOf answer) ⌝ }
+{
     let Answer::Refused(refusal) = answer else {
         return false;
     };
@@ -48,31 +54,38 @@ fn refuses(line: &[u8], at: usize, answer: Answer) -> bool {
 }
 
 // A word of the chain's table. The header differs from an abstraction over the next record in the second word alone.
-fn chain_word(record: u32, field: u32, records: u32, index: u32) -> u32 {
-    if records <= record {
-        return if field == 1 { index } else { 0 };
+fn chain_word(place: usize, records: u32, index: u32) -> u32
+    requires { ⌜ place ≤ listMost ⌝ }
+    ensures { λ r. ⌜ r ≡ chainWord records index place ⌝ }
+{
+    let record = place / RECORD_WORDS;
+    if records as usize <= record {
+        return if place % RECORD_WORDS == 1 { index } else { 0 };
     }
-    match field {
+    match place % RECORD_WORDS {
         0 => 1,
         1 => if record == 0 { records } else { 0 },
-        2 => record + 1,
+        2 => record as u32 + 1,
         _ => 0,
     }
 }
 
-fn put_chain(table: &mut [u32], records: u32, index: u32) {
-    let mut i: u32 = 0;
-    while (i as usize) < table.len() {
-        if u32::MAX <= i {
-            return;
-        }
-        table[i as usize] = chain_word(i / RECORD, i % RECORD, records, index);
+fn put_chain(table: &mut [u32], records: u32, index: u32)
+    requires { ⌜ length (now table) ≤ listMost ⌝ }
+    ensures { λ r. ⌜ now (table .exit) ≡ chain records index (length (now (table .entry))) ⌝ }
+{
+    let mut i = 0;
+    while i < table.len() {
+        table[i] = chain_word(i, records, index);
         i += 1;
     }
 }
 
 // The table that comes next in the line.
-fn read_table(line: &[u8], at: usize, table: &mut [u32]) -> List {
+fn read_table(line: &[u8], at: usize, table: &mut [u32]) -> List
+    requires { ⌜ length (now table) ≤ listMost ⌝ }
+    ensures { λ r. ⌜ listedOf r (now (table .exit)) ≡ tableAt (now (line .entry)) at (now (table .entry)) ⌝ }
+{
     let from = after(line, at, b"chain");
     if from == NOWHERE {
         return read_list(line, at, table);
@@ -87,7 +100,9 @@ fn read_table(line: &[u8], at: usize, table: &mut [u32]) -> List {
 }
 
 // Whether a written table is the one that the line names after `writes`, or else the one that was loaded.
-fn is_table(line: &[u8], at: usize, written: &[u32], loaded: &[u32]) -> bool {
+fn is_table(line: &[u8], at: usize, written: &[u32], loaded: &[u32]) -> bool
+    ensures { λ r. ⌜ r ≡ isTable (now (line .entry)) at (now (written .entry)) (now (loaded .entry)) ⌝ }
+{
     let from = after(line, at, b"writes");
     if from == NOWHERE {
         return holds(written, loaded, loaded.len(), JUNK) & (at == line.len());
@@ -96,16 +111,38 @@ fn is_table(line: &[u8], at: usize, written: &[u32], loaded: &[u32]) -> bool {
     table.equal & (table.count == written.len()) & (table.next == line.len())
 }
 
-// Whether writing the loaded term goes as the line says, to the line's end.
-fn writes(line: &[u8], at: usize, loaded: &[u32], workspace: &[u32], length: usize) -> bool {
+// Whether writing goes as the line says, to the line's end.
+fn writes_into(
+    line: &[u8],
+    at: usize,
+    loaded: &[u32],
+    workspace: &[u32],
+    length: usize,
+    table: &mut [u32],
+) -> bool
+    ensures { λ r. ⌜ verifiedOf r (now (table .exit)) ≡ writesInto (now (line .entry)) at (now (loaded .entry)) (now (workspace .entry)) length (now (table .entry)) ⌝ }
+{
+    let answer = write(workspace, length, table);
+    let from = after(line, at, b"Refused");
+    if from != NOWHERE {
+        return refuses(line, from, answer) & filled(table, JUNK);
+    }
+    returns_count(answer, length) & is_table(line, at, table, loaded)
+}
+
+// The same of a loaded term, into a table of junk as long as the one that was loaded.
+fn writes(line: &[u8], at: usize, loaded: &[u32], workspace: &[u32], length: usize) -> bool
+    ensures { λ r. ⌜ r ≡ writesBack (now (line .entry)) at (now (loaded .entry)) (now (workspace .entry)) length ⌝ }
+{
     let mut table = [JUNK; LIST_MOST];
-    let written = front(&mut table, loaded.len());
-    let answer = write(workspace, length, written);
-    returns_count(answer, length) & is_table(line, at, written, loaded)
+    let n = lent(loaded.len(), LIST_MOST);
+    writes_into(line, at, loaded, workspace, length, &mut table[..n])
 }
 
 // Whether loading and writing go as the line says after the table.
-fn loads(line: &[u8], at: usize, table: &[u32], workspace: &mut [u32]) -> bool {
+fn loads(line: &[u8], at: usize, table: &[u32], workspace: &mut [u32]) -> bool
+    ensures { λ r. ⌜ verifiedOf r (now (workspace .exit)) ≡ loading (now (line .entry)) at (now (table .entry)) (now (workspace .entry)) ⌝ }
+{
     let answer = load(table, workspace);
     let from = after(line, at, b"Refused");
     if from != NOWHERE {
@@ -118,26 +155,43 @@ fn loads(line: &[u8], at: usize, table: &[u32], workspace: &mut [u32]) -> bool {
 }
 
 // Whether a line is right, from its size on.
-pub fn load_holds(line: &[u8], at: usize) -> bool {
+pub fn load_holds(line: &[u8], at: usize) -> bool
+    ensures { λ r. ⌜ r ≡ loadHolds (now (line .entry)) at ⌝ }
+{
     let mut table = [0u32; LIST_MOST];
     let mut workspace = [JUNK; ROOM];
     let c = read_number(line, at);
     let read = read_table(line, c.next, &mut table);
-    let given = front(&mut table, read.count);
-    let lent = front(&mut workspace, c.value as usize);
-    loads(line, read.next, given, lent)
+    let n = lent(read.count, LIST_MOST);
+    let w = lent(c.value as usize, ROOM);
+    loads(line, read.next, &table[..n], &mut workspace[..w])
 }
 
-// Whether a line is right, from its size on: the words in the workspace, then the length and the size that writing gets.
-pub fn write_holds(line: &[u8], at: usize) -> bool {
-    let mut junk = [JUNK; ROOM];
-    let c = read_number(line, at);
-    let workspace = front(&mut junk, c.value as usize);
-    let words = read_list(line, c.next, workspace);
+// The words in the workspace, then the length and the size that writing gets.
+fn writes_words(line: &[u8], at: usize, workspace: &mut [u32]) -> bool
+    ensures { λ r. ⌜ verifiedOf r (now (workspace .exit)) ≡ writesWords (now (line .entry)) at (now (workspace .entry)) ⌝ }
+{
+    let mut table = [JUNK; LIST_MOST];
+    let words = read_list(line, at, workspace);
     let length = read_number(line, words.next);
     let size = read_number(line, length.next);
-    let mut table = [JUNK; LIST_MOST];
-    let lent = front(&mut table, size.value as usize);
-    let answer = write(workspace, length.value as usize, lent);
-    refuses(line, after(line, size.next, b"Refused"), answer) & filled(lent, JUNK)
+    let n = lent(size.value as usize, LIST_MOST);
+    writes_into(
+        line,
+        size.next,
+        &[],
+        workspace,
+        length.value as usize,
+        &mut table[..n],
+    )
+}
+
+// Whether a line is right, from its size on.
+pub fn write_holds(line: &[u8], at: usize) -> bool
+    ensures { λ r. ⌜ r ≡ writeHolds (now (line .entry)) at ⌝ }
+{
+    let mut workspace = [JUNK; ROOM];
+    let c = read_number(line, at);
+    let w = lent(c.value as usize, ROOM);
+    writes_words(line, c.next, &mut workspace[..w])
 }

@@ -4,10 +4,11 @@ use crate::stored::load_holds;
 use crate::stored::write_holds;
 use crate::text::NOWHERE;
 use crate::text::after;
-use crate::text::find;
 use libc::STDOUT_FILENO;
 ghost use mathlib.Core.Path.{_≡_};
 ghost use Prim.Native.Nat.{_≤_};
+ghost use lib.ListN.{length};
+ghost use Rattle.vectors.specs.Vector.{lineEnd, passes, failed, shareOf, tallyAll};
 
 // How many vectors there are, and how many of them pass.
 pub struct Tally {
@@ -15,7 +16,9 @@ pub struct Tally {
     pub passed: usize,
 }
 
-fn passes(line: &[u8]) -> bool {
+fn passes(line: &[u8]) -> bool
+    ensures { λ r. ⌜ r ≡ passes (now (line .entry)) ⌝ }
+{
     let pair = after(line, 0, b"pair");
     if pair != NOWHERE {
         return pair_holds(line, pair);
@@ -29,7 +32,7 @@ fn passes(line: &[u8]) -> bool {
 
 // A vector that fails is printed.
 fn fails(line: &[u8]) -> Tally
-    ensures { λ r. ⌜ (r .vectors ≡ 1) × (r .passed ≡ 0) ⌝ }
+    ensures { λ r. ⌜ r ≡ failed ⌝ }
 {
     io::write_all(STDOUT_FILENO, b"failed: ");
     io::write_all(STDOUT_FILENO, line);
@@ -42,7 +45,7 @@ fn fails(line: &[u8]) -> Tally
 
 // A line's share: none of an empty line and of a comment. A line that is cut off before its end fails.
 fn share(line: &[u8], ended: bool) -> Tally
-    ensures { λ r. ⌜ (r .passed ≤ r .vectors) × (r .vectors ≤ 1) ⌝ }
+    ensures { λ r. ⌜ (r ≡ shareOf (now (line .entry)) ended) × (r .passed ≤ r .vectors) × (r .vectors ≤ 1) ⌝ }
 {
     if line.len() == 0 {
         return Tally {
@@ -68,19 +71,39 @@ fn share(line: &[u8], ended: bool) -> Tally
     }
 }
 
+// Where the line that goes on at a position ends.
+fn line_end(text: &[u8], at: usize) -> usize
+    requires { ⌜ at ≤ length (now text) ⌝ }
+    ensures { λ r. ⌜ (r ≡ lineEnd (now (text .entry)) at) × (at ≤ r) × (r ≤ length (now (text .entry))) ⌝ }
+{
+    let mut i = at;
+    while i < text.len() {
+        if text[i] == b'\n' {
+            return i;
+        }
+        i += 1;
+    }
+    i
+}
+
 // All lines of a text together.
 pub fn tally_all(text: &[u8]) -> Tally
-    ensures { λ r. ⌜ r .passed ≤ r .vectors ⌝ }
+    ensures { λ r. ⌜ r ≡ tallyAll (now (text .entry)) ⌝ }
 {
     let mut vectors = 0;
     let mut passed = 0;
     let mut at = 0;
-    while at < text.len() {
-        let end = find(text, at, b'\n', true);
+    let mut turns = text.len();
+    while 0 < turns {
+        if text.len() <= at {
+            return Tally { vectors, passed };
+        }
+        let end = line_end(text, at);
         let line = share(&text[at..end], end < text.len());
         vectors += line.vectors;
         passed += line.passed;
         at = end + 1;
+        turns -= 1;
     }
     Tally { vectors, passed }
 }

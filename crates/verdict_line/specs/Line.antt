@@ -6,7 +6,7 @@ use mathlib.Core.Option.{Option, some, none}
 use lib.ListN.{length, replicate}
 use Rattle.calculus.specs.Refusal.{number}
 use Rattle.calculus.specs.Rounds.{Verdict, Same, Different, Budget, Full}
-use Rattle.press.specs.Session.{fresh}
+use Rattle.press.specs.State.{fresh}
 use Rattle.press.specs.Press.{press}
 use Rattle.press.specs.Answer as press
 use Rattle.tables.specs.Load.{Answer, refused, returned, load}

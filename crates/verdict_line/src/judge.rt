@@ -5,7 +5,7 @@ use crate::request::TABLE_MOST;
 use crate::request::Table;
 use crate::request::parse;
 use press::answer::Answer;
-use press::session::Session;
+use press::state::Session;
 use session::press_owned;
 use text::bytes::words_from;
 use words::Word;

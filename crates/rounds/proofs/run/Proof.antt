@@ -98,10 +98,10 @@ module _ (c : tie.After-judge Inv-loop μ-loop) where
   shares = compared left-search .agreeing .ensures
 
   left-plan : planOf (left-search .find .result) ≡ planned (held (here .loop .left) (here .loop .left-side .length))
-  left-plan = plan-is (here .loop .left) (here .loop .left-side .length) (left-search .find .result) (left-search .find .ensures)
+  left-plan = plan-is (here .loop .left) (here .loop .left-side .length) (left-search .find .result) (left-search .find .ensures .0)
 
   right-plan : planOf (right-found c .find2 .result) ≡ planned (held (here .loop .right) (here .loop .right-side .length))
-  right-plan = plan-is (here .loop .right) (here .loop .right-side .length) (right-found c .find2 .result) (right-found c .find2 .ensures)
+  right-plan = plan-is (here .loop .right) (here .loop .right-side .length) (right-found c .find2 .result) (right-found c .find2 .ensures .0)
 
   -- The searches keep the scratch's length.
   scratch-same : length (right-found c .find2 .last .1 .1 .1 .0) ≡ length (here .loop .scratch)
@@ -150,7 +150,7 @@ advance-requires : tie.Need-advance-requires Inv-loop μ-loop
 advance-requires c κs =
     let n = counted (c .before .before .before) in
     let j = judgement n in
-    left-advances (here j .loop .inv) (goes-on n) (scratch-same j) (left-search j .find .ensures)
+    left-advances (here j .loop .inv) (goes-on n) (scratch-same j) (left-search j .find .ensures .0)
 
 slice-aggregate-advance-2 : tie.Need-slice-aggregate-advance-2 Inv-loop μ-loop
 slice-aggregate-advance-2 c =
@@ -164,7 +164,7 @@ advance-requires-2 c κs =
     let j = judgement n in
     let a = m .advance in
     right-advances (here j .loop .inv) (goes-on n) (a .kept .0) (a .kept .1 .1 .1 .0 ∙ scratch-same j) (a .ensures .0)
-    (omega (arith, a .kept .1 .1 .1 .1 .0, here j .loop .inv .room-length)) (right-found j .find2 .ensures)
+    (omega (arith, a .kept .1 .1 .1 .1 .0, here j .loop .inv .room-length)) (right-found j .find2 .ensures .0)
 
 -- The place where the left side has moved, from the end of the turn.
 abbrev moved : tie.After-room4 Inv-loop μ-loop → tie.After-advance Inv-loop μ-loop

@@ -42,9 +42,9 @@ use denote.Triple.Walked.{says, Stays, stay-ref, stay-none, gave-slice, walkOf, 
 use denote.Triple.Walked.{AllGo, goes-ref, goes-none, goes-gave-slice}
 use denote.Exit.{yes}
 use denote.Signature.{plain}
-use Rattle.press.specs.declared.session.Session.{Session}
+use Rattle.press.specs.declared.state.Session.{Session}
 use Rattle.press.specs.declared.answer.Pressed.{Pressed}
-use Rattle.press.proofs.session.Session as S
+use Rattle.press.proofs.state.Session as S
 use Rattle.press.proofs.answer.Answer as A
 use Rattle.press.proofs.answer.Pressed as P
 use Rattle.press.proofs.answer.Pressed.Laws as P′

@@ -42,10 +42,10 @@ use denote.Triple.Table.{entered, cited}
 use denote.Triple.Walked.{says, Stays, stay-none, gave-slice, walkOf, AllGo, goes-none, goes-gave-slice, Walks, ends-at, walked, walk-meets}
 use denote.Exit.{yes}
 use denote.Signature.{plain}
-use Rattle.press.specs.declared.session.Session.{Session}
+use Rattle.press.specs.declared.state.Session.{Session}
 use Rattle.press.specs.declared.answer.Answer.{Answer}
-use Rattle.press.proofs.session.Session as S
-use Rattle.press.proofs.session.Session.Laws as S′
+use Rattle.press.proofs.state.Session as S
+use Rattle.press.proofs.state.Session.Laws as S′
 use Rattle.press.proofs.answer.Answer as A
 use Rattle.press.proofs.answer.Answer.Laws as A′
 use Rattle.press.proofs.answer.Pressed as P

@@ -19,17 +19,8 @@ move-words-requires c κs = tail-fits (c .before .before .before .before .before
 copy-requires : tie.Need-copy-requires
 copy-requires c κs = back-fits (c .before .before .before .before .before .before .before .before .before .before .before .before .before .before .before .before .before .pre) (c .before .before .before .before .before .before .before .before .before .before .substitute .ensures .0) (c .before .before .before .before .move-words .ensures)
 
-same-length : tie.Need-same-length
-same-length c = search needs
-
-same-length-2 : tie.Need-same-length-2
-same-length-2 c = search needs
-
-same-length-3 : tie.Need-same-length-3
-same-length-3 c = search needs
-
 returns : tie.Need-returns
-returns c = contracted (c .before .before .before .before .before .before .before .before .before .before .before .before .before .before .before .before .before .before .before .before .pre) (c .before .before .before .before .before .before .before .before .before .before .before .before .before .substitute .ensures .0) (c .before .before .before .before .before .before .before .move-words .ensures) (c .before .before .copy .ensures)
+returns c = (contracted (c .before .before .before .before .before .before .before .before .before .before .before .before .before .before .before .before .before .before .before .before .pre) (c .before .before .before .before .before .before .before .before .before .before .before .before .before .substitute .ensures .0) (c .before .before .before .before .before .before .before .move-words .ensures) (c .before .before .copy .ensures), c .before .before .before .before .before .before .before .before .before .before .before .before .before .substitute .ensures .1)
 
 pub contract-spec : {M : Type 1} → statement M
 contract-spec =
@@ -39,7 +30,7 @@ contract-spec =
     add-move-words
     move-words-requires
     copy-requires
-    same-length
-    same-length-2
-    same-length-3
+    (λ c. search needs)
+    (λ c. search needs)
+    (λ c. search needs)
     returns)

@@ -4,6 +4,7 @@ use mathlib.Core.Path.{_∙_, ap}
 use native.Mathlib.Omega.{arith}
 use borrow.Author.Needs.{needs}
 use lib.ListN.{length}
+use Rattle.words.proofs.RoomLaws.{room-of-length}
 use Rattle.step.proofs.SearchLaws.{ends-inside, Searching, searching-starts, search-within, searching-on, searching-stuck, search-ends}
 use Rattle.step.proofs.PlanLaws.{planned-here}
 use Rattle.step.proofs.find.Statement.{statement}
@@ -23,17 +24,13 @@ plan-at-requires c κs =
     let v = c .before .before .loop .inv in
     (record { holds = v .searched .holds; within = c .before .loop-test .taken; room-fits = omega (arith, c .before .before .before .before .before .pre .1, v .kept) }, v .table)
 
-enum-known-redex : tie.Need-enum-known-redex Inv-loop μ-loop
-enum-known-redex c = search needs
-
 same-length : tie.Need-same-length Inv-loop μ-loop
 same-length c = c .before .before .before .before .before .plan-at .kept .1 .1 .1 .1 .0 ∙ c .before .before .before .before .before .before .before .before .loop .inv .kept
 
 returns : tie.Need-returns Inv-loop μ-loop
-returns c = planned-here (c .before .before .before .before .before .before .before .before .loop .inv .searched) (rw (c .before .redex .given .1) at (c .before .before .before .before .before .plan-at .ensures))
-
-enum-told : tie.Need-enum-told Inv-loop μ-loop
-enum-told c = search needs
+returns c =
+    let h = rw (c .before .redex .given .1) at (c .before .before .before .before .before .plan-at .ensures) in
+    (planned-here (c .before .before .before .before .before .before .before .before .loop .inv .searched) (h .0, h .1), room-of-length (same-length c))
 
 fill-ends-requires : tie.Need-fill-ends-requires Inv-loop μ-loop
 fill-ends-requires c κs =
@@ -46,32 +43,26 @@ add-i c =
     let v = c .before .before .before .before .before .before .before .before .before .before .before .loop .inv in
     omega (arith, search-within v, v .searched .holds .limit, c .before .before .before .before .before .before .before .before .before .before .loop-test .taken)
 
-loop-less : tie.Need-loop-less Inv-loop μ-loop
-loop-less c = omega arith
-
 loop-again : tie.Need-loop-again Inv-loop μ-loop
 loop-again c =
-    searching-stuck (c .before .before .before .before .before .before .before .before .before .before .before .loop .inv) (c .before .before .before .before .before .before .before .before .before .before .loop-test .taken) (rw (c .before .before .before .before .enum-told .given .1) at (c .before .before .before .before .before .before .before .before .plan-at .ensures)) (c .before .before .fill-ends .ensures) (c .before .before .fill-ends .kept .1 .1 .0)
-
-enum-told-2 : tie.Need-enum-told-2 Inv-loop μ-loop
-enum-told-2 c = search needs
+    let h = rw (c .before .before .before .before .enum-told .given .1) at (c .before .before .before .before .before .before .before .before .plan-at .ensures) in
+    searching-stuck (c .before .before .before .before .before .before .before .before .before .before .before .loop .inv) (c .before .before .before .before .before .before .before .before .before .before .loop-test .taken) (h .0) (h .1) (c .before .before .fill-ends .ensures) (c .before .before .fill-ends .kept .1 .1 .0)
 
 add-i-2 : tie.Need-add-i-2 Inv-loop μ-loop
 add-i-2 c =
     let v = c .before .before .before .before .before .before .before .loop .inv in
     omega (arith, search-within v, v .searched .holds .limit, c .before .before .before .before .before .before .loop-test .taken)
 
-loop-less-2 : tie.Need-loop-less-2 Inv-loop μ-loop
-loop-less-2 c = omega arith
-
 loop-again-2 : tie.Need-loop-again-2 Inv-loop μ-loop
-loop-again-2 c = searching-on (c .before .before .before .before .before .before .before .loop .inv) (c .before .before .before .before .before .before .loop-test .taken) (rw (c .enum-told2 .given .1) at (c .before .before .before .before .plan-at .ensures))
+loop-again-2 c =
+    let h = rw (c .enum-told2 .given .1) at (c .before .before .before .before .plan-at .ensures) in
+    searching-on (c .before .before .before .before .before .before .before .loop .inv) (c .before .before .before .before .before .before .loop-test .taken) (h .0) (h .1)
 
 same-length-2 : tie.Need-same-length-2 Inv-loop μ-loop
 same-length-2 c = c .before .loop .inv .kept
 
 returns-2 : tie.Need-returns-2 Inv-loop μ-loop
-returns-2 c = search-ends (c .before .loop .inv) (c .loop-test .left)
+returns-2 c = (search-ends (c .before .loop .inv) (c .loop-test .left), room-of-length (c .before .loop .inv .kept))
 
 pub find-spec : {M : Type 1} → statement M
 find-spec =
@@ -81,17 +72,17 @@ find-spec =
     μ-loop
     loop-holds
     plan-at-requires
-    enum-known-redex
+    (λ c. search needs)
     same-length
     returns
-    enum-told
+    (λ c. search needs)
     fill-ends-requires
     add-i
-    loop-less
+    (λ c. omega arith)
     loop-again
-    enum-told-2
+    (λ c. search needs)
     add-i-2
-    loop-less-2
+    (λ c. omega arith)
     loop-again-2
     same-length-2
     returns-2)

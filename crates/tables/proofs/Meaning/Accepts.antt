@@ -21,23 +21,23 @@ use Rattle.calculus.proofs.ReadLaws.{words-injective}
 use Rattle.calculus.proofs.WorkspaceLaws.{termAt-words}
 use Rattle.words.specs.IsTerm.{isTerm}
 use Rattle.words.proofs.IsTerm.{isTerm-some, isTerm-none}
-use Rattle.tables.specs.Records.{Table, OfKind}
+use Rattle.records.specs.Records.{Table, OfKind}
 use Rattle.tables.specs.Meaning.{Means, plain, case-of, no-term, a-term, no-branch, a-branch}
-use Rattle.tables.specs.Values.{isTag, valueFits}
-use Rattle.tables.specs.Children.{children, numberFits, subjectFirst, sortsFit, childrenFit}
+use Rattle.records.specs.Values.{isTag, valueFits}
+use Rattle.records.specs.Children.{children, numberFits, subjectFirst, sortsFit, childrenFit}
 use Rattle.tables.specs.FreeNumbers.{freeFits}
 use Rattle.tables.proofs.Meaning.Nodes.{tag-fits, node-accepted, node-scoped}
 use Rattle.tables.proofs.Meaning.Held.{held}
-use Rattle.tables.proofs.Refusal.LinkRules.{Linked, children-enough}
+use Rattle.records.proofs.LinkRules.{Linked}
 use Rattle.tables.proofs.Meaning.ChainMeaning.{terms-chain, case-chain}
-use Rattle.tables.proofs.Refusal.Fits.{Valued, Fitted}
+use Rattle.records.proofs.Fits.{Valued, Fitted}
 
 module _ (T : Table) (L : Linked T) (values : Valued T) (fits : Fitted T) where
   number-fits : {i kind : ℕ} {xs : Terms} → OfKind T kind i → Means T terms (T .at i .first) xs → numberFits kind (count xs) ≡ true
   unfolding childrenFit
   number-fits {i} {kind} k m =
       let tested = and-eq-true-iff (numberFits kind (length (children T i))) (sortsFit kind (children T i)) .0 (rw (k .2) at (fits .children-fit i (k .0) (k .1))) .0 in
-      rw (terms-chain T L m (T .n) (children-enough T L i (k .0) (k .1)) .0) at tested
+      rw (terms-chain T L m .0) at tested
 
   value-of : {i kind : ℕ} → OfKind T kind i → valueFits kind (T .at i .value) ≡ true
   value-of {i} k = rw (k .2) at (values .value-fits i (k .0) (k .1))
@@ -49,7 +49,7 @@ module _ (T : Table) (L : Linked T) (values : Valued T) (fits : Fitted T) where
       let rs = children T i in
       let both = and-eq-true-iff (numberFits caseKind (length rs)) (subjectFirst rs) .0 (rw (k .2) at (fits .children-fit i (k .0) (k .1))) in
       let most = leb-true (length rs) (suc branchLimit) (and-eq-true-iff (leb 1 (length rs)) (leb (length rs) (suc branchLimit)) .0 (both .0) .1) in
-      let counted = case-chain T L m ms (T .n) (children-enough T L i (k .0) (k .1)) in
+      let counted = case-chain T L m ms in
       (omega (arith, counted .0), counted .1 .0 (both .1))
 
   branch-fits : {i : ℕ} → OfKind T branchKind i → IsTag (tagOf (T .at i .value)) × (countOf (T .at i .value) ≤ argumentLimit)

@@ -1,6 +1,6 @@
 -- A table that meets none of refusals 3 to 5 means a term: the records from the last to the first, each from those that its links name.
 use Prim.Native.Nat.{ℕ, zero, suc, _+_, _≤_, _<_}
-use mathlib.Core.Path.{_≡_, refl}
+use mathlib.Core.Path.{_≡_, refl, ap}
 use mathlib.Core.Bool.{true, false, not, and-eq-true-iff}
 use mathlib.Core.Logic.{inl, inr}
 use native.Mathlib.Decide.{ℕ-discrete}
@@ -11,14 +11,15 @@ use borrow.Author.Tests.{leb-true, eqb-true, eqb-false, ne-eqb, not-true}
 use Rattle.calculus.specs.Term.{term, terms, branches, Term, Terms, Branches, case, nil, cons, end, branch, count}
 use Rattle.calculus.specs.Words.{caseKind, branchKind, tagOf}
 use Rattle.calculus.specs.Accepted.{branchLimit}
-use Rattle.tables.specs.Records.{Table}
+use Rattle.records.specs.Records.{Table}
 use Rattle.tables.specs.Meaning.{Means, plain, case-of, no-term, a-term, no-branch, a-branch}
-use Rattle.tables.specs.Children.{chain, children, isBranch, startsAbove, mayStand, chainFits, numberFits, subjectFirst, sortsFit, childrenFit}
-use Rattle.tables.specs.Values.{valueFits}
-use Rattle.tables.proofs.Refusal.LinkRules.{Ahead, ahead-from, Linked, Enough, nothing-left, next-enough, children-enough}
+use Rattle.records.specs.Children.{children, chainFrom, isBranch, startsAbove, mayStand, chainFits, numberFits, subjectFirst, sortsFit, childrenFit}
+use Rattle.records.specs.Values.{valueFits}
+use Rattle.records.proofs.LinkRules.{Ahead, ahead-from, Linked, Enough, nothing-left, next-enough, children-enough}
 use Rattle.tables.proofs.Meaning.Nodes.{one-child, some-node}
-use Rattle.tables.proofs.Meaning.ChainMeaning.{chain-record, terms-chain}
-use Rattle.tables.proofs.Refusal.Fits.{Valued, Fitted}
+use Rattle.tables.proofs.Meaning.ChainMeaning.{terms-chain}
+use Rattle.records.proofs.Hanging.{chain-end, chain-next}
+use Rattle.records.proofs.Fits.{Valued, Fitted}
 
 module _ (T : Table) (L : Linked T) (F : Fitted T) where
   -- Every later record that is no branch means a term.
@@ -29,13 +30,13 @@ module _ (T : Table) (L : Linked T) (F : Fitted T) where
   next-after : (i l : ℕ) → (i < l) × (l ≤ T .n) → Ahead T i (T .at l .next)
   next-after i l a = ahead-from T i l _ (omega arith) (L .next-ahead l (omega arith) (a .1))
 
-  chain-terms : (i : ℕ) → LaterMean i → (b l : ℕ) → Enough T l b → Ahead T i l → chainFits false (chain T b l) ≡ true
+  chain-terms : (i : ℕ) → LaterMean i → (b l : ℕ) → Enough T l b → Ahead T i l → chainFits false (chainFrom T l) ≡ true
       → (xs : Terms) × Means T terms l xs
   chain-terms i later zero l h a f = (nil, rw (nothing-left T l h) no-term)
   chain-terms i later (suc b) l h (inl e) f = (nil, rw e no-term)
   chain-terms i later (suc b) l h (inr a) f =
       let r : 1 ≤ l = omega arith in
-      let both = and-eq-true-iff (not (isBranch (T .at l))) (chainFits false (chain T b (T .at l .next))) .0 (rw chain-record at f) in
+      let both = and-eq-true-iff (not (isBranch (T .at l))) (chainFits false (chainFrom T (T .at l .next))) .0 (rw (chain-next T L l r (a .1)) at f) in
       let t = later l (a .0) (a .1) (not-true _ (both .0)) in
       let xs = chain-terms i later b (T .at l .next) (next-enough T L l b r h) (next-after i l a) (both .1) in
       (cons (t .0) (xs .0), a-term (t .1) (xs .1))
@@ -52,17 +53,17 @@ module _ (T : Table) (L : Linked T) (F : Fitted T) where
       let both = and-eq-true-iff (numberFits kind (length rs)) (sortsFit kind rs) .0 (rw k at (F .children-fit i l u)) in
       let fit : chainFits false rs ≡ true = rw (ne-eqb kind caseKind other) at (both .1) in
       let xs = chain-terms i later (T .n) (T .at i .first) (children-enough T L i l u) (L .first-ahead i l u) fit in
-      let counted = terms-chain T L (xs .1) (T .n) (children-enough T L i l u) .0 in
+      let counted = terms-chain T L (xs .1) .0 in
       (xs .0, xs .1, rw counted at (both .0))
 
-  chain-branches : (i : ℕ) → LaterMean i → (b l : ℕ) → Enough T l b → Ahead T i l → chainFits true (chain T b l) ≡ true
+  chain-branches : (i : ℕ) → LaterMean i → (b l : ℕ) → Enough T l b → Ahead T i l → chainFits true (chainFrom T l) ≡ true
       → (bs : Branches) × Means T branches l bs
   chain-branches i later zero l h a f = (end, rw (nothing-left T l h) no-branch)
   chain-branches i later (suc b) l h (inl e) f = (end, rw e no-branch)
   chain-branches i later (suc b) l h (inr a) f =
       let r : 1 ≤ l = omega arith in
-      let rs = chain T b (T .at l .next) in
-      let both = and-eq-true-iff (mayStand true (T .at l) rs) (chainFits true rs) .0 (rw chain-record at f) in
+      let rs = chainFrom T (T .at l .next) in
+      let both = and-eq-true-iff (mayStand true (T .at l) rs) (chainFits true rs) .0 (rw (chain-next T L l r (a .1)) at f) in
       let own = and-eq-true-iff (isBranch (T .at l)) (startsAbove (tagOf (T .at l .value)) rs) .0 (both .0) .0 in
       let k : T .at l .kind ≡ branchKind = eqb-true _ branchKind own in
       let body = child-terms l (later-after i l (omega arith) later) r (a .1) branchKind k (λ e. omega arith) in
@@ -70,13 +71,13 @@ module _ (T : Table) (L : Linked T) (F : Fitted T) where
       let child = one-child (body .0) (eqb-true _ 1 (body .2)) in
       (branch _ _ (child .0) (bs .0), a-branch (r, a .1, k) (rw (child .1) at (body .1)) (bs .1))
 
-  subject-and-branches : (i : ℕ) → LaterMean i → (b l : ℕ) → Enough T l b → Ahead T i l → 1 ≤ length (chain T b l) → subjectFirst (chain T b l) ≡ true
+  subject-and-branches : (i : ℕ) → LaterMean i → (b l : ℕ) → Enough T l b → Ahead T i l → 1 ≤ length (chainFrom T l) → subjectFirst (chainFrom T l) ≡ true
       → (e : Term) × (bs : Branches) × Means T term l e × Means T branches (T .at l .next) bs
-  subject-and-branches i later zero l h a some f = absurd (omega arith)
-  subject-and-branches i later (suc b) l h (inl e) some f = absurd (omega (arith, rw e at some))
+  subject-and-branches i later zero l h a some f = absurd (omega (arith, ap length (chain-end T l (nothing-left T l h))))
+  subject-and-branches i later (suc b) l h (inl e) some f = absurd (omega (arith, ap length (chain-end T l e)))
   subject-and-branches i later (suc b) l h (inr a) some f =
       let r : 1 ≤ l = omega arith in
-      let both = and-eq-true-iff (not (isBranch (T .at l))) (chainFits true (chain T b (T .at l .next))) .0 (rw chain-record at f) in
+      let both = and-eq-true-iff (not (isBranch (T .at l))) (chainFits true (chainFrom T (T .at l .next))) .0 (rw (chain-next T L l r (a .1)) at f) in
       let e = later l (a .0) (a .1) (not-true _ (both .0)) in
       let bs = chain-branches i later b (T .at l .next) (next-enough T L l b r h) (next-after i l a) (both .1) in
       (e .0, bs .0, e .1, bs .1)

@@ -9,14 +9,13 @@ use native.Mathlib.Omega.{arith}
 use lib.ListN.{length-append}
 use Rattle.calculus.specs.Term.{Sort, term, terms, branches, Exp}
 use Rattle.calculus.specs.Words.{words, size}
-use Rattle.tables.specs.Records.{Table, sumOf}
+use Rattle.records.specs.Records.{Table, sumOf, hanging}
 use Rattle.tables.specs.Meaning.{Means, plain, case-of, no-term, a-term, no-branch, a-branch}
-use Rattle.tables.specs.Links.{naming, namings}
-use Rattle.tables.specs.Reading.{hanging}
-use Rattle.tables.proofs.Refusal.Sums.{sum-eq, sum-ones, sum-add, sum-times, sum-swap, sum-unnamed, sum-named}
-use Rattle.tables.proofs.Refusal.LinkRules.{Ahead, Linked}
+use Rattle.records.specs.Links.{naming, namings}
+use Rattle.records.proofs.Sums.{sum-eq, sum-ones, sum-add, sum-times, sum-swap, sum-unnamed, sum-named}
+use Rattle.records.proofs.LinkRules.{Ahead, Linked}
 use Rattle.tables.proofs.Meaning.Nodes.{node-size}
-use Rattle.tables.proofs.Meaning.Hanging.{hanging-zero, hanging-record}
+use Rattle.records.proofs.Hanging.{hanging-zero, hanging-record}
 
 pub extent : Table → (link : ℕ) → ℕ
 extent T l = hanging T 0 (λ i below after. suc (below + after)) (T .n) l

@@ -1,20 +1,20 @@
 -- `meaning` follows the relation `Means`, and an index means at most one expression of a sort.
-use Prim.Native.Nat.{ℕ, zero, suc, _+_, _*_, _≤_, _<_, max}
-use mathlib.Core.Path.{_≡_, refl, _∙_}
+use Prim.Native.Nat.{ℕ, zero, suc, _+_, _*_, _≤_}
+use mathlib.Core.Path.{_≡_, refl, sym, ap₂, _∙_}
 use mathlib.Core.Bool.{_&&_, and-eq-true-iff}
 use mathlib.Core.Option.{Option, some, bind}
-use mathlib.Core.Logic.{inl, inr}
+use mathlib.Core.Logic.{_⊎_, inl, inr}
 use native.Mathlib.Omega.{arith}
 use lib.Dec.{eqb}
 use borrow.Author.Tests.{eqb-true, eq-eqb, ne-eqb}
 use Rattle.calculus.specs.Term.{Sort, term, terms, branches, Exp, case, nil, cons, Term, Terms}
 use Rattle.calculus.specs.Words.{caseKind, branchKind}
 use Rattle.calculus.proofs.All.{All, holds, nothing, all-map, all-bind, all-weaken, all-some}
-use Rattle.tables.specs.Records.{Table, OfKind, isRecord}
-use Rattle.tables.specs.Meaning.{Means, plain, case-of, no-term, a-term, no-branch, a-branch, onlyOne, valueless, Reading, meantTerm, meantTerms, meantBranch, meantBranches, meant, meaning}
-use Rattle.tables.proofs.Refusal.Tests.{if-true, if-false, all-if, isRecord-true, record-isRecord}
+use Rattle.records.specs.Records.{Table, OfKind, isRecord}
+use Rattle.tables.specs.Meaning.{Node, Means, plain, case-of, no-term, a-term, no-branch, a-branch, onlyOne, valueless, Reading, meantTerm, meantTerms, meantBranch, meantBranches, meant, meaning}
+use Rattle.records.proofs.Tests.{if-true, if-false, all-if, isRecord-true, record-isRecord}
 use Rattle.tables.proofs.Meaning.Nodes.{made-node, node-made, node-kind}
-use Rattle.tables.proofs.Refusal.LinkRules.{Ahead, ahead-later, Linked, linked}
+use Rattle.records.proofs.LinkRules.{Ahead, ahead-later, Linked, linked}
 use Rattle.tables.specs.Theorems.{Means-unique, Meaning-sound, Meaning-complete}
 
 -- What is computed is meant.
@@ -69,83 +69,90 @@ pub meaning-sound : Meaning-sound
 unfolding meaning
 meaning-sound T t h = all-some (rw h at (sound-meant T (2 * T .n) term (T .root)))
 
--- How deep a meaning is read: every bound above computes it.
-depth : {T : Table} {s : Sort} {i : ℕ} {e : Exp s} → Means T s i e → ℕ
-depth (plain k n m) = suc (depth m)
-depth (case-of k z m ms) = suc (max (depth m) (depth ms))
-depth no-term = 0
-depth (a-term m ms) = suc (max (depth m) (depth ms))
-depth no-branch = 0
-depth (a-branch k m ms) = suc (max (depth m) (depth ms))
-
 -- What has a meaning as a term is a record.
 pub term-inside : {T : Table} {i : ℕ} {t : Term} → Means T term i t → (1 ≤ i) × (i ≤ T .n)
 term-inside (plain k n m) = (k .0, k .1)
 term-inside (case-of k z m ms) = (k .0, k .1)
 
-meant-complete : {T : Table} {s : Sort} {i : ℕ} {e : Exp s} (m : Means T s i e) (bound : ℕ) → depth m < bound → meant T bound s i ≡ some e
-unfolding depth meant meantTerm meantTerms meantBranch meantBranches bind
-meant-complete m zero h = absurd (omega arith)
-meant-complete {T} {i = i} (plain k n m) (suc b) h =
-    if-true (isRecord T i) _ _ (record-isRecord T i (k .0) (k .1))
-    ∙ if-false (eqb (T .at i .kind) caseKind) _ _ (ne-eqb (T .at i .kind) caseKind (λ e. omega (arith, node-kind n)))
-    ∙ rw (meant-complete m b (omega arith), k .2) (node-made n)
-meant-complete {T} {i = i} (case-of k z m ms) (suc b) h =
-    if-true (isRecord T i) _ _ (record-isRecord T i (k .0) (k .1))
-    ∙ if-true (eqb (T .at i .kind) caseKind) _ _ (eq-eqb _ _ (k .2))
-    ∙ rw (z, meant-complete m b (omega arith), meant-complete ms b (omega arith))
-meant-complete no-term (suc b) h = refl
-meant-complete {i = i} (a-term m ms) (suc b) h =
-    if-false (eqb i 0) _ _ (ne-eqb i 0 (λ z. omega (arith, term-inside m)))
-    ∙ rw (meant-complete m b (omega arith), meant-complete ms b (omega arith))
-meant-complete no-branch (suc b) h = refl
-meant-complete {T} {i = i} (a-branch k m ms) (suc b) h =
-    if-false (eqb i 0) _ _ (ne-eqb i 0 (λ z. omega arith))
-    ∙ if-true (isRecord T i && eqb (T .at i .kind) branchKind) _ _
-    (and-eq-true-iff (isRecord T i) (eqb (T .at i .kind) branchKind) .1 (record-isRecord T i (k .0) (k .1), eq-eqb _ _ (k .2)))
-    ∙ rw (meant-complete m b (omega arith), meant-complete ms b (omega arith))
+-- A bound that is enough: 2 × (n - i) + 2 at record i, one more at the chain that starts there, and 1 at the empty chain.
+abbrev Far : ℕ → Sort → (i bound : ℕ) → Type 0
+Far n term i b = 2 * n + 2 ≤ b + 2 * i
+Far n terms i b = (i ≡ 0) ⊎ (2 * n + 3 ≤ b + 2 * i)
+Far n branches i b = (i ≡ 0) ⊎ (2 * n + 3 ≤ b + 2 * i)
 
-pub means-unique : Means-unique
-means-unique T s i e g d d′ =
-    let bound = suc (max (depth d) (depth d′)) in
-    let computed : meant T bound s i ≡ some e = meant-complete d bound (omega arith) in
-    let computed′ : meant T bound s i ≡ some g = meant-complete d′ bound (omega arith) in
-    cc
+-- Below a record and after it, one less is enough.
+far-ahead : (T : Table) (i l b : ℕ) → 2 * T .n + 1 ≤ b + 2 * i → Ahead T i l → Far (T .n) terms l b
+far-ahead T i l b h (inl e) = inl e
+far-ahead T i l b h (inr a) = inr (omega arith)
 
--- A meaning at record i is at most 2 × (n - i) + 2 deep, and one of a chain that starts there at most one deeper; the empty chain has depth 1.
-abbrev Shallow : (n : ℕ) (s : Sort) → (i k : ℕ) → Type 0
-Shallow n term i k = k + 2 * i ≤ 2 * n + 1
-Shallow n terms i k = (i ≡ 0 → k ≡ 0) × (k + 2 * i ≤ 2 * n + 2)
-Shallow n branches i k = (i ≡ 0 → k ≡ 0) × (k + 2 * i ≤ 2 * n + 2)
-
-descend : (T : Table) (i l k : ℕ) → i ≤ T .n → Ahead T i l → Shallow (T .n) terms l k → k + 2 * i ≤ 2 * T .n
-descend T i l k u (inl e) h = omega (arith, h .0 e)
-descend T i l k u (inr a) h = omega arith
+far-chain : (n i b : ℕ) → 1 ≤ i → Far n terms i b → 2 * n + 3 ≤ b + 2 * i
+far-chain n i b l (inl e) = absurd (omega arith)
+far-chain n i b l (inr h) = h
 
 module _ {T : Table} (L : Linked T) where
-  to-first : (i k : ℕ) → 1 ≤ i → i ≤ T .n → Shallow (T .n) terms (T .at i .first) k → k + 2 * i ≤ 2 * T .n
-  to-first i k l u = descend T i _ k u (L .first-ahead i l u)
+  below : (i b : ℕ) → 1 ≤ i → i ≤ T .n → 2 * T .n + 1 ≤ b + 2 * i → (1 ≤ b) × Far (T .n) terms (T .at i .first) b
+  below i b l u h = (omega arith, far-ahead T i _ b h (L .first-ahead i l u))
 
-  to-next : (i k : ℕ) → 1 ≤ i → i ≤ T .n → Shallow (T .n) terms (T .at i .next) k → k + 2 * i ≤ 2 * T .n
-  to-next i k l u = descend T i _ k u (L .next-ahead i l u)
+  after : (i b : ℕ) → 1 ≤ i → i ≤ T .n → 2 * T .n + 1 ≤ b + 2 * i → (1 ≤ b) × Far (T .n) terms (T .at i .next) b
+  after i b l u h = (omega arith, far-ahead T i _ b h (L .next-ahead i l u))
 
-  depth-bound : {s : Sort} {i : ℕ} {e : Exp s} (m : Means T s i e) → Shallow (T .n) s i (depth m)
-  unfolding depth
-  depth-bound {i = i} (plain k n m) = omega (arith, to-first i _ (k .0) (k .1) (depth-bound m))
-  depth-bound {i = i} (case-of k z m ms) =
+  meant-complete : {s : Sort} {i : ℕ} {e : Exp s} → Means T s i e → (b : ℕ) → 1 ≤ b → Far (T .n) s i b → meant T b s i ≡ some e
+  unfolding meant meantTerm meantTerms meantBranch meantBranches bind
+  meant-complete m zero l h = absurd (omega arith)
+  meant-complete {i = i} (plain k n m) (suc b) l h =
+      let enough = below i b (k .0) (k .1) (omega arith) in
+      if-true (isRecord T i) _ _ (record-isRecord T i (k .0) (k .1))
+      ∙ if-false (eqb (T .at i .kind) caseKind) _ _ (ne-eqb (T .at i .kind) caseKind (λ e. omega (arith, node-kind n)))
+      ∙ rw (meant-complete m b (enough .0) (enough .1), k .2) (node-made n)
+  meant-complete {i = i} (case-of k z m ms) (suc b) l h =
       let r = term-inside m in
       let later = ahead-later T i _ (L .first-ahead i (k .0) (k .1)) (r .0) in
-      omega (arith, depth-bound m, to-next (T .at i .first) _ (r .0) (r .1) (depth-bound ms))
-  depth-bound no-term = (λ z. omega arith, omega arith)
-  depth-bound {i = i} (a-term m ms) =
+      let enough = after (T .at i .first) b (r .0) (r .1) (omega arith) in
+      if-true (isRecord T i) _ _ (record-isRecord T i (k .0) (k .1))
+      ∙ if-true (eqb (T .at i .kind) caseKind) _ _ (eq-eqb _ _ (k .2))
+      ∙ rw (z, meant-complete m b (enough .0) (omega arith), meant-complete ms b (enough .0) (enough .1))
+  meant-complete no-term (suc b) l h = refl
+  meant-complete {i = i} (a-term m ms) (suc b) l h =
       let r = term-inside m in
-      (λ z. absurd (omega arith), omega (arith, depth-bound m, to-next i _ (r .0) (r .1) (depth-bound ms)))
-  depth-bound no-branch = (λ z. omega arith, omega arith)
-  depth-bound {i = i} (a-branch k m ms) = (
-    λ z. absurd (omega arith),
-    omega (arith, to-first i _ (k .0) (k .1) (depth-bound m), to-next i _ (k .0) (k .1) (depth-bound ms)),
-  )
+      let here = far-chain (T .n) i (suc b) (r .0) h in
+      let enough = after i b (r .0) (r .1) (omega arith) in
+      if-false (eqb i 0) _ _ (ne-eqb i 0 (λ z. omega arith))
+      ∙ rw (meant-complete m b (enough .0) (omega arith), meant-complete ms b (enough .0) (enough .1))
+  meant-complete no-branch (suc b) l h = refl
+  meant-complete {i = i} (a-branch k m ms) (suc b) l h =
+      let here = far-chain (T .n) i (suc b) (k .0) h in
+      let enough = below i b (k .0) (k .1) (omega arith) in
+      if-false (eqb i 0) _ _ (ne-eqb i 0 (λ z. omega arith))
+      ∙ if-true (isRecord T i && eqb (T .at i .kind) branchKind) _ _
+      (and-eq-true-iff (isRecord T i) (eqb (T .at i .kind) branchKind) .1 (record-isRecord T i (k .0) (k .1), eq-eqb _ _ (k .2)))
+      ∙ rw (meant-complete m b (enough .0) (enough .1), meant-complete ms b (enough .0) (after i b (k .0) (k .1) (omega arith) .1))
 
 pub meaning-complete : Meaning-complete
 unfolding meaning
-meaning-complete T t h m = meant-complete m (2 * T .n) (omega (arith, depth-bound (linked T h) m, term-inside m))
+meaning-complete T t h m =
+    let r = term-inside m in
+    meant-complete (linked T h) m (2 * T .n) (omega arith) (omega arith)
+
+-- One meaning at most.
+node-unique : {k k′ v : ℕ} {xs xs′ : Terms} {t u : Term} → Node k v xs t → Node k′ v xs′ u → k ≡ k′ → xs ≡ xs′ → t ≡ u
+node-unique {k} {v = v} {xs = xs} n n′ e f =
+    let one = node-made n in
+    let two = node-made n′ in
+    cc
+
+pub means-unique : Means-unique
+means-unique T s i e g d d′ = unique d d′
+  where
+    unique : {s : Sort} {i : ℕ} {e g : Exp s} → Means T s i e → Means T s i g → e ≡ g
+    unique (plain k n m) (plain k′ n′ m′) = node-unique n n′ (sym (k .2) ∙ k′ .2) (unique m m′)
+    unique (plain k n m) (case-of k′ z m′ ms) = absurd (omega (arith, node-kind n))
+    unique (case-of k z m ms) (plain k′ n m′) = absurd (omega (arith, node-kind n))
+    unique (case-of k z m ms) (case-of k′ z′ m′ ms′) = ap₂ case (unique m m′) (unique ms ms′)
+    unique no-term no-term = refl
+    unique no-term (a-term m ms) = absurd (omega (arith, term-inside m))
+    unique (a-term m ms) no-term = absurd (omega (arith, term-inside m))
+    unique (a-term m ms) (a-term m′ ms′) = ap₂ cons (unique m m′) (unique ms ms′)
+    unique no-branch no-branch = refl
+    unique no-branch (a-branch k m ms) = absurd (omega arith)
+    unique (a-branch k m ms) no-branch = absurd (omega arith)
+    unique (a-branch k m ms) (a-branch k′ m′ ms′) = let body = unique m m′ in let rest = unique ms ms′ in cc

@@ -18,10 +18,11 @@ use Rattle.calculus.proofs.WordLaws.{tagOf-pack}
 use Rattle.calculus.proofs.SkipLaws.{arity-variable, arity-constructor}
 use Rattle.calculus.proofs.All.{All, holds, nothing, all-eqb}
 use Rattle.tables.specs.Meaning.{Node, variable, abstraction, application, constructor, variableOf, onlyOne, applicationOf, valueless, termOf}
-use Rattle.tables.specs.Values.{isTag, valueFits}
-use Rattle.tables.specs.Children.{numberFits}
+use Rattle.records.specs.Values.{isTag, valueFits}
+use Rattle.records.specs.Children.{numberFits}
 use Rattle.tables.specs.Reading.{payload}
-use Rattle.tables.specs.Write.{entry, linkTo, records}
+use Rattle.records.specs.Records.{entry}
+use Rattle.tables.specs.Write.{linkTo, records}
 use Rattle.tables.specs.Writing.{valueOf}
 
 -- `termOf` finds the term of a node, and nothing else.

@@ -11,15 +11,15 @@ use borrow.Author.Tests.{leb-true, eqb-true, eq-eqb, ne-eqb}
 use Rattle.calculus.specs.Words.{variableKind, constructorKind, caseKind, branchKind, tagOf, countOf, word, pack, workspaceMost}
 use Rattle.calculus.specs.Accepted.{argumentLimit, branchLimit, indexLimit}
 use Rattle.words.specs.Limits.{payloadBound}
-use Rattle.tables.specs.Records.{Record, Table, Stored, recordAt, view}
-use Rattle.tables.specs.Values.{isTag, valueFits}
-use Rattle.tables.specs.Children.{children, numberFits, subjectFirst, childrenFit, chainFrom}
+use Rattle.records.specs.Records.{Record, Table, Stored, recordAt, view}
+use Rattle.records.specs.Values.{isTag, valueFits}
+use Rattle.records.specs.Children.{children, numberFits, subjectFirst, childrenFit, chainFrom}
 use Rattle.tables.specs.Reading.{ahead, payload, Wordable, chainWords, termWords, Readable}
-use Rattle.tables.proofs.Refusal.LinkRules.{Ahead, Linked, linked}
-use Rattle.tables.proofs.Refusal.Fits.{valued, fitted}
-use Rattle.tables.proofs.Meaning.Hanging.{hanging-zero, hanging-record}
-use Rattle.tables.proofs.Refusal.RecordLaws.{sized}
-use Rattle.tables.proofs.Refusal.Walks.{walk-short, walked}
+use Rattle.records.proofs.LinkRules.{Ahead, Linked, linked}
+use Rattle.records.proofs.Fits.{valued, fitted}
+use Rattle.records.proofs.Hanging.{hanging-zero, hanging-record}
+use Rattle.records.proofs.RecordLaws.{sized}
+use Rattle.records.proofs.Walks.{walk-short, walked}
 
 module _ (T : Table) where
   pub chainWords-end : (l : ℕ) → l ≡ 0 → chainWords T l ≡ []

@@ -6,26 +6,25 @@ use mathlib.Core.List.{List, _∷_, _++_, append-nil}
 use native.Mathlib.Omega.{arith}
 use lib.ListN.{length, drop}
 use lib.Seq.{sets-eq}
-use Rattle.calculus.specs.Term.{Sort, term, terms, branches, Exp, Term, count}
+use Rattle.calculus.specs.Term.{Sort, term, terms, branches, Exp, count}
 use Rattle.calculus.specs.Words.{caseKind, word, words, size, workspaceMost}
 use Rattle.calculus.proofs.WordLaws.{pack-of-parts}
 use Rattle.words.specs.IsTerm.{isTerm}
 use Rattle.words.specs.Placed.{Placed}
 use Rattle.words.proofs.PlacedLaws.{placed-length}
-use Rattle.tables.specs.Records.{Table, Stored, view}
+use Rattle.records.specs.Records.{Table, Stored, view}
 use Rattle.tables.specs.Meaning.{Means, plain, case-of, no-term, a-term, no-branch, a-branch}
-use Rattle.tables.specs.Children.{children}
+use Rattle.records.specs.Children.{children}
 use Rattle.tables.specs.Reading.{chainWords, termWords, Readable}
 use Rattle.tables.specs.FreeNumbers.{freeAbove, wrongFree}
-use Rattle.tables.proofs.Refusal.LinkRules.{Linked, linked, children-enough}
-use Rattle.tables.proofs.Refusal.Fits.{Valued, valued, Fitted, fitted}
+use Rattle.records.proofs.LinkRules.{Linked, linked}
+use Rattle.records.proofs.Fits.{Valued, valued, Fitted, fitted}
 use Rattle.tables.proofs.Meaning.Nodes.{node-words}
 use Rattle.tables.proofs.Meaning.MeaningLaws.{term-inside, meaning-complete}
 use Rattle.tables.proofs.Meaning.ChainMeaning.{terms-chain, case-chain}
-use Rattle.tables.proofs.Meaning.Exists.{record-means}
-use Rattle.tables.proofs.Meaning.Extent.{extent, extent-zero, root-extent, means-sized}
+use Rattle.tables.proofs.Meaning.SoundMeans.{Root, root-of}
 use Rattle.tables.proofs.Meaning.Accepts.{free-is-term}
-use Rattle.tables.proofs.Refusal.RecordLaws.{sized}
+use Rattle.records.proofs.RecordLaws.{sized}
 use Rattle.tables.proofs.Meaning.ReadingLaws.{chainWords-end, chainWords-record}
 
 module _ (T : Table) (L : Linked T) where
@@ -36,10 +35,10 @@ module _ (T : Table) (L : Linked T) where
 
   pub means-spelled : {s : Sort} {i : ℕ} {e : Exp s} → Means T s i e → Spelled i e
   means-spelled {i = i} (plain k n m) =
-      rw (k .2, terms-chain T L m (T .n) (children-enough T L i (k .0) (k .1)) .0, means-spelled m) (sym (node-words n))
+      rw (k .2, terms-chain T L m .0, means-spelled m) (sym (node-words n))
   means-spelled {i = i} (case-of {bs = bs} k z m ms) =
       let r = term-inside m in
-      let branches : length (children T i) - 1 ≡ count bs = omega (arith, case-chain T L m ms (T .n) (children-enough T L i (k .0) (k .1)) .0) in
+      let branches : length (children T i) - 1 ≡ count bs = omega (arith, case-chain T L m ms .0) in
       rw (k .2)
       (ap₂ (λ p vs. word caseKind p ∷ vs) branches (chainWords-record T L _ (r .0) (r .1) ∙ ap₂ _++_ (means-spelled m) (means-spelled ms)))
   means-spelled no-term = chainWords-end T 0 refl
@@ -64,29 +63,24 @@ module _ (S : Stored) (h : Readable S (view S .root)) (l : 1 ≤ view S .root) w
   abbrev fits : Fitted T
   fits = fitted T (h .children-fit)
 
-  pub root-means : (t : Term) × Means T term (T .root) t
-  root-means = record-means T links fits values (T .n) (T .root) l (h .walkable .link-within) (omega arith) (fits .root-term)
+  root : Root T
+  root = root-of T (l, h .walkable .link-within) links values fits
 
-  root-words : termWords T (T .root) ≡ words (root-means .0)
-  root-words = means-spelled T links (root-means .1)
-
-  root-size : size (root-means .0) ≡ T .n
-  root-size =
-      let last : extent T (T .at (T .root) .next) ≡ 0 = ap (extent T) (fits .root-last) ∙ extent-zero T in
-      omega (arith, means-sized T links (root-means .1), last, root-extent T links l (h .walkable .link-within))
+  root-words : termWords T (T .root) ≡ words (root .meant)
+  root-words = means-spelled T links (root .means)
 
   pub root-short : length (termWords T (T .root)) ≤ workspaceMost
-  root-short = omega (arith, ap length root-words, root-size, sized S (h .walkable .length-fits))
+  root-short = omega (arith, ap length root-words, root .size-is, sized S (h .walkable .length-fits))
 
   -- Where its words are put, they are an accepted term exactly if its free numbers are in range.
   pub free-in-words : (zeros ws : List ℕ) (end : ℕ) → length zeros ≡ workspaceMost → Placed zeros 0 (termWords T (T .root)) ws end
       → wrongFree T ≡ not (isTerm ws end)
   free-in-words zeros ws end e p =
-      let t = root-means .0 in
+      let t = root .meant in
       let ends : end ≡ size t = omega (arith, p .position, ap length root-words) in
       let placed : ws ≡ words t ++ drop (0 + size t) zeros = p .slice ∙ rw root-words (sets-eq (words t) zeros 0 (omega (arith, ap length root-words, root-short))) in
       let same-length : length ws ≡ length (words t ++ drop (0 + size t) zeros) = ap length placed in
       let short : length (words t ++ drop (0 + size t) zeros) ≤ workspaceMost = omega (arith, placed-length p) in
       let same : isTerm (words t ++ drop (0 + size t) zeros) (size t) ≡ isTerm ws end = ap₂ isTerm (sym placed) (sym ends) in
-      ap freeAbove (meaning-complete T t (h .walkable .links-fit) (root-means .1))
-      ∙ ap not (free-is-term T links values fits (root-means .1) (drop (0 + size t) zeros) short ∙ same)
+      ap freeAbove (meaning-complete T t (h .walkable .links-fit) (root .means))
+      ∙ ap not (free-is-term T links values fits (root .means) (drop (0 + size t) zeros) short ∙ same)

@@ -7,11 +7,11 @@ use native.Mathlib.Decide.{decLt}
 use native.Mathlib.Omega.{arith}
 use lib.Dec.{ltb}
 use borrow.Author.Tests.{lt-ltb, le-ltb}
-use Rattle.tables.specs.Records.{Table, sumOf}
-use Rattle.tables.specs.Links.{naming, namings}
+use Rattle.records.specs.Records.{Table, sumOf}
+use Rattle.records.specs.Links.{naming, namings}
 use Rattle.tables.specs.PrefixOrder.{Fills, nothing, chained, InPrefixOrder}
-use Rattle.tables.proofs.Refusal.Sums.{naming-itself, naming-other}
-use Rattle.tables.proofs.Refusal.LinkRules.{Ahead, Linked}
+use Rattle.records.proofs.Sums.{naming-itself, naming-other}
+use Rattle.records.proofs.LinkRules.{Ahead, Linked}
 
 fills-le : {T : Table} {l i k : ℕ} → Fills T l i k → i ≤ k
 fills-le nothing = omega arith

@@ -8,14 +8,14 @@ use lib.ListN.{length-append}
 use Rattle.calculus.specs.Term.{Sort, term, terms, branches, Exp, nil, Term}
 use Rattle.calculus.specs.Words.{words, size, branchKind, pack, tagOf, countOf}
 use Rattle.calculus.proofs.WordLaws.{pack-of-parts}
-use Rattle.tables.specs.Records.{Table}
+use Rattle.records.specs.Records.{Table}
 use Rattle.tables.specs.Meaning.{Means, plain, case-of, no-term, a-term, no-branch, a-branch}
 use Rattle.tables.specs.PrefixOrder.{Fills, nothing, chained}
 use Rattle.tables.specs.Write.{linkTo, records}
 use Rattle.tables.proofs.Meaning.Nodes.{node-size, node-records}
 use Rattle.tables.proofs.Meaning.MeaningLaws.{term-inside}
 use Rattle.tables.proofs.Written.Standing.{Stand, stand-with, link-cons, link-branch}
-use Rattle.tables.proofs.Written.TableWords.{entry-path}
+use Rattle.records.proofs.RecordLaws.{entry-path}
 
 -- A link is 0 and fills nothing, or it names the first record that it fills; that record's children fill what is right after it.
 fills-cases : {T : Table} {l i k : ℕ} → Fills T l i k

@@ -9,10 +9,10 @@ use Rattle.calculus.specs.Term.{Sort, term, terms, branches, Exp, case, nil, co
 use Rattle.calculus.specs.Words.{words, size, tagOf, countOf}
 use Rattle.calculus.specs.Theorems.{counted, Packable}
 use Rattle.calculus.proofs.WordLaws.{tagOf-pack, countOf-pack}
-use Rattle.tables.specs.Records.{Record, Table}
+use Rattle.records.specs.Records.{Record, Table, entry}
 use Rattle.tables.specs.Meaning.{Node, Means, plain, case-of, no-term, a-term, no-branch, a-branch}
 use Rattle.tables.specs.PrefixOrder.{Fills, nothing, chained}
-use Rattle.tables.specs.Write.{entry, linkTo, records}
+use Rattle.tables.specs.Write.{linkTo, records}
 use Rattle.tables.proofs.Meaning.Nodes.{node-size, node-records, node-below, Built, plain, of-case, empty, listed, ended, branched, built}
 
 abbrev pub Stand : Table → ℕ → List Record → Type 0

@@ -11,12 +11,12 @@ use Rattle.calculus.specs.Words.{words, size, caseKind, branchKind, countBase}
 use Rattle.calculus.specs.Accepted.{argumentLimit, branchLimit, acceptance, Accepted, indexLimit}
 use Rattle.calculus.specs.Theorems.{counted, within, IndicesWithin}
 use Rattle.calculus.proofs.WordLaws.{tagOf-pack, countOf-pack, accepted-packable}
-use Rattle.tables.specs.Records.{Table, OfKind}
+use Rattle.records.specs.Records.{Table, OfKind}
 use Rattle.tables.specs.Meaning.{Node, Means, no-term}
-use Rattle.tables.specs.Values.{valueFits}
-use Rattle.tables.specs.Children.{children, numberFits, childrenFit}
+use Rattle.records.specs.Values.{valueFits}
+use Rattle.records.specs.Children.{children, numberFits, childrenFit}
 use Rattle.tables.specs.Write.{linkTo, records}
-use Rattle.tables.proofs.Refusal.LinkRules.{Linked, children-enough}
+use Rattle.records.proofs.LinkRules.{Linked}
 use Rattle.tables.proofs.Meaning.Nodes.{tag-passes, node-kind, node-size, node-below, node-fits, Built, plain, of-case, empty, listed, ended, branched}
 use Rattle.tables.proofs.Meaning.ChainMeaning.{terms-chain, case-chain}
 use Rattle.tables.proofs.Written.Standing.{Stand, stand-node, stand-both, stand-next, then, stand-means}
@@ -40,7 +40,7 @@ module _ (T : Table) (L : Linked T) where
       → childrenFit (T .at i .kind) (children T i) ≡ true
   unfolding childrenFit
   node-children {i} {kind} k m other f =
-      let counted = terms-chain T L m (T .n) (children-enough T L i (k .0) (k .1)) in
+      let counted = terms-chain T L m in
       rw (k .2, counted .0, f, ne-eqb kind caseKind other) (counted .1)
 
   plain-fits : {k v : ℕ} {xs : Terms} {t : Term} → Node k v xs t → Built terms xs → (i x d : ℕ) → 1 ≤ i → i + size t ≤ suc (T .n) → Accepted d t
@@ -65,7 +65,7 @@ module _ (T : Table) (L : Linked T) where
       let ms = stand-means T c (suc i + size e) 0 (omega arith) (omega arith) (accepted-packable d bs (a .2)) (both .1) in
       let subject : Means T term (T .at i .first) e = rw (h .0) m in
       let rest : Means T branches (T .at (T .at i .first) .next) bs = rw (h .0) (rw (stand-next T b _ _ (both .0)) ms) in
-      let counted = case-chain T L subject rest (T .n) (children-enough T L i l (omega arith)) in
+      let counted = case-chain T L subject rest in
       record {
         known-kind = rw (h .0) (omega arith);
         value-fits = rw (h .0);

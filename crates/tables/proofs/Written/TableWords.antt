@@ -4,12 +4,9 @@ use mathlib.Core.Path.{_≡_, refl, sym, ap, ap₂, _∙_}
 use mathlib.Core.List.{List, [], _∷_}
 use native.Mathlib.Omega.{arith}
 use lib.ListN.{length, getD}
-use Rattle.tables.specs.Records.{Record, Table, recordAt, form1, inForm1, recordsWords}
-use Rattle.tables.specs.Write.{entry}
+use Rattle.records.specs.Records.{Record, Table, recordAt, form1, inForm1, recordsWords, entry}
+use Rattle.records.proofs.RecordLaws.{entry-path}
 use Rattle.tables.proofs.Written.Standing.{Stand}
-
-pub entry-path : {k k′ v v′ f f′ x x′ : ℕ} → k ≡ k′ → v ≡ v′ → f ≡ f′ → x ≡ x′ → entry k v f x ≡ entry k′ v′ f′ x′
-entry-path p q r s = λ d. entry (p d) (q d) (r d) (s d)
 
 -- After the words of one record the next ones begin.
 recordAt-suc : (a b c d : ℕ) (ws : List ℕ) (i : ℕ) → recordAt (inForm1 (a ∷ b ∷ c ∷ d ∷ ws)) (suc i) ≡ recordAt (inForm1 ws) i

@@ -1,19 +1,28 @@
--- Writing where it is not refused.
+-- Writing where it is not refused: its result, the words that are written from, and what the code leaves.
 use Prim.Native.Nat.{ℕ, _+_, _-_, _*_, _≤_}
-use mathlib.Core.Path.{_≡_}
+use mathlib.Core.Path.{_≡_, sym, _∙_}
 use mathlib.Core.Bool.{false}
-use mathlib.Core.List.{List, _++_}
+use mathlib.Core.List.{List, _++_, [], _∷_}
 use native.Mathlib.Omega.{arith}
-use lib.ListN.{length, replicate}
-use borrow.Author.Tests.{eq-eqb}
+use lib.ListN.{length, replicate, take}
+use borrow.Author.Tests.{eq-eqb, not-false}
 use Rattle.calculus.specs.Term.{Term}
-use Rattle.calculus.specs.Words.{words, size}
+use Rattle.calculus.specs.Words.{words, size, workspaceMost}
 use Rattle.calculus.specs.Accepted.{Accepted}
-use Rattle.calculus.proofs.WorkspaceLaws.{termAt-words, length-padded}
-use Rattle.tables.specs.Records.{form1}
-use Rattle.tables.specs.Header.{wrongWorkspace}
+use Rattle.calculus.proofs.WorkspaceLaws.{termAt-words, length-padded, sized-most}
+use Rattle.records.specs.Records.{form1, recordsWords, entry}
+use Rattle.records.specs.Header.{wrongWorkspace}
 use Rattle.tables.specs.Load.{returned}
-use Rattle.tables.specs.Write.{tableOf, write}
+use Rattle.tables.specs.Write.{tableOf, write, records, Written}
+use mathlib.Core.Option.{some}
+use lib.Seq.{sets}
+use Rattle.calculus.specs.Workspace.{termAt}
+use Rattle.calculus.proofs.WordLaws.{accepted-packable}
+use Rattle.words.proofs.PlacedLaws.{sets-whole}
+use Rattle.tables.specs.Writing.{entries}
+use Rattle.tables.proofs.Meaning.Held.{Held, held}
+use Rattle.tables.proofs.Written.WrittenTable.{tableOf-length}
+use Rattle.tables.proofs.Written.EntriesLaws.{entries-records}
 
 pub write-returned : (t : Term) (rest table : List ℕ) → Accepted 0 t → wrongWorkspace (length (words t ++ rest)) ≡ false
     → length table ≡ form1 .recordWords * (size t + 1)
@@ -29,3 +38,26 @@ write-filled t C l workspace out a e held h u room =
     let fits : length (words t) ≤ C = omega arith in
     rw (held, ← e)
     (write-returned t (replicate (C - size t) 0) out a (rw length-padded h) (omega arith))
+
+pub workspace-short : (C : ℕ) → wrongWorkspace C ≡ false → C ≤ workspaceMost
+workspace-short C h = sized-most C [] (not-false _ h)
+
+-- The header and then the records, over the whole table.
+pub written : (ws table headed last : List ℕ) (n : ℕ) (t : Term) → wrongWorkspace (length ws) ≡ false → termAt ws n ≡ some t
+    → length table ≡ form1 .recordWords * (n + 1) → headed ≡ sets table 0 (recordsWords (entry (form1 .number) n 1 0 ∷ []))
+    → last ≡ sets headed (form1 .recordWords) (recordsWords (entries 1 (1 ∷ []) (take n ws)))
+    → _≡_ {A = Written} (record { answer = returned n; table = last }) (write ws n table)
+unfolding write
+written ws table headed last n t w h e f g = rw (w, h, eq-eqb (length table) (form1 .recordWords * (n + 1)) e, all)
+  where
+    holds : Held ws n t
+    holds = held ws n t h
+
+    found : entries 1 (1 ∷ []) (take n ws) ≡ records 1 0 t
+    found = rw (← holds .words-are) (entries-records t (accepted-packable 0 t (holds .accepted)))
+
+    length-is : length (tableOf t) ≡ length table
+    length-is = tableOf-length t ∙ rw (holds .size-is) (sym e)
+
+    all : last ≡ tableOf t
+    all = g ∙ rw (f, found, ← holds .size-is) (sets-whole (tableOf t) table length-is)

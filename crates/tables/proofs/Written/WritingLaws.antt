@@ -11,8 +11,8 @@ use lib.Seq.{sets, length-sets, drop-cons}
 use Rattle.calculus.specs.Words.{workspaceMost}
 use Rattle.calculus.specs.Skip.{arity, span}
 use Rattle.words.proofs.PlacedLaws.{drop-set}
-use Rattle.tables.specs.Records.{Record, form1, recordsWords}
-use Rattle.tables.specs.Writing.{linkIf, push, entryOf, entries, Puttable, Pushed, Descended}
+use Rattle.records.specs.Records.{Record, form1, recordsWords, Puttable}
+use Rattle.tables.specs.Writing.{linkIf, push, entryOf, entries, Pushed, Descended}
 
 pub pushed-none : (levels : List ℕ) (top items : ℕ) → items ≡ 0 → Pushed levels top items levels top
 pushed-none levels top items e = record { levels = rw e; least = omega arith; most = omega arith }

@@ -13,19 +13,19 @@ use Rattle.calculus.specs.Words.{size, workspaceMost}
 use Rattle.calculus.specs.Accepted.{Accepted}
 use Rattle.calculus.proofs.WordLaws.{accepted-scoped, size-positive, accepted-packable}
 use Rattle.calculus.proofs.Indices.{indices-bounded}
-use Rattle.tables.specs.Records.{form1, recordAt, inForm1, view}
+use Rattle.records.specs.Records.{form1, recordAt, inForm1, view, entry}
 use Rattle.tables.specs.Meaning.{Means}
-use Rattle.tables.specs.Header.{wrongWorkspace, wrongLength, wrongHeader}
-use Rattle.tables.specs.Links.{wrongLink}
+use Rattle.records.specs.Header.{wrongWorkspace, wrongLength, wrongHeader}
+use Rattle.records.specs.Links.{wrongLink}
 use Rattle.tables.specs.FreeNumbers.{wrongFree}
 use Rattle.tables.specs.PrefixOrder.{nothing, InPrefixOrder}
-use Rattle.tables.specs.Write.{entry, records, tableOf}
-use Rattle.tables.proofs.Refusal.Tests.{record-isRecord}
-use Rattle.tables.proofs.Refusal.LinkRules.{linked-passes}
+use Rattle.tables.specs.Write.{records, tableOf}
+use Rattle.records.proofs.Tests.{record-isRecord}
+use Rattle.records.proofs.LinkRules.{linked-passes}
 use Rattle.tables.proofs.Meaning.Nodes.{built}
 use Rattle.tables.proofs.Meaning.MeaningLaws.{meaning-complete}
 use Rattle.tables.proofs.Meaning.ChainMeaning.{term-not-branch}
-use Rattle.tables.proofs.Refusal.Fits.{Valued, valued-passes, Fitted, fitted-passes}
+use Rattle.records.proofs.Fits.{Valued, valued-passes, Fitted, fitted-passes}
 use Rattle.tables.proofs.LoadLaws.{Passes}
 use Rattle.tables.proofs.Written.PrefixLinks.{prefix-linked}
 use Rattle.tables.proofs.Written.Standing.{Stand, records-length, stand-next, stand-means, stand-fills}

@@ -3,9 +3,9 @@ use mathlib.Core.Path.{_≡_, sym, _∙_}
 use mathlib.Core.Bool.{false}
 use borrow.Author.Needs.{needs}
 use borrow.Author.Tests.{lt-ltb, le-ltb}
-use Rattle.tables.specs.Types.{stored, viewed}
-use Rattle.tables.specs.Header.{wrongWorkspace, wrongLength, wrongHeader, tooLong}
-use Rattle.tables.proofs.Refusal.RecordLaws.{headed}
+use Rattle.records.specs.Types.{stored, viewed}
+use Rattle.records.specs.Header.{wrongWorkspace, wrongLength, wrongHeader, tooLong}
+use Rattle.records.proofs.RecordLaws.{headed}
 use Rattle.tables.proofs.first_met.Statement.{statement}
 use Rattle.tables.proofs.first_met.Tie as tie
 

@@ -5,11 +5,11 @@ use native.Mathlib.Omega.{arith}
 use lib.ListN.{length}
 use borrow.Author.Needs.{needs}
 use Rattle.tables.specs.Load.{checks, firstMet, loadStored}
-use Rattle.tables.specs.Records.{view, inForm1}
+use Rattle.records.specs.Records.{view, inForm1}
 use Rattle.tables.specs.Reading.{termWords}
 use Rattle.tables.specs.Types.{metOf}
 use Rattle.words.specs.Placed.{Placed}
-use Rattle.tables.proofs.Refusal.RecordLaws.{headed}
+use Rattle.records.proofs.RecordLaws.{headed}
 use Rattle.tables.proofs.LoadCode.{passed, root-readable, room, loaded}
 use Rattle.words.proofs.PlacedLaws.{placed-length}
 use Rattle.tables.proofs.load.Statement.{statement}

@@ -1,12 +1,12 @@
 -- `record_met` meets its contract: each return knows that the checks before it pass.
 use mathlib.Core.Path.{_≡_, sym, _∙_}
 use mathlib.Core.Bool.{false}
-use Rattle.tables.specs.Types.{stored, viewed}
-use Rattle.tables.specs.Values.{wrongValue}
-use Rattle.tables.specs.Links.{wrongLink}
-use Rattle.tables.specs.Children.{wrongChildren, Walkable}
+use Rattle.records.specs.Types.{stored, viewed}
+use Rattle.records.specs.Values.{wrongValue}
+use Rattle.records.specs.Links.{wrongLink}
+use Rattle.records.specs.Children.{wrongChildren, Walkable}
 use Rattle.tables.specs.FreeNumbers.{wrongFree}
-use Rattle.tables.proofs.Refusal.RecordLaws.{rooted}
+use Rattle.records.proofs.RecordLaws.{rooted}
 use Rattle.tables.proofs.record_met.Statement.{statement}
 use Rattle.tables.proofs.record_met.Tie as tie
 

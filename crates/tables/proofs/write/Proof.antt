@@ -12,10 +12,10 @@ use Rattle.calculus.specs.Term.{Term}
 use Rattle.calculus.specs.Words.{workspaceMost}
 use Rattle.calculus.specs.Workspace.{termAt}
 use Rattle.words.proofs.IsTerm.{isTerm-some, isTerm-none}
-use Rattle.tables.specs.Header.{wrongWorkspace}
+use Rattle.records.specs.Header.{wrongWorkspace}
 use Rattle.tables.specs.Write.{write}
 use Rattle.tables.proofs.Meaning.Held.{held}
-use Rattle.tables.proofs.Written.WriteCode.{workspace-short, written}
+use Rattle.tables.proofs.Written.WriteLaws.{workspace-short, written}
 use Rattle.tables.proofs.write.Statement.{statement}
 use Rattle.tables.proofs.write.Tie as tie
 
@@ -43,27 +43,15 @@ within : (c : tie.Else2)
     × (length (c .before .before .before .before .before .before .args .workspace .now) ≤ workspaceMost)
 within c = (held _ _ _ (term c .1) .within, workspace-short _ (workspace-fits (c .before .before)))
 
-add-if3 : tie.Need-add-if3
-add-if3 c = omega (arith, within c)
-
-mul-if3 : tie.Need-mul-if3
-mul-if3 c = omega (arith, within c)
-
 returns-3 : tie.Need-returns-3
 unfolding write
 returns-3 c = rw (workspace-fits (c .before .before .before), term (c .before) .1, ne-eqb _ _ (c .if3 .taken))
-
-cast-t14 : tie.Need-cast-t14
-cast-t14 c = omega (arith, within (c .before))
 
 -- The words of the term have the given length.
 taken : (c : tie.Else2)
     → length (take (c .before .before .before .before .before .before .args .length) (c .before .before .before .before .before .before .args .workspace .now))
     ≡ c .before .before .before .before .before .before .args .length
 taken c = length-take-le _ _ (within c .0)
-
-slice-aggregate-put-records : tie.Need-slice-aggregate-put-records
-slice-aggregate-put-records c = sym (taken (c .before .before .before .before .before .before))
 
 put-records-requires : tie.Need-put-records-requires
 put-records-requires c κs =
@@ -85,12 +73,12 @@ write-spec =
     returns
     (λ c κs. search needs)
     returns-2
-    add-if3
-    mul-if3
+    (λ c. omega (arith, within c))
+    (λ c. omega (arith, within c))
     returns-3
-    cast-t14
+    (λ c. omega (arith, within (c .before)))
     (λ c κs. search needs)
-    slice-aggregate-put-records
+    (λ c. sym (taken (c .before .before .before .before .before .before)))
     put-records-requires
     (λ c. search needs)
     returns-4)

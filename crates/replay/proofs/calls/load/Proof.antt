@@ -30,7 +30,7 @@ returns : tie.Need-returns
 returns c =
     let start = c .before .before .before .before .before .before .before .before .before .before .before .before .before .before .before .args in
     let loaded = c .before .before .load .ensures ∙ ap (λ t. load t (start .left .now)) (c .before .before .before .before .before .before .before .before .before .words-from .ensures) in
-    rw (c .before .before .before .before .before .enum-told .given .1) (record { workspaces = ap (λ q. (q .workspace, start .right .now)) loaded; answer = ap (λ q. q .answer) loaded })
+    rw (c .before .before .before .before .before .enum-told .given .1) (record { workspaces = ap (λ q. (q .workspace, start .right .now)) loaded; slice = c .before .before .before .before .before .before .before .before .before .words-from .ensures; answer = ap (λ q. q .answer) loaded })
 
 same-length-3 : tie.Need-same-length-3
 same-length-3 c = search needs
@@ -42,7 +42,7 @@ returns-2 : tie.Need-returns-2
 returns-2 c =
     let start = c .before .before .before .before .before .before .before .before .before .before .before .before .before .before .before .args in
     let loaded = c .before .before .load2 .ensures ∙ ap (λ t. load t (start .right .now)) (c .before .before .before .before .before .before .before .before .before .words-from .ensures) in
-    rw (c .before .before .before .before .before .enum-told2 .given .1) (record { workspaces = ap (λ q. (start .left .now, q .workspace)) loaded; answer = ap (λ q. q .answer) loaded })
+    rw (c .before .before .before .before .before .enum-told2 .given .1) (record { workspaces = ap (λ q. (start .left .now, q .workspace)) loaded; slice = c .before .before .before .before .before .before .before .before .before .words-from .ensures; answer = ap (λ q. q .answer) loaded })
 
 pub load-spec : {M : Type 1} → statement M
 load-spec =

@@ -67,8 +67,9 @@ same-length-3 c = search needs
 returns : tie.Need-returns
 returns c =
     let start = c .before .before .before .before .before .before .before .before .before .before .before .before .before .before .before .before .before .before in
+    let loaded = c .before .before .before .before .before .before .load in
     let f = subst (Fits _) (c .before .before .before .before .before .before .before .before .before .before .before .operation .given .1) (c .before .before .before .before .before .before .before .before .before .before .before .before .before .before .before .before .before .before .pre .0) in
-    rw (c .before .before .before .before .before .before .before .before .before .before .before .operation .given .1) (load-does (start .args .kept) _ _ _ _ _ _ _ (start .args .bytes .now) _ (start .args .room .now) (f .0) (start .pre .1 .room-full) (c .before .before .before .before .before .before .load .ensures))
+    rw (c .before .before .before .before .before .before .before .before .before .before .before .operation .given .1) (load-does (start .args .kept) _ _ _ _ _ _ (loaded .last .1 .1 .1 .1 .1 .0) (start .args .bytes .now) _ (start .args .room .now) (f .0) (start .pre .1 .room-full) (loaded .kept .1 .1 .1 .1 .1 .0) (loaded .ensures))
 
 same-length-4 : tie.Need-same-length-4
 same-length-4 c = search needs
@@ -92,7 +93,7 @@ same-length-9 : tie.Need-same-length-9
 same-length-9 c = search needs
 
 returns-3 : tie.Need-returns-3
-returns-3 c = rw (c .before .before .before .before .operation3 .given .1) (record { state = refl; told = ap ofShow (c .show .ensures) })
+returns-3 c = rw (c .before .before .before .before .operation3 .given .1) (record { state = refl; told = ap ofShow (c .show .ensures); behind = refl; placed = refl })
 
 same-length-10 : tie.Need-same-length-10
 same-length-10 c = search needs
@@ -112,7 +113,7 @@ returns-4 c =
     (write-does (start .args .kept) (start .args .left .now) (start .args .right .now) _ (call .0 .0) (call .0 .1 .0) (start .args .room .now) (subst (Fits _) (call .1) (start .pre .0)) (start .pre .1 .room-full) (wrote .last .1 .1 .1 .1 .0) (wrote .kept .1 .1 .1 .1 .0) (wrote .result) (wrote .ensures))
 
 returns-5 : tie.Need-returns-5
-returns-5 c = rw (c .before .operation5 .given .1) (record { state = refl; told = refl })
+returns-5 c = rw (c .before .operation5 .given .1) (record { state = refl; told = refl; behind = refl; placed = refl })
 
 same-length-13 : tie.Need-same-length-13
 same-length-13 c = search needs
@@ -128,7 +129,7 @@ returns-6 c =
     (store-does (start .args .kept) (start .args .left .now) (start .args .right .now) _ (call .0 .0) _ _ _ (call .0 .1 .0) (call .0 .1 .1 .0) (c .before .before .before .before .store .ensures))
 
 returns-7 : tie.Need-returns-7
-returns-7 c = rw (c .enum-told .given .1) (record { state = refl; told = refl })
+returns-7 c = rw (c .enum-told .given .1) (record { state = refl; told = refl; behind = refl; placed = refl })
 
 pub perform-spec : {M : Type 1} → statement M
 perform-spec =

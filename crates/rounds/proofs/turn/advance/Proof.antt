@@ -44,8 +44,8 @@ returns-2 : tie.Need-returns-2
 returns-2 c =
     let d = contracted c in
     let t = contracting d in (
-      advance-contracted (entry t .pre) (t .todo .given .1) (d .contract .ensures) (c .before2 .ensures),
-      room-of-length (d .contract .kept .1 .1 .1 .1 .0),
+      advance-contracted (entry t .pre) (t .todo .given .1) (d .contract .ensures .0) (c .before2 .ensures),
+      d .contract .ensures .1,
     )
 
 pub advance-spec : {M : Type 1} → statement M

@@ -15,9 +15,6 @@ Inv-loop ws at ends₀ end i₀ ends i = Filling ws at ends₀ end ends i
 abbrev μ-loop : tie.MeasureT-loop
 μ-loop ws at ends₀ end i₀ ends i = i
 
-extent-requires : tie.Need-extent-requires Inv-loop μ-loop
-extent-requires c κs = search needs
-
 loop-holds : tie.Need-loop-holds Inv-loop μ-loop
 loop-holds c = filling-starts (c .extent .ensures) (omega (arith, c .extent .ensures, c .before .before .before .pre .1))
 
@@ -28,9 +25,6 @@ reach c =
     let w = filling-within v (c .loop-test .taken) in
     (omega (arith, v .to, w), c .before .before .before .before .before .pre .0, omega (arith, v .to, w))
 
-sub-i : tie.Need-sub-i Inv-loop μ-loop
-sub-i c = omega arith
-
 add-hop : tie.Need-add-hop Inv-loop μ-loop
 add-hop c = omega (arith, reach c)
 
@@ -39,9 +33,6 @@ mul-ends c = omega (arith, reach c)
 
 shared-slice-read-ends : tie.Need-shared-slice-read-ends Inv-loop μ-loop
 shared-slice-read-ends c = omega (arith, reach (c .before))
-
-arity-requires : tie.Need-arity-requires Inv-loop μ-loop
-arity-requires c κs = search needs
 
 hop-requires : tie.Need-hop-requires Inv-loop μ-loop
 hop-requires c κs =
@@ -61,9 +52,6 @@ mul-ends-2 c = omega (arith, reach (c .before .before .before .before))
 slice-write-ends : tie.Need-slice-write-ends Inv-loop μ-loop
 slice-write-ends c = omega (arith, reach (c .before .before .before .before))
 
-loop-less : tie.Need-loop-less Inv-loop μ-loop
-loop-less c = omega arith
-
 loop-again : tie.Need-loop-again Inv-loop μ-loop
 loop-again c = filling-turn (c .before .before .before .before .before .loop .inv) (c .before .before .before .before .loop-test .taken) (rw (c .before .before .arity .ensures) at (c .hop .ensures))
 
@@ -79,18 +67,18 @@ fill-ends-spec =
     (tie.spec
     Inv-loop
     μ-loop
-    extent-requires
+    (λ c κs. search needs)
     loop-holds
-    sub-i
+    (λ c. omega arith)
     add-hop
     mul-ends
     shared-slice-read-ends
-    arity-requires
+    (λ c κs. search needs)
     hop-requires
     cast-ends
     mul-ends-2
     slice-write-ends
-    loop-less
+    (λ c. omega arith)
     loop-again
     same-length
     returns)

@@ -18,16 +18,10 @@ abbrev μ-loop : tie.MeasureT-loop
 loop-holds : tie.Need-loop-holds Inv-loop μ-loop
 loop-holds c = (refl, omega arith)
 
-sub-left : tie.Need-sub-left Inv-loop μ-loop
-sub-left c = omega arith
-
 end-of-requires : tie.Need-end-of-requires Inv-loop μ-loop
 end-of-requires c κs =
     let s = c .before .before .before .before in
     (s .pre .0, ends-later (s .pre .1) (c .before .loop .inv .1))
-
-loop-less : tie.Need-loop-less Inv-loop μ-loop
-loop-less c = omega arith
 
 loop-again : tie.Need-loop-again Inv-loop μ-loop
 loop-again c =
@@ -45,4 +39,4 @@ returns c =
 pub hop-spec : {M : Type 1} → statement M
 hop-spec =
     tie.close
-    (tie.spec Inv-loop μ-loop loop-holds sub-left end-of-requires loop-less loop-again returns)
+    (tie.spec Inv-loop μ-loop loop-holds (λ c. omega arith) end-of-requires (λ c. omega arith) loop-again returns)

@@ -9,6 +9,7 @@ use Rattle.calculus.specs.Words.{size, workspaceMost}
 use Rattle.calculus.specs.Skip.{span}
 use Rattle.calculus.proofs.SkipLaws.{span-bounded}
 use Rattle.calculus.specs.Contraction.{by-beta}
+use Rattle.words.specs.Room.{Room}
 use Rattle.substitution.specs.Depths.{depths}
 use Rattle.substitution.specs.Measure.{occurrences, Measures}
 use Rattle.substitution.specs.Results.{substituted}
@@ -22,14 +23,8 @@ use Rattle.step.proofs.PlanLaws.{redex-found, contracts, measurable, le
 use Rattle.step.proofs.rules.beta.Statement.{statement}
 use Rattle.step.proofs.rules.beta.Tie as tie
 
-add-body : tie.Need-add-body
-add-body c = search needs
-
 measure-requires : tie.Need-measure-requires
 measure-requires c κs = measurable (c .before .before .before .pre .place) (applied-parts (c .before .before .before .pre))
-
-array-read-times : tie.Need-array-read-times
-array-read-times c = search needs
 
 -- The body ends in the workspace, behind its start.
 argument-end-requires : tie.Need-argument-end-requires
@@ -120,6 +115,10 @@ module _ (c : tie.After-argument-end) where
     replaced : Plans ws (s .args .n) (record { rule = rule.Beta; at = s .args .at; body = body; stop = args; args = args; after = after; count = 1; end = after; length = s .args .at + (args - body - times + times * (after - args)) + (s .args .n - after) })
     replaced = plans (s .pre .place) found refl (measures .ends) after-is (after-is ∙ end-is) (omega (arith, long, after-is))
 
+-- The walk leaves the room.
+room : (c : tie.After-argument-end) → Room (s c .args .room .now) (c .before .before .before .before .measure .last .1 .1 .1 .0)
+room c = c .before .before .before .before .measure .ensures .1
+
 sub-length : tie.Need-sub-length
 sub-length c = omega (arith, within c)
 
@@ -158,39 +157,33 @@ shared-slice-read-if2 c =
     let e = c .before .before .before in
     omega (arith, starts e, within e, start (redex-found (s e .pre .place) (found e)) .within)
 
-same-length : tie.Need-same-length
-same-length c = search needs
-
 returns : tie.Need-returns
 returns c =
     let e = c .before .before .before .before in
     let back : args e - 1 + 1 ≡ args e = omega (arith, starts e) in
     let shift : args e - 1 - body e ≡ args e - body e - 1 = omega arith in (
-      plans-left (s e .pre .place) (found e) (back ∙ measures e .ends) (occur e) (told e) (end-is e) (long e) (omega (arith, starts e))
-          (ap (λ k. getD (depths (0 ∷ []) (drop (body e) (ws e))) k 0) shift ∙ sym (measures e .last-is) ∙ c .before .before .if1 .taken)
-          (c .if2 .taken),
-      refl,
+      (
+        plans-left (s e .pre .place) (found e) (back ∙ measures e .ends) (occur e) (told e) (end-is e) (long e) (omega (arith, starts e))
+            (ap (λ k. getD (depths (0 ∷ []) (drop (body e) (ws e))) k 0) shift ∙ sym (measures e .last-is) ∙ c .before .before .if1 .taken)
+            (c .if2 .taken),
+        refl,
+      ),
+      room e,
     )
 
-same-length-2 : tie.Need-same-length-2
-same-length-2 c = search needs
-
 returns-2 : tie.Need-returns-2
-returns-2 c = (replaced (c .before .before .before .before) (λ f g. c .if2 .left g), refl)
-
-same-length-3 : tie.Need-same-length-3
-same-length-3 c = search needs
+returns-2 c = ((replaced (c .before .before .before .before) (λ f g. c .if2 .left g), refl), room (c .before .before .before .before))
 
 returns-3 : tie.Need-returns-3
-returns-3 c = (replaced (c .before .before) (λ f g. c .if1 .left f), refl)
+returns-3 c = ((replaced (c .before .before) (λ f g. c .if1 .left f), refl), room (c .before .before))
 
 pub beta-spec : {M : Type 1} → statement M
 beta-spec =
     tie.close
     (tie.spec
-    add-body
+    (λ c. search needs)
     measure-requires
-    array-read-times
+    (λ c. search needs)
     argument-end-requires
     sub-length
     sub-length-2
@@ -203,9 +196,9 @@ beta-spec =
     sub-stop
     mul-if2
     shared-slice-read-if2
-    same-length
+    (λ c. search needs)
     returns
-    same-length-2
+    (λ c. search needs)
     returns-2
-    same-length-3
+    (λ c. search needs)
     returns-3)

@@ -22,24 +22,6 @@ loop-holds c = (refl, omega arith)
 returns : tie.Need-returns Inv-loop μ-loop
 returns c = sym (branchBody-none _ _ _ _) ∙ rw (c .if1 .taken) at (c .before .before .loop .inv .0)
 
-mul-if2 : tie.Need-mul-if2 Inv-loop μ-loop
-mul-if2 c = search needs
-
-shared-slice-read-if2 : tie.Need-shared-slice-read-if2 Inv-loop μ-loop
-shared-slice-read-if2 c = search needs
-
-tag-requires : tie.Need-tag-requires Inv-loop μ-loop
-tag-requires c κs = search needs
-
-count-requires : tie.Need-count-requires Inv-loop μ-loop
-count-requires c κs = search needs
-
-add-t17 : tie.Need-add-t17 Inv-loop μ-loop
-add-t17 c = search needs
-
-sub-t18 : tie.Need-sub-t18 Inv-loop μ-loop
-sub-t18 c = search needs
-
 returns-2 : tie.Need-returns-2 Inv-loop μ-loop
 returns-2 c =
     let t = c .before .before .before in
@@ -54,19 +36,10 @@ returns-3 c =
     sym (branchBody-other _ _ _ _ _ (e .before .loop-test .taken) (e .if1 .left) (c .before .before .if2 .taken ∙ t .tag .ensures) (λ q. c .if3 .left (q ∙ sym (c .before .count .ensures))))
     ∙ e .before .before .loop .inv .0
 
-sub-left : tie.Need-sub-left Inv-loop μ-loop
-sub-left c = search needs
-
-add-end-of : tie.Need-add-end-of Inv-loop μ-loop
-add-end-of c = search needs
-
 end-of-requires : tie.Need-end-of-requires Inv-loop μ-loop
 end-of-requires c κs =
     let s = c .before .before .before .before .before .before .before .before in
     (s .pre .0, ends-later (s .pre .1) (omega (arith, c .before .before .before .before .before .loop .inv .1)))
-
-loop-less : tie.Need-loop-less Inv-loop μ-loop
-loop-less c = omega arith
 
 loop-again : tie.Need-loop-again Inv-loop μ-loop
 loop-again c =
@@ -87,17 +60,17 @@ branch-body-spec =
     μ-loop
     loop-holds
     returns
-    mul-if2
-    shared-slice-read-if2
-    tag-requires
-    count-requires
-    add-t17
-    sub-t18
+    (λ c. search needs)
+    (λ c. search needs)
+    (λ c κs. search needs)
+    (λ c κs. search needs)
+    (λ c. search needs)
+    (λ c. search needs)
     returns-2
     returns-3
-    sub-left
-    add-end-of
+    (λ c. search needs)
+    (λ c. search needs)
     end-of-requires
-    loop-less
+    (λ c. omega arith)
     loop-again
     returns-4)

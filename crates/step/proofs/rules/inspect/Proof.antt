@@ -13,36 +13,15 @@ use Rattle.step.proofs.PlanLaws.{inspected-after}
 use Rattle.step.proofs.rules.inspect.Statement.{statement}
 use Rattle.step.proofs.rules.inspect.Tie as tie
 
-count-requires : tie.Need-count-requires
-count-requires c κs = search needs
-
-add-end-of : tie.Need-add-end-of
-add-end-of c = search needs
-
 end-of-requires : tie.Need-end-of-requires
 end-of-requires c κs =
     let h = c .before .before .before .before .pre in
     (h .0 .place .holds .limit, ends-later (h .1) (omega arith))
 
-payload-requires : tie.Need-payload-requires
-payload-requires c κs = search needs
-
-tag-requires : tie.Need-tag-requires
-tag-requires c κs = search needs
-
 branch-body-requires : tie.Need-branch-body-requires
 branch-body-requires c κs =
     let h = c .before .before .before .before .before .before .before .before .pre in
     (h .0 .place .holds .limit, ends-later (h .1) (omega (arith, c .before .before .before .end-of .ensures)))
-
-enum-known-body : tie.Need-enum-known-body
-enum-known-body c = search needs
-
-cast-selected : tie.Need-cast-selected
-cast-selected c = search needs
-
-cast-selected-2 : tie.Need-cast-selected-2
-cast-selected-2 c = search needs
 
 -- After the search among the branches, whatever it found.
 by-words : (c : tie.After-branch-body) {x : Found} → c .branch-body .result ≡ x
@@ -70,45 +49,32 @@ selected-requires c κs =
           );
     }
 
-enum-told : tie.Need-enum-told
-enum-told c = search needs
-
-same-length : tie.Need-same-length
-same-length c = search needs
-
 returns : tie.Need-returns
-returns c = (by-words (c .before .before .before) (c .before .enum-told .given .1), refl)
-
-same-length-2 : tie.Need-same-length-2
-same-length-2 c = search needs
-
-returns-2 : tie.Need-returns-2
-returns-2 c = search needs
-
-same-length-3 : tie.Need-same-length-3
-same-length-3 c = search needs
+returns c = (by-words (c .before .before .before) (c .before .enum-told .given .1), refl, λ k. c .if1 .taken)
 
 returns-3 : tie.Need-returns-3
-returns-3 c = (by-words (c .before .before .before) (c .before .enum-told .given .1), refl, c .if1 .left)
+returns-3 c =
+    let h = c .before .before .before .before .before .before .before .before .before .before .before .before .pre .0 in
+    (by-words (c .before .before .before) (c .before .enum-told .given .1), refl, (ap kindOf (sym (h .case-is)) ∙ h .case, ap kindOf (sym (h .constructor-is)) ∙ h .constructor), c .if1 .left)
 
 pub inspect-spec : {M : Type 1} → statement M
 inspect-spec =
     tie.close
     (tie.spec
-    count-requires
-    add-end-of
+    (λ c κs. search needs)
+    (λ c. search needs)
     end-of-requires
-    payload-requires
-    tag-requires
+    (λ c κs. search needs)
+    (λ c κs. search needs)
     branch-body-requires
-    enum-known-body
-    cast-selected
-    cast-selected-2
+    (λ c. search needs)
+    (λ c. search needs)
+    (λ c. search needs)
     selected-requires
-    enum-told
-    same-length
+    (λ c. search needs)
+    (λ c. search needs)
     returns
-    same-length-2
-    returns-2
-    same-length-3
+    (λ c. search needs)
+    (λ c. search needs)
+    (λ c. search needs)
     returns-3)

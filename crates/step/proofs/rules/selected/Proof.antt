@@ -9,9 +9,6 @@ use Rattle.step.proofs.PlanLaws.{redex-found, contracts, measurable, le
 use Rattle.step.proofs.rules.selected.Statement.{statement}
 use Rattle.step.proofs.rules.selected.Tie as tie
 
-add-args : tie.Need-add-args
-add-args c = search needs
-
 measure-requires : tie.Need-measure-requires
 measure-requires c κs = let p = c .before .before .before .pre .parted-is in measurable (p .place) (p .parts-are)
 
@@ -41,25 +38,22 @@ sub-length c = omega (arith, contraction (c .before .before .before .before .bef
 add-length-2 : tie.Need-add-length-2
 add-length-2 c = omega (arith, contraction (c .before .before .before .before .before .before .before .before) .short, c .substituted-length .ensures, c .before .before .before .before .before .before .before .before .pre .parted-is .place .within, short (c .before .before .before .before .before .before .before .before))
 
-same-length : tie.Need-same-length
-same-length c = search needs
-
 returns : tie.Need-returns
 returns c =
     let s = c .before .before .before .before .before .before .before .before in
     let p = s .pre .parted-is in
-    (plans (p .place) (p .parts-are) refl (c .before .before .before .before .measure .ensures .0 .ends) (s .pre .after-is) (end-is c) (rw (c .substituted-length .ensures)), refl)
+    ((plans (p .place) (p .parts-are) refl (c .before .before .before .before .measure .ensures .0 .ends) (s .pre .after-is) (end-is c) (rw (c .substituted-length .ensures)), refl), c .before .before .before .before .measure .ensures .1)
 
 pub selected-spec : {M : Type 1} → statement M
 selected-spec =
     tie.close
     (tie.spec
-    add-args
+    (λ c. search needs)
     measure-requires
     skip-requires
     substituted-length-requires
     add-length
     sub-length
     add-length-2
-    same-length
+    (λ c. search needs)
     returns)

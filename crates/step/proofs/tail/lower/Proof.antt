@@ -7,34 +7,13 @@ use Rattle.step.proofs.tail.lower.Statement.{statement}
 use Rattle.step.proofs.tail.lower.Tie as tie
 
 abbrev Inv-loop : tie.InvT-loop
-Inv-loop ws₀ from to out i₀ o₀ ws i o = Lowering ws₀ from to out ws i o
+Inv-loop ws₀ from to out i₀ next₀ ws i next = Lowering ws₀ from to out ws i next
 
 abbrev μ-loop : tie.MeasureT-loop
-μ-loop ws₀ from to out i₀ o₀ ws i o = to - i
+μ-loop ws₀ from to out i₀ next₀ ws i next = to - i
 
 loop-holds : tie.Need-loop-holds Inv-loop μ-loop
 loop-holds c = lowering-start (c .pre .0) (c .pre .1)
-
-mul-ws : tie.Need-mul-ws Inv-loop μ-loop
-mul-ws c = omega arith
-
-slice-read-ws : tie.Need-slice-read-ws Inv-loop μ-loop
-slice-read-ws c = omega arith
-
-mul-ws-2 : tie.Need-mul-ws-2 Inv-loop μ-loop
-mul-ws-2 c = omega arith
-
-slice-write-ws : tie.Need-slice-write-ws Inv-loop μ-loop
-slice-write-ws c = omega arith
-
-add-i : tie.Need-add-i Inv-loop μ-loop
-add-i c = omega arith
-
-add-o : tie.Need-add-o Inv-loop μ-loop
-add-o c = omega arith
-
-loop-less : tie.Need-loop-less Inv-loop μ-loop
-loop-less c = omega arith
 
 loop-again : tie.Need-loop-again Inv-loop μ-loop
 loop-again c = lowering-turn (c .before .before .loop .inv) (c .before .loop-test .taken)
@@ -52,13 +31,13 @@ lower-spec =
     Inv-loop
     μ-loop
     loop-holds
-    mul-ws
-    slice-read-ws
-    mul-ws-2
-    slice-write-ws
-    add-i
-    add-o
-    loop-less
+    (λ c. omega arith)
+    (λ c. omega arith)
+    (λ c. omega arith)
+    (λ c. omega arith)
+    (λ c. omega arith)
+    (λ c. omega arith)
+    (λ c. omega arith)
     loop-again
     same-length
     returns)

@@ -10,14 +10,8 @@ Inv-loop ws₀ from to out left₀ ws left = Raising ws₀ from to out ws left
 abbrev μ-loop : tie.MeasureT-loop
 μ-loop ws₀ from to out left₀ ws left = left
 
-sub-left : tie.Need-sub-left Inv-loop μ-loop
-sub-left c = omega arith
-
 loop-holds : tie.Need-loop-holds Inv-loop μ-loop
 loop-holds c = raising-start (c .pre .0) (c .pre .1)
-
-sub-left-2 : tie.Need-sub-left-2 Inv-loop μ-loop
-sub-left-2 c = omega arith
 
 add-ws : tie.Need-add-ws Inv-loop μ-loop
 add-ws c = omega (arith, raising-length (c .before .loop .inv))
@@ -37,9 +31,6 @@ mul-ws-2 c = omega (arith, raising-length (c .before .before .loop .inv))
 slice-write-ws : tie.Need-slice-write-ws Inv-loop μ-loop
 slice-write-ws c = omega (arith, raising-length (c .before .before .loop .inv))
 
-loop-less : tie.Need-loop-less Inv-loop μ-loop
-loop-less c = omega arith
-
 loop-again : tie.Need-loop-again Inv-loop μ-loop
 loop-again c = raising-turn (c .before .before .loop .inv) (c .before .loop-test .taken)
 
@@ -55,16 +46,16 @@ raise-spec =
     (tie.spec
     Inv-loop
     μ-loop
-    sub-left
+    (λ c. omega arith)
     loop-holds
-    sub-left-2
+    (λ c. omega arith)
     add-ws
     mul-ws
     slice-read-ws
     add-ws-2
     mul-ws-2
     slice-write-ws
-    loop-less
+    (λ c. omega arith)
     loop-again
     same-length
     returns)

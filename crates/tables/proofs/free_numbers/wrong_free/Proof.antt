@@ -6,7 +6,7 @@ use native.Mathlib.Omega.{arith}
 use lib.ListN.{replicate, length-replicate}
 use borrow.Author.Needs.{needs}
 use Rattle.calculus.specs.Words.{workspaceMost}
-use Rattle.tables.proofs.Refusal.RecordLaws.{headed}
+use Rattle.records.proofs.RecordLaws.{headed}
 use Rattle.tables.proofs.Meaning.ReadingMeaning.{root-short, free-in-words}
 use Rattle.tables.proofs.free_numbers.wrong_free.Statement.{statement}
 use Rattle.tables.proofs.free_numbers.wrong_free.Tie as tie

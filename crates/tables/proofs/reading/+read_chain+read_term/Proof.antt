@@ -6,10 +6,10 @@ use native.Mathlib.Omega.{arith}
 use lib.ListN.{length, length-set}
 use borrow.Fn.Kinds.{In}
 use borrow.Fn.PlainCycle.{Measures, is, falls, and}
-use Rattle.tables.specs.Types.{stored, viewed, recordOf}
+use Rattle.records.specs.Types.{stored, viewed, recordOf}
 use Rattle.tables.specs.Reading.{ahead, chainWords}
-use Rattle.tables.proofs.Refusal.RecordLaws.{parts}
-use Rattle.tables.proofs.Refusal.Walks.{walk-inside}
+use Rattle.records.proofs.RecordLaws.{parts}
+use Rattle.records.proofs.Walks.{walk-inside}
 use Rattle.tables.proofs.Meaning.ReadingLaws.{chainWords-end, ReadOn, read-on, term-read}
 use Rattle.words.proofs.PlacedLaws.{placed-none, placed-cons, placed-append, placed-length}
 use Rattle.tables.proofs.reading.read_chain.Reads as read-chain
@@ -18,9 +18,9 @@ use Rattle.tables.proofs.reading.+read_chain+read_term.Lts-read_chain a
 use Rattle.tables.proofs.reading.read_term.Reads as read-term
 use Rattle.tables.proofs.reading.read_term.Kinds as read-term-kinds
 use Rattle.tables.proofs.reading.+read_chain+read_term.Lts-read_term as read-term-lts
-use Rattle.tables.proofs.records.Record.at.Reads as at-reads
-use Rattle.tables.proofs.records.Record.word.Reads as word-reads
-use Rattle.tables.proofs.children.chain_length.Reads as chain-length-reads
+use Rattle.records.proofs.Record.at.Reads as at-reads
+use Rattle.tables.proofs.reading.word.Reads as word-reads
+use Rattle.records.proofs.children.chain_length.Reads as chain-length-reads
 use Rattle.tables.proofs.reading.+read_chain+read_term.{statement}
 use Rattle.tables.proofs.reading.+read_chain+read_term.Tie.{close}
 

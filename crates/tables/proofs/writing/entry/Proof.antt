@@ -7,7 +7,7 @@ use borrow.Author.Needs.{needs}
 use Rattle.calculus.specs.Skip.{span}
 use Rattle.calculus.proofs.SkipLaws.{span-bounded}
 use Rattle.tables.specs.Writing.{linkIf}
-use Rattle.tables.proofs.Written.TableWords.{entry-path}
+use Rattle.records.proofs.RecordLaws.{entry-path}
 use Rattle.tables.proofs.writing.entry.Statement.{statement}
 use Rattle.tables.proofs.writing.entry.Tie as tie
 

@@ -18,17 +18,11 @@ Inv-loop ws table₀ levels₀ top₀ i₀ table levels top i = Putting ws table
 abbrev μ-loop : tie.MeasureT-loop
 μ-loop ws table₀ levels₀ top₀ i₀ table levels top i = length ws - i
 
-slice-aggregate-push : tie.Need-slice-aggregate-push Inv-loop μ-loop
-slice-aggregate-push c = refl
-
 loop-holds : tie.Need-loop-holds Inv-loop μ-loop
 loop-holds c =
     let pushed = c .before .push in
     let zeros : List ℕ = replicate (workspaceMost + 1) 0 in
     putting-start _ _ zeros _ _ (length-replicate {A = ℕ} (workspaceMost + 1) 0) (pushed .kept .0) (pushed .ensures)
-
-same-length : tie.Need-same-length Inv-loop μ-loop
-same-length c = c .before .before .loop .inv .table-length
 
 returns : tie.Need-returns Inv-loop μ-loop
 returns c = putting-stops _ _ _ _ _ _ (c .if1 .taken) (c .before .before .loop .inv)
@@ -37,17 +31,8 @@ returns c = putting-stops _ _ _ _ _ _ (c .if1 .taken) (c .before .before .loop .
 inside : (c : tie.Else1 Inv-loop μ-loop) → c .before .before .loop .top < workspaceMost + 1
 inside c = omega (arith, c .before .before .loop .inv .levels-most, c .if1 .left)
 
-mul-entry : tie.Need-mul-entry Inv-loop μ-loop
-mul-entry c = omega (arith, inside c)
-
-array-read-entry : tie.Need-array-read-entry Inv-loop μ-loop
-array-read-entry c = inside c
-
 item : (c : tie.Else1 Inv-loop μ-loop) → 1 ≤ getD (c .before .before .loop .levels) (c .before .before .loop .top) 0
 item c = some-item _ _ _ _ _ _ (c .before .loop-test .taken) (inside c) (c .before .before .loop .inv)
-
-sub-entry : tie.Need-sub-entry Inv-loop μ-loop
-sub-entry c = item c
 
 entry-requires : tie.Need-entry-requires Inv-loop μ-loop
 entry-requires c κs = (c .before .loop-test .taken, c .before .before .before .before .before .before .before .before .pre .0)
@@ -89,9 +74,6 @@ loop-again c =
     putting-more _ _ _ _ _ _ (turn .before .loop-test .taken) (inside turn) (turn .before .before .loop .inv) _ _ _ _ (read .ensures) (put .ensures) (down .kept .0)
     (rw (← w) (down .ensures))
 
-same-length-2 : tie.Need-same-length-2 Inv-loop μ-loop
-same-length-2 c = c .before .loop .inv .table-length
-
 returns-2 : tie.Need-returns-2 Inv-loop μ-loop
 returns-2 c = putting-end _ _ _ _ _ _ (c .loop-test .left) (c .before .loop .inv)
 
@@ -101,14 +83,14 @@ put-records-spec =
     (tie.spec
     Inv-loop
     μ-loop
-    slice-aggregate-push
+    (λ c. refl)
     (λ c κs. omega arith)
     loop-holds
-    same-length
+    (λ c. c .before .before .loop .inv .table-length)
     returns
-    mul-entry
-    array-read-entry
-    sub-entry
+    (λ c. omega (arith, inside c))
+    (λ c. inside c)
+    (λ c. item c)
     entry-requires
     (λ c. omega arith)
     put-requires
@@ -120,5 +102,5 @@ put-records-spec =
     (λ c. omega arith)
     (λ c. omega arith)
     loop-again
-    same-length-2
+    (λ c. c .before .loop .inv .table-length)
     returns-2)

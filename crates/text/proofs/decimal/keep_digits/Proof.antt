@@ -20,9 +20,6 @@ unfolding decimal
 loop-holds c =
     (omega arith, c .pre, rw (drop-of-length-le (c .args .kept .now) {i = digitsMost} (omega arith), append-nil))
 
-same-length : tie.Need-same-length Inv-loop μ-loop
-same-length c = simp length-set (omega arith)
-
 returns : tie.Need-returns Inv-loop μ-loop
 returns c =
     let l = c .before .before .loop in
@@ -53,7 +50,7 @@ keep-digits-spec =
     (λ c. omega arith)
     (λ c. omega arith)
     (λ c. omega arith)
-    same-length
+    (λ c. simp length-set (omega arith))
     returns
     (λ c. omega arith)
     loop-again

@@ -1,53 +1,54 @@
+-- `read_number` meets its contract: what is still ahead decides.
 use Prim.Native.Nat.{_≤_, _-_}
-use lib.ListN.{length}
+use mathlib.Core.Path.{_≡_, refl, sym, _∙_}
+use native.Mathlib.Omega.{arith}
+use lib.ListN.{length, drop}
+use borrow.Author.Tests.{lt-ltb}
+use Rattle.vectors.specs.Text.{digits, numberAt}
+use Rattle.vectors.proofs.TextLaws.{digits-end, digits-stop, digits-over, digits-next, number-of}
 use borrow.Author.Needs.{needs}
 use Rattle.vectors.proofs.text.read_number.Statement.{statement}
 use Rattle.vectors.proofs.text.read_number.Tie as tie
 
 abbrev Inv-loop : tie.InvT-loop
-Inv-loop text at from i₀ value₀ i value = i ≤ length text
+Inv-loop text at from i₀ value₀ i value = (i ≤ length text) × (value ≤ 42949672959) × (digits from value i (drop i text) ≡ digits from 0 from (drop from text))
 
 abbrev μ-loop : tie.MeasureT-loop
 μ-loop text at from i₀ value₀ i value = length text - i
 
-digits-read-requires : tie.Need-digits-read-requires Inv-loop μ-loop
-digits-read-requires c κs = search needs
+number-read-requires : tie.Need-number-read-requires Inv-loop μ-loop
+number-read-requires c κs = search needs
 
 returns : tie.Need-returns Inv-loop μ-loop
-returns c = search needs
+unfolding numberAt
+returns c = rw (c .number-read .ensures, lt-ltb _ _ (c .before .if1 .taken))
 
-find-requires : tie.Need-find-requires Inv-loop μ-loop
-find-requires c κs = search needs
+past-space-requires : tie.Need-past-space-requires Inv-loop μ-loop
+past-space-requires c κs = search needs
 
 loop-holds : tie.Need-loop-holds Inv-loop μ-loop
-loop-holds c = search needs
+loop-holds c = (omega arith, omega arith, refl)
 
-shared-slice-read-digit : tie.Need-shared-slice-read-digit Inv-loop μ-loop
-shared-slice-read-digit c = search needs
+shared-slice-read-digit-of : tie.Need-shared-slice-read-digit-of Inv-loop μ-loop
+shared-slice-read-digit-of c = search needs
 
-digits-read-requires-2 : tie.Need-digits-read-requires-2 Inv-loop μ-loop
-digits-read-requires-2 c κs = search needs
+digit-of-requires : tie.Need-digit-of-requires Inv-loop μ-loop
+digit-of-requires c κs = search needs
+
+number-read-requires-2 : tie.Need-number-read-requires-2 Inv-loop μ-loop
+number-read-requires-2 c κs = search needs
 
 returns-2 : tie.Need-returns-2 Inv-loop μ-loop
-returns-2 c = search needs
+returns-2 c = c .number-read2 .ensures ∙ sym (digits-stop _ _ _ _ (c .before .before .before .before .loop-test .taken) (c .before .before .digit-of .result) (c .before .before .digit-of .ensures) (c .before .if2 .taken)) ∙ c .before .before .before .before .before .loop .inv .2 ∙ sym (number-of _ _ _ (c .before .before .before .before .before .before .before .if1 .left) (c .before .before .before .before .before .before .past-space .ensures .0))
 
-digits-read-requires-3 : tie.Need-digits-read-requires-3 Inv-loop μ-loop
-digits-read-requires-3 c κs = search needs
+number-read-requires-3 : tie.Need-number-read-requires-3 Inv-loop μ-loop
+number-read-requires-3 c κs = search needs
 
 returns-3 : tie.Need-returns-3 Inv-loop μ-loop
-returns-3 c = search needs
-
-digits-read-requires-4 : tie.Need-digits-read-requires-4 Inv-loop μ-loop
-digits-read-requires-4 c κs = search needs
-
-returns-4 : tie.Need-returns-4 Inv-loop μ-loop
-returns-4 c = search needs
+returns-3 c = c .number-read3 .ensures ∙ sym (digits-over _ _ _ _ (c .before .before .before .before .before .loop-test .taken) (c .before .before .before .digit-of .result) (c .before .before .before .digit-of .ensures) (c .before .before .if2 .left) (c .before .if3 .taken)) ∙ c .before .before .before .before .before .before .loop .inv .2 ∙ sym (number-of _ _ _ (c .before .before .before .before .before .before .before .before .if1 .left) (c .before .before .before .before .before .before .before .past-space .ensures .0))
 
 mul-value : tie.Need-mul-value Inv-loop μ-loop
 mul-value c = search needs
-
-cast-value : tie.Need-cast-value Inv-loop μ-loop
-cast-value c = search needs
 
 add-value : tie.Need-add-value Inv-loop μ-loop
 add-value c = search needs
@@ -59,13 +60,13 @@ loop-less : tie.Need-loop-less Inv-loop μ-loop
 loop-less c = search needs
 
 loop-again : tie.Need-loop-again Inv-loop μ-loop
-loop-again c = search needs
+loop-again c = (omega arith, omega arith, sym (digits-next _ _ _ _ (c .before .before .before .before .loop-test .taken) (c .before .before .digit-of .result) (c .before .before .digit-of .ensures) (c .before .if2 .left) (c .if3 .left)) ∙ c .before .before .before .before .before .loop .inv .2)
 
-digits-read-requires-5 : tie.Need-digits-read-requires-5 Inv-loop μ-loop
-digits-read-requires-5 c κs = search needs
+number-read-requires-4 : tie.Need-number-read-requires-4 Inv-loop μ-loop
+number-read-requires-4 c κs = search needs
 
-returns-5 : tie.Need-returns-5 Inv-loop μ-loop
-returns-5 c = search needs
+returns-4 : tie.Need-returns-4 Inv-loop μ-loop
+returns-4 c = c .number-read4 .ensures ∙ sym (digits-end _ _ _ _ (c .before .loop-test .left)) ∙ c .before .before .loop .inv .2 ∙ sym (number-of _ _ _ (c .before .before .before .before .if1 .left) (c .before .before .before .past-space .ensures .0))
 
 pub read-number-spec : {M : Type 1} → statement M
 read-number-spec =
@@ -73,22 +74,20 @@ read-number-spec =
     (tie.spec
     Inv-loop
     μ-loop
-    digits-read-requires
+    number-read-requires
     returns
-    find-requires
+    past-space-requires
     loop-holds
-    shared-slice-read-digit
-    digits-read-requires-2
+    shared-slice-read-digit-of
+    digit-of-requires
+    number-read-requires-2
     returns-2
-    digits-read-requires-3
+    number-read-requires-3
     returns-3
-    digits-read-requires-4
-    returns-4
     mul-value
-    cast-value
     add-value
     add-i
     loop-less
     loop-again
-    digits-read-requires-5
-    returns-5)
+    number-read-requires-4
+    returns-4)

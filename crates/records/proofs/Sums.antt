@@ -1,0 +1,95 @@
+-- Tests of every index from 1 to n, the loops that make them, and sums over these indices.
+use Prim.Native.Nat.{ℕ, zero, suc, _+_, _*_, _≤_}
+use mathlib.Core.Path.{_≡_, refl, ap, ap₂, sym, _∙_}
+use mathlib.Core.Bool.{Bool, true, and-eq-true-iff, false, _&&_, and-false}
+use mathlib.Core.Logic.{inl, inr}
+use native.Mathlib.Nat.{zero-mul, one-mul, add-mul, mul-suc, eq-or-lt-of-le}
+use native.Mathlib.Omega.{arith}
+use borrow.Author.Tests.{eq-eqb, ne-eqb}
+use Rattle.records.specs.Records.{everyOf, sumOf}
+use Rattle.records.specs.Links.{naming}
+use native.Mathlib.Numerals.{add-one}
+
+pub every-at : (n : ℕ) (p : ℕ → Bool) → everyOf n p ≡ true → (i : ℕ) → 1 ≤ i → i ≤ n → p i ≡ true
+every-at zero p h i l u = absurd (omega arith)
+every-at (suc n) p h i l u = elim (eq-or-lt-of-le u) [ inl e ↦ rw e (both .1) | inr v ↦ every-at n p (both .0) i l (omega arith) ]
+  where
+    both : (everyOf n p ≡ true) × (p (suc n) ≡ true)
+    both = and-eq-true-iff (everyOf n p) (p (suc n)) .0 h
+
+pub every-of : (n : ℕ) (p : ℕ → Bool) → ((i : ℕ) → 1 ≤ i → i ≤ n → p i ≡ true) → everyOf n p ≡ true
+every-of zero p h = refl
+every-of (suc n) p h =
+    and-eq-true-iff (everyOf n p) (p (suc n)) .1 (every-of n p (λ i l u. h i l (omega arith)), h (suc n) (omega arith) (omega arith))
+
+-- A loop that tests every index: a turn that passes, a turn that refuses, and the end.
+pub every-more : (p : ℕ → Bool) (i : ℕ) → everyOf i p ≡ true → p (i + 1) ≡ true → everyOf (i + 1) p ≡ true
+every-more p i h e = rw add-one (rw (h, ← add-one i) e)
+
+pub every-fails : (n : ℕ) (p : ℕ → Bool) (i : ℕ) → 1 ≤ i → i ≤ n → p i ≡ false → everyOf n p ≡ false
+every-fails zero p i l u e = absurd (omega arith)
+every-fails (suc n) p i l u e =
+    elim (eq-or-lt-of-le u) [
+      | inl q ↦ ap (λ b. everyOf n p && b) (rw q at e) ∙ and-false (everyOf n p)
+      | inr v ↦ ap (λ b. b && p (suc n)) (every-fails n p i l (omega arith) e)
+    ]
+
+pub every-end : (n : ℕ) (p : ℕ → Bool) (i : ℕ) → i ≤ n → n ≤ i → everyOf i p ≡ true → everyOf n p ≡ true
+every-end n p i l u h = let e : i ≡ n = omega arith in rw e at h
+
+pub every-eq : (n : ℕ) (p q : ℕ → Bool) → ((i : ℕ) → 1 ≤ i → i ≤ n → p i ≡ q i) → everyOf n p ≡ everyOf n q
+every-eq zero p q h = refl
+every-eq (suc n) p q h = ap₂ _&&_ (every-eq n p q (λ i l u. h i l (omega arith))) (h (suc n) (omega arith) (omega arith))
+
+pub sum-eq : (n : ℕ) (f g : ℕ → ℕ) → ((i : ℕ) → 1 ≤ i → i ≤ n → f i ≡ g i) → sumOf n f ≡ sumOf n g
+sum-eq zero f g h = refl
+sum-eq (suc n) f g h = ap₂ _+_ (sum-eq n f g (λ i l u. h i l (omega arith))) (h (suc n) (omega arith) (omega arith))
+
+pub sum-ones : (n : ℕ) → sumOf n (λ i. 1) ≡ n
+sum-ones zero = refl
+sum-ones (suc n) = omega (arith, sum-ones n)
+
+pub sum-zeros : (n : ℕ) → sumOf n (λ i. 0) ≡ 0
+sum-zeros zero = refl
+sum-zeros (suc n) = omega (arith, sum-zeros n)
+
+pub sum-most : (n : ℕ) (f : ℕ → ℕ) (most : ℕ) → ((i : ℕ) → f i ≤ most) → sumOf n f ≤ most * n
+sum-most zero f most h = omega arith
+sum-most (suc n) f most h = omega (arith, sum-most n f most h, h (suc n), mul-suc most n)
+
+pub sum-add : (n : ℕ) (f g : ℕ → ℕ) → sumOf n (λ i. f i + g i) ≡ sumOf n f + sumOf n g
+sum-add zero f g = refl
+sum-add (suc n) f g = omega (arith, sum-add n f g)
+
+pub sum-times : (n : ℕ) (f : ℕ → ℕ) (c : ℕ) → sumOf n f * c ≡ sumOf n (λ i. f i * c)
+sum-times zero f c = zero-mul c
+sum-times (suc n) f c = add-mul (sumOf n f) (f (suc n)) c ∙ ap (λ x. x + f (suc n) * c) (sum-times n f c)
+
+pub sum-swap : (n m : ℕ) (f : ℕ → ℕ → ℕ) → sumOf n (λ i. sumOf m (f i)) ≡ sumOf m (λ j. sumOf n (λ i. f i j))
+sum-swap zero m f = sym (sum-zeros m)
+sum-swap (suc n) m f =
+    ap (λ x. x + sumOf m (f (suc n))) (sum-swap n m f) ∙ sym (sum-add m (λ j. sumOf n (λ i. f i j)) (f (suc n)))
+
+-- Of the indices from 1 to n a link counts the one that it names, and no other.
+pub naming-itself : (l i : ℕ) → l ≡ i → naming l i ≡ 1
+naming-itself l i e = rw (eq-eqb l i e)
+
+pub naming-other : (l i : ℕ) → (l ≡ i → ⊥) → naming l i ≡ 0
+naming-other l i h = rw (ne-eqb l i h)
+
+times-itself : (l i c : ℕ) → l ≡ i → naming l i * c ≡ c
+times-itself l i c e = rw (naming-itself l i e) (one-mul c)
+
+times-other : (l i c : ℕ) → (l ≡ i → ⊥) → naming l i * c ≡ 0
+times-other l i c h = rw (naming-other l i h) (zero-mul c)
+
+pub sum-unnamed : (n l : ℕ) (f : ℕ → ℕ) → ((i : ℕ) → 1 ≤ i → i ≤ n → l ≡ i → ⊥) → sumOf n (λ i. naming l i * f i) ≡ 0
+sum-unnamed n l f h = sum-eq n _ (λ i. 0) (λ i v u. times-other l i (f i) (h i v u)) ∙ sum-zeros n
+
+pub sum-named : (n l : ℕ) (f : ℕ → ℕ) → 1 ≤ l → l ≤ n → sumOf n (λ i. naming l i * f i) ≡ f l
+sum-named zero l f h u = absurd (omega arith)
+sum-named (suc n) l f h u =
+    elim (eq-or-lt-of-le u) [
+      | inl e ↦ omega (arith, sum-unnamed n l f (λ i v w q. omega arith), times-itself l (suc n) (f (suc n)) e, ap f e)
+      | inr v ↦ omega (arith, sum-named n l f h (omega arith), times-other l (suc n) (f (suc n)) (λ q. omega arith))
+    ]

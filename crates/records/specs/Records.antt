@@ -1,0 +1,113 @@
+-- A stored table as records ("The stored table"). A record has a kind, a value, its first child and its next sibling; links are indices, and 0 is
+-- no record. A record may declare how many children it has. What records mean, and what is refused of them, is said of any table of records; a
+-- form is a way to keep such a table as words.
+use Prim.Native.Nat.{ℕ, zero, suc, _+_, _*_, _^_, _≤_, _<_}
+use mathlib.Core.Path.{_≡_}
+use mathlib.Core.Bool.{Bool, true, false, _&&_}
+use mathlib.Core.List.{List, [], _∷_}
+use mathlib.Core.Option.{Option, none}
+use native.Mathlib.Omega.{arith}
+use lib.Dec.{leb, eqb}
+use lib.ListN.{length, getD}
+
+pub record Record : Type 0 where
+  pub kind : ℕ
+  pub value : ℕ
+  pub first : ℕ
+  pub next : ℕ
+
+abbrev pub entry : (kind value first next : ℕ) → Record
+entry k v f x = record { kind = k; value = v; first = f; next = x }
+
+-- n records, numbered from 1, the index of the root, and how many children a record declares, if it does.
+pub record Table : Type 0 where
+  pub n : ℕ
+  pub root : ℕ
+  pub at : ℕ → Record
+  pub declared : ℕ → Option ℕ
+
+-- Record i is one of the table's and has this kind.
+abbrev pub OfKind : Table → (kind i : ℕ) → Type 0
+OfKind T kind i = (1 ≤ i) × (i ≤ T .n) × (T .at i .kind ≡ kind)
+
+-- Whether an index is one of a record.
+abbrev pub isRecord : Table → ℕ → Bool
+isRecord T i = leb 1 i && leb i (T .n)
+
+-- Whether a test holds of every index from 1 to n, and the sum of a function over these indices.
+abbrev pub everyOf : ℕ → (ℕ → Bool) → Bool
+everyOf zero p = true
+everyOf (suc n) p = everyOf n p && p (suc n)
+
+abbrev pub sumOf : ℕ → (ℕ → ℕ) → ℕ
+sumOf zero f = 0
+sumOf (suc n) f = sumOf n f + f (suc n)
+
+-- A form: its number, how many words a record has, whether the header is one of this form, and the record whose words start at a position, with
+-- the number of children that it declares. Record 0 is the header; in every form it starts with the form's number, n and the root's index, so that
+-- a record has three words at least.
+pub record Form : Type 0 where
+  pub number : ℕ
+  pub recordWords : ℕ
+  pub headerFits : List ℕ → Bool
+  pub recordFrom : List ℕ → (position : ℕ) → Record
+  pub declaredFrom : List ℕ → (position : ℕ) → Option ℕ
+  pub three : 3 ≤ recordWords
+
+-- A table as words in a form, and its records.
+pub record Stored : Type 0 where
+  pub form : Form
+  pub words : List ℕ
+
+abbrev pub headerCount : List ℕ → ℕ
+headerCount ws = getD ws 1 0
+
+abbrev pub headerRoot : List ℕ → ℕ
+headerRoot ws = getD ws 2 0
+
+abbrev pub recordAt : Stored → ℕ → Record
+recordAt S i = S .form .recordFrom (S .words) (S .form .recordWords * i)
+
+abbrev pub declaredAt : Stored → ℕ → Option ℕ
+declaredAt S i = S .form .declaredFrom (S .words) (S .form .recordWords * i)
+
+abbrev pub view : Stored → Table
+view S = record { n = headerCount (S .words); root = headerRoot (S .words); at = recordAt S; declared = declaredAt S }
+
+-- The words of record i are there.
+abbrev pub Inside : Stored → ℕ → Type 0
+Inside S i = S .form .recordWords * suc i ≤ length (S .words)
+
+-- Form 1: four words a record, its kind, value, first child and next; no record declares its children. The header is 1, n, the root's index, 0.
+abbrev pub form1 : Form
+form1 =
+    record {
+      number = 1;
+      recordWords = 4;
+      headerFits = λ ws. eqb (getD ws 0 0) 1 && eqb (getD ws 3 0) 0;
+      recordFrom = λ ws p. record { kind = getD ws p 0; value = getD ws (p + 1) 0; first = getD ws (p + 2) 0; next = getD ws (p + 3) 0 };
+      declaredFrom = λ ws p. none;
+      three = omega arith;
+    }
+
+abbrev pub inForm1 : List ℕ → Stored
+inForm1 ws = record { form = form1; words = ws }
+
+-- The words of records in form 1, one record after the other.
+abbrev pub recordsWords : List Record → List ℕ
+recordsWords [] = []
+recordsWords (r ∷ rs) = r .kind ∷ r .value ∷ r .first ∷ r .next ∷ recordsWords rs
+
+-- Both links of a record fit a word of 32 bits.
+pub record Puttable (r : Record) : Type 0 where
+  pub first-fits : r .first < 2 ^ 32
+  pub next-fits : r .next < 2 ^ 32
+
+-- What `step` makes of a record from what was made at its first child and at its next sibling; `end` is made at link 0. At most `bound` deep.
+unfoldable pub hanging : {A : Type 0} → Table → (end : A) (step : ℕ → A → A → A) (bound link : ℕ) → A
+hanging T end step zero l = end
+hanging T end step (suc k) l =
+    elim (eqb l 0) [
+      | true ↦ end
+      | false ↦ step l (hanging T end step k (T .at l .first)) (hanging T end step k (T .at l .next))
+    ]

@@ -1,0 +1,29 @@
+-- The lines of a text, one after the other.
+use Prim.Native.Nat.{ℕ, zero, suc, _+_, _-_, _≤_, _<_}
+use native.Mathlib.Omega.{arith}
+use mathlib.Core.Path.{_≡_, refl}
+use mathlib.Core.List.{List}
+use lib.Dec.{ltb}
+use lib.ListN.{length, take, drop}
+use borrow.Author.Tests.{le-leb, lt-leb}
+use Rattle.vectors.specs.Vector.{lineEnd, shareOf, tallyFrom}
+use Rattle.vectors.specs.declared.vector.Tally.{Tally}
+
+module _ (text : List ℕ) (at v p : ℕ) where
+  pub tally-over : (turns : ℕ) → length text ≤ at → tallyFrom turns text at v p ≡ record { vectors = v; passed = p }
+  unfolding tallyFrom
+  tally-over zero h = refl
+  tally-over (suc k) h = rw (le-leb (length text) at h)
+
+  pub tally-end : (turns : ℕ) → turns ≤ 0 → tallyFrom turns text at v p ≡ record { vectors = v; passed = p }
+  unfolding tallyFrom
+  tally-end zero h = refl
+  tally-end (suc k) h = absurd (omega arith)
+
+  pub tally-next : (end : ℕ) (s : Tally) → end ≡ lineEnd text at → s ≡ shareOf (take (end - at) (drop at text)) (ltb end (length text)) → at < length text
+      → (turns : ℕ) → 0 < turns → tallyFrom turns text at v p ≡ tallyFrom (turns - 1) text (end + 1) (v + s .vectors) (p + s .passed)
+  unfolding tallyFrom
+  tally-next end s e is h zero more = absurd (omega arith)
+  tally-next end s e is h (suc k) more =
+      let down : suc k - 1 ≡ k = omega arith in
+      rw (down, lt-leb (length text) at h, ← e, ← is)

@@ -1,0 +1,62 @@
+-- `passes` meets its contract.
+use borrow.Author.Tests.{eq-eqb, ne-eqb}
+use Rattle.vectors.specs.Vector.{passes}
+use borrow.Author.Needs.{needs}
+use Rattle.vectors.proofs.vector.passes.Statement.{statement}
+use Rattle.vectors.proofs.vector.passes.Tie as tie
+
+slice-aggregate-after : tie.Need-slice-aggregate-after
+slice-aggregate-after c = search needs
+
+after-requires : tie.Need-after-requires
+after-requires c κs = search needs
+
+pair-holds-requires : tie.Need-pair-holds-requires
+pair-holds-requires c κs = search needs
+
+returns : tie.Need-returns
+unfolding passes
+returns c = rw (c .pair-holds .ensures, ← (c .before .before .after .ensures), ne-eqb _ _ (c .before .if1 .taken))
+
+slice-aggregate-after-2 : tie.Need-slice-aggregate-after-2
+slice-aggregate-after-2 c = search needs
+
+after-requires-2 : tie.Need-after-requires-2
+after-requires-2 c κs = search needs
+
+load-holds-requires : tie.Need-load-holds-requires
+load-holds-requires c κs = search needs
+
+returns-2 : tie.Need-returns-2
+unfolding passes
+returns-2 c = rw (c .load-holds .ensures, ← (c .before .before .before .before .before .after .ensures), eq-eqb _ _ (c .before .before .before .before .if1 .left), ← (c .before .before .after2 .ensures), ne-eqb _ _ (c .before .if2 .taken))
+
+slice-aggregate-after-3 : tie.Need-slice-aggregate-after-3
+slice-aggregate-after-3 c = search needs
+
+after-requires-3 : tie.Need-after-requires-3
+after-requires-3 c κs = search needs
+
+write-holds-requires : tie.Need-write-holds-requires
+write-holds-requires c κs = search needs
+
+returns-3 : tie.Need-returns-3
+unfolding passes
+returns-3 c = rw (c .write-holds .ensures, ← (c .before .before .before .before .before .before .before .after .ensures), eq-eqb _ _ (c .before .before .before .before .before .before .if1 .left), ← (c .before .before .before .before .after2 .ensures), eq-eqb _ _ (c .before .before .before .if2 .left), ← (c .before .after3 .ensures))
+
+pub passes-spec : {M : Type 1} → statement M
+passes-spec =
+    tie.close
+    (tie.spec
+    slice-aggregate-after
+    after-requires
+    pair-holds-requires
+    returns
+    slice-aggregate-after-2
+    after-requires-2
+    load-holds-requires
+    returns-2
+    slice-aggregate-after-3
+    after-requires-3
+    write-holds-requires
+    returns-3)

@@ -1,0 +1,131 @@
+-- What a line of loading or writing says.
+use Prim.Native.Nat.{ℕ, zero, suc, _+_, _*_, _/_, _%_, min}
+use mathlib.Core.Bool.{Bool, false, cond, _&&_}
+use mathlib.Core.List.{List, [], _∷_}
+use lib.Dec.{eqb, leb}
+use lib.ListN.{length, take, replicate}
+use Rattle.calculus.specs.Refusal.{number}
+use Rattle.tables.specs.Load.{Answer, refused, returned, Loaded, load}
+use Rattle.tables.specs.Write.{Written, write}
+use Rattle.vectors.specs.Text.{nowhere, after, numberAt}
+use Rattle.vectors.specs.Keywords.{refusedWord, chainKeyword, givesWord, writesWord}
+use Rattle.vectors.specs.Compared.{areWords}
+use Rattle.vectors.specs.Lists.{listMost, recordWords, Listed, listAt, comparedAt}
+use Rattle.vectors.specs.Answers.{isReturned}
+use Rattle.vectors.specs.Pair.{junk, junkWords}
+use Rattle.vectors.specs.declared.text.Compared.{Compared}
+
+-- Whether a call went as the line says, and the words that it left in what it was lent.
+pub record Verified : Type 0 where
+  pub holds : Bool
+  pub words : List ℕ
+
+abbrev pub verifiedOf : Bool → (words : List ℕ) → Verified
+verifiedOf holds ws = record { holds = holds; words = ws }
+
+-- The refusal that the line names last.
+abbrev pub refusedLast : List ℕ → (at : ℕ) → Answer → Bool
+refusedLast line at (refused why) = eqb (number why) (numberAt line at .value) && eqb (numberAt line at .next) (length line)
+refusedLast line at (returned n) = false
+
+-- The table of n - 1 abstractions around a variable, word by word. The header differs from an abstraction over the next record in the second word
+-- alone.
+abbrev pub chainWord : (records index place : ℕ) → ℕ
+chainWord records index place =
+    let record′ = place / recordWords in
+    let field = place % recordWords in
+    cond (leb records record′) (cond (eqb field 1) index 0)
+    (cond (eqb field 0) 1 (cond (eqb field 1) (cond (eqb record′ 0) records 0) (cond (eqb field 2) (record′ + 1) 0)))
+
+unfoldable pub chainFrom : (records index place count : ℕ) → List ℕ
+chainFrom records index place zero = []
+chainFrom records index place (suc n) = chainWord records index place ∷ chainFrom records index (place + 1) n
+
+abbrev pub chain : (records index count : ℕ) → List ℕ
+chain records index count = chainFrom records index 0 count
+
+-- The table that comes next, into lent words.
+abbrev pub chainAt : List ℕ → (from : ℕ) → (words : List ℕ) → Listed
+chainAt line from ws =
+    let records = numberAt line from in
+    let index = numberAt line (records .next) in
+    record {
+      words = chain (records .value) (index .value) (length ws);
+      count = recordWords * (records .value + 1);
+      next = index .next;
+    }
+
+abbrev pub tableFrom : List ℕ → (at from : ℕ) → (words : List ℕ) → Listed
+tableFrom line at from ws = cond (eqb from nowhere) (listAt line at ws) (chainAt line from ws)
+
+unfoldable pub tableAt : List ℕ → (at : ℕ) → (words : List ℕ) → Listed
+tableAt line at ws = tableFrom line at (after line at chainKeyword) ws
+
+-- A written table is the one that the line names after `writes`, or else the one that was loaded.
+abbrev pub isWhole : List ℕ → (written : List ℕ) → Compared → Bool
+isWhole line written c = (c .equal && eqb (c .count) (length written)) && eqb (c .next) (length line)
+
+abbrev pub tableIs : List ℕ → (at from : ℕ) → (written loaded : List ℕ) → Bool
+tableIs line at from written loaded =
+    cond (eqb from nowhere) (areWords written loaded (length loaded) junk && eqb at (length line))
+    (isWhole line written (comparedAt line from written junk))
+
+unfoldable pub isTable : List ℕ → (at : ℕ) → (written loaded : List ℕ) → Bool
+isTable line at written loaded = tableIs line at (after line at writesWord) written loaded
+
+-- Writing a term: a refusal changes nothing, and else the table is the one that the line says.
+abbrev pub writtenAs : List ℕ → (at : ℕ) → (loaded : List ℕ) → (len : ℕ) → Written → Verified
+writtenAs line at loaded len w =
+    let from = after line at refusedWord in
+    record {
+      holds =
+          cond (eqb from nowhere) (isReturned (w .answer) len && isTable line at (w .table) loaded)
+          (refusedLast line from (w .answer) && areWords (w .table) (w .table) 0 junk);
+      words = w .table;
+    }
+
+unfoldable pub writesInto : List ℕ → (at : ℕ) → (loaded workspace : List ℕ) (len : ℕ) (table : List ℕ) → Verified
+writesInto line at loaded workspace len table = writtenAs line at loaded len (write workspace len table)
+
+-- A loaded term is written into a table of junk as long as the one that was loaded.
+abbrev pub junkTable : (n : ℕ) → List ℕ
+junkTable n = replicate (min n listMost) junk
+
+unfoldable pub writesBack : List ℕ → (at : ℕ) → (loaded workspace : List ℕ) (len : ℕ) → Bool
+writesBack line at loaded workspace len = writesInto line at loaded workspace len (junkTable (length loaded)) .holds
+
+-- Loading a table: a refusal changes nothing, and else the term is what the line gives, and is written.
+abbrev pub givesTerm : List ℕ → (table : List ℕ) → Loaded → Compared → Bool
+givesTerm line table q c =
+    (c .equal && isReturned (q .answer) (c .count)) && writesBack line (c .next) table (q .workspace) (c .count)
+
+unfoldable pub loadedAs : List ℕ → (at : ℕ) → (table : List ℕ) → Loaded → Bool
+loadedAs line at table q =
+    let from = after line at refusedWord in
+    cond (eqb from nowhere) (givesTerm line table q (comparedAt line (after line at givesWord) (q .workspace) 0))
+    (refusedLast line from (q .answer) && areWords (q .workspace) (q .workspace) 0 junk)
+
+abbrev pub loadingOf : List ℕ → (at : ℕ) → (table : List ℕ) → Loaded → Verified
+loadingOf line at table q = record { holds = loadedAs line at table q; words = q .workspace }
+
+unfoldable pub loading : List ℕ → (at : ℕ) → (table workspace : List ℕ) → Verified
+loading line at table workspace = loadingOf line at table (load table workspace)
+
+unfoldable pub loadHolds : List ℕ → (at : ℕ) → Bool
+loadHolds line at =
+    let c = numberAt line at in
+    let t = tableAt line (c .next) (replicate listMost 0) in
+    loading line (t .next) (take (min (t .count) listMost) (t .words)) (junkWords (c .value)) .holds
+
+-- Writing words, with the length and the size that stand behind them.
+abbrev pub writesListed : List ℕ → Listed → Verified
+writesListed line l =
+    let len = numberAt line (l .next) in
+    let size = numberAt line (len .next) in
+    record { holds = writesInto line (size .next) [] (l .words) (len .value) (junkTable (size .value)) .holds; words = l .words }
+
+unfoldable pub writesWords : List ℕ → (at : ℕ) → (workspace : List ℕ) → Verified
+writesWords line at workspace = writesListed line (listAt line at workspace)
+
+unfoldable pub writeHolds : List ℕ → (at : ℕ) → Bool
+writeHolds line at = let c = numberAt line at in writesWords line (c .next) (junkWords (c .value)) .holds

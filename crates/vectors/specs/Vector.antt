@@ -1,0 +1,60 @@
+-- The vectors of a text, one to a line, and how many of them pass.
+use Prim.Native.Nat.{ℕ, zero, suc, _+_, _-_}
+use mathlib.Core.Bool.{Bool, cond, _&&_}
+use mathlib.Core.List.{List, [], _∷_}
+use lib.Dec.{eqb, leb, ltb}
+use lib.ListN.{length, getD, take, drop}
+use Rattle.vectors.specs.Text.{nowhere, after}
+use Rattle.vectors.specs.Keywords.{pairWord, loadWord, writeWord}
+use Rattle.vectors.specs.Pair.{pairHolds}
+use Rattle.vectors.specs.Stored.{loadHolds, writeHolds}
+use Rattle.vectors.specs.declared.vector.Tally.{Tally}
+
+-- Where the line that goes on at a position ends.
+abbrev pub newline : ℕ
+newline = 10
+
+unfoldable pub endFrom : (i : ℕ) → List ℕ → ℕ
+endFrom i [] = i
+endFrom i (b ∷ bs) = cond (eqb b newline) i (endFrom (i + 1) bs)
+
+abbrev pub lineEnd : List ℕ → (at : ℕ) → ℕ
+lineEnd text at = endFrom at (drop at text)
+
+-- What a line says holds, by its first keyword.
+unfoldable pub passes : List ℕ → Bool
+passes line =
+    cond (eqb (after line 0 pairWord) nowhere)
+    (cond (eqb (after line 0 loadWord) nowhere) (writeHolds line (after line 0 writeWord)) (loadHolds line (after line 0 loadWord)))
+    (pairHolds line (after line 0 pairWord))
+
+-- A line's share: none of an empty line and of a comment. A line that is cut off before its end fails.
+abbrev pub comment : ℕ
+comment = 35
+
+abbrev pub nothing : Tally
+nothing = record { vectors = 0; passed = 0 }
+
+abbrev pub failed : Tally
+failed = record { vectors = 1; passed = 0 }
+
+abbrev pub passed : Tally
+passed = record { vectors = 1; passed = 1 }
+
+unfoldable pub shareOf : (line : List ℕ) (ended : Bool) → Tally
+shareOf line ended =
+    cond (eqb (length line) 0) nothing
+    (cond (eqb (getD line 0 0) comment) nothing (cond ended (cond (passes line) passed failed) failed))
+
+-- The lines from a position on, at most `turns` of them, with a tally so far; a text has no more lines than bytes.
+abbrev pub shareAt : List ℕ → (at : ℕ) → Tally
+shareAt text at = let end = lineEnd text at in shareOf (take (end - at) (drop at text)) (ltb end (length text))
+
+unfoldable pub tallyFrom : (turns : ℕ) → List ℕ → (at vectors passed : ℕ) → Tally
+tallyFrom zero text at v p = record { vectors = v; passed = p }
+tallyFrom (suc k) text at v p =
+    cond (leb (length text) at) (record { vectors = v; passed = p })
+    (tallyFrom k text (lineEnd text at + 1) (v + shareAt text at .vectors) (p + shareAt text at .passed))
+
+abbrev pub tallyAll : List ℕ → Tally
+tallyAll text = tallyFrom (length text) text 0 0 0
