@@ -1,16 +1,17 @@
 -- What a side's plan tells of its term, and what the code asks of two terms first.
-use Prim.Native.Nat.{ℕ, _≤_}
+use Prim.Native.Nat.{ℕ, _+_, _≤_, _<_, max}
 use mathlib.Core.Path.{_≡_, refl, sym, _∙_, ap}
 use mathlib.Core.Bool.{Bool, true, false, cond}
 use mathlib.Core.Logic.{if-pos, if-neg}
 use mathlib.Core.Option.{Option, some, none, bind, Option·map, Option·getD}
 use native.Mathlib.Omega.{arith}
+use borrow.Author.Tests.{eq-eqb, ne-eqb, lt-ltb, le-ltb}
 use Rattle.calculus.specs.Term.{Term}
 use Rattle.calculus.specs.Words.{size}
 use Rattle.calculus.specs.Leftmost.{leftmost}
 use Rattle.calculus.specs.Position.{contractAt, redexAt}
 use Rattle.calculus.specs.Equality.{equal?}
-use Rattle.calculus.specs.Rounds.{Same, contractions, next, nextLength, same}
+use Rattle.calculus.specs.Rounds.{Same, Different, Budget, Full, contractions, ends, goes, round, next, nextLength, same}
 use Rattle.calculus.proofs.PositionLaws.{redex-first, leftmost-at-redex}
 use Rattle.rounds.specs.Turn.{Plan, normal, contract, lengthIn, planAt, planned}
 
@@ -60,3 +61,21 @@ one-at-most (some n) = omega arith
 
 pub few : {n : ℕ} (p : Plan) → n ≡ contractions (lengthIn p) → n ≤ 1
 few p e = omega (arith, e, one-at-most (lengthIn p))
+
+-- Points 2 to 5 of a round, by the contractions and the next length of each side.
+module _ (C rest : ℕ) (l r : Option ℕ) {p q : ℕ} (left-moves : p ≡ contractions l) (right-moves : q ≡ contractions r) where
+  pub point-2 : p + q ≡ 0 → round none C rest l r ≡ ends Different
+  point-2 e = rw (← left-moves, ← right-moves, eq-eqb _ _ e)
+
+  module _ (moves : p + q ≡ 0 → ⊥) where
+    pub point-3 : rest < p + q → round none C rest l r ≡ ends Budget
+    point-3 h = rw (← left-moves, ← right-moves, ne-eqb _ _ moves, lt-ltb _ _ h)
+
+    module _ (affords : p + q ≤ rest) {m n o : ℕ} (left-length : m ≡ Option·getD l 0) (right-length : n ≡ Option·getD r 0) (longest-is : o ≡ max m n) where
+      pub point-4 : C < o → round none C rest l r ≡ ends Full
+      point-4 h =
+          rw (← left-moves, ← right-moves, ne-eqb _ _ moves, le-ltb _ _ affords, ← left-length, ← right-length, ← longest-is, lt-ltb _ _ h)
+
+      pub point-5 : o ≤ C → round none C rest l r ≡ goes (p + q)
+      point-5 h =
+          rw (← left-moves, ← right-moves, ne-eqb _ _ moves, le-ltb _ _ affords, ← left-length, ← right-length, ← longest-is, le-ltb _ _ h)

@@ -9,6 +9,19 @@ use Rattle.press.proofs.PressCode.{ran-left-fits, ran-right-fits, ran-c
 use Rattle.press.proofs.press_terms.Statement.{statement}
 use Rattle.press.proofs.press_terms.Tie as tie
 
+-- The places of the calls, each from the next one.
+abbrev entry : tie.After-run → tie.Start
+entry p = p .before .before .before .before .before .before .before
+
+abbrev ran : tie.After-clear → tie.After-run
+ran p = p .before .before .before .before .before .before .before .before
+
+abbrev left-cleared : tie.After-clear2 → tie.After-clear
+left-cleared p = p .before .before .before .before
+
+abbrev right-cleared : tie.After-clear3 → tie.After-clear2
+right-cleared p = p .before .before .before .before
+
 run-requires : tie.Need-run-requires
 run-requires c κs = search needs
 
@@ -16,7 +29,7 @@ clear-requires : tie.Need-clear-requires
 clear-requires c κs = ran-left-fits (c .before .before .before .before .before .before .before .run .ensures)
 
 clear-requires-2 : tie.Need-clear-requires-2
-clear-requires-2 c κs = ran-right-fits (c .before .before .before .before .before .before .before .before .before .before .before .run .ensures)
+clear-requires-2 c κs = ran-right-fits (ran (c .before .before .before) .run .ensures)
 
 clear-requires-3 : tie.Need-clear-requires-3
 clear-requires-3 c κs = search needs
@@ -35,15 +48,14 @@ same-length-3 c = search needs
 
 returns : tie.Need-returns
 returns c =
-    let clear3 = c .before .before .before .before .clear3 in
-    let clear2 = c .before .before .before .before .before .before .before .before .clear2 in
-    let clear = c .before .before .before .before .before .before .before .before .before .before .before .before .clear in
-    let ran = c .before .before .before .before .before .before .before .before .before .before .before .before .before .before .before .before .before .before .before .before .run in
-    let start = c .before .before .before .before .before .before .before .before .before .before .before .before .before .before .before .before .before .before .before .before .before .before .before .before .before .before .before in
-    let a = start .args in
+    let d = c .before .before .before .before in
+    let r = ran (left-cleared (right-cleared d)) in
+    let s = entry r in
+    let a = s .args in
     let C = length (a .left .now) in
-    ran-concludes {o = rounds C (a .budget) (held (a .left .now) (a .left-length)) (held (a .right .now) (a .right-length))} (ran .ensures) C (sessionOf (start .args .session)) (start .pre .0 .scratch-length) (ran .kept .0) (ran .kept .1 .0 ∙ start .pre .0 .right-length)
-    (clear .ensures) (clear2 .ensures) (clear3 .ensures)
+    ran-concludes {o = rounds C (a .budget) (held (a .left .now) (a .left-length)) (held (a .right .now) (a .right-length))} (r .run .ensures) C
+    (sessionOf (a .session)) (s .pre .0 .scratch-length) (r .run .kept .0) (r .run .kept .1 .0 ∙ s .pre .0 .right-length)
+    (left-cleared (right-cleared d) .clear .ensures) (right-cleared d .clear2 .ensures) (d .clear3 .ensures)
 
 pub press-terms-spec : {M : Type 1} → statement M
 press-terms-spec =

@@ -6,6 +6,16 @@ use borrow.Author.Needs.{needs}
 use Rattle.rounds.proofs.turn.advance.Statement.{statement}
 use Rattle.rounds.proofs.turn.advance.Tie as tie
 
+-- The entry and the place of the contraction, each from the next one.
+abbrev entry : tie.After-todo → tie.Start
+entry p = p .before .before .before .before .before
+
+abbrev contracting : tie.After-contract → tie.After-todo
+contracting p = p .before .before .before .before .before
+
+abbrev contracted : tie.After-before2 → tie.After-contract
+contracted p = p .before .before .before .before .before .before .before
+
 enum-told : tie.Need-enum-told
 enum-told c = search needs
 
@@ -13,7 +23,7 @@ enum-known-todo : tie.Need-enum-known-todo
 enum-known-todo c = search needs
 
 contract-requires : tie.Need-contract-requires
-contract-requires c κs = advance-room (c .before .before .before .before .before .before .before .before .before .pre) (c .before .before .before .before .todo .given .1)
+contract-requires c κs = let t = c .before .before .before .before in advance-room (entry t .pre) (t .todo .given .1)
 
 before-requires : tie.Need-before-requires
 before-requires c κs = search needs
@@ -32,10 +42,10 @@ same-length-3 c = search needs
 
 returns-2 : tie.Need-returns-2
 returns-2 c =
-    let contract = c .before .before .before .before .before .before .before .contract in
-    let start = c .before .before .before .before .before .before .before .before .before .before .before .before .before .before .before .before .before in (
-      advance-contracted (start .pre) (c .before .before .before .before .before .before .before .before .before .before .before .before .todo .given .1) (contract .ensures .0) (c .before2 .ensures),
-      contract .ensures .1,
+    let d = contracted c in
+    let t = contracting d in (
+      advance-contracted (entry t .pre) (t .todo .given .1) (d .contract .ensures .0) (c .before2 .ensures),
+      d .contract .ensures .1,
     )
 
 pub advance-spec : {M : Type 1} → statement M

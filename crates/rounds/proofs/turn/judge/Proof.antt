@@ -1,11 +1,28 @@
--- `judge` meets its contract: each return has the tests that led there. Assumes nothing.
+-- `judge` meets its contract: each return has the tests that led there, point by point. Assumes nothing.
+use mathlib.Core.Path.{sym}
 use native.Mathlib.Omega.{arith}
 use borrow.Author.Needs.{needs}
-use borrow.Author.Tests.{lt-ltb, le-ltb, eq-eqb, ne-eqb}
+use Rattle.rounds.specs.Turn.{lengthIn}
 use Rattle.rounds.specs.Types.{planOf}
-use Rattle.rounds.proofs.TurnLaws.{few}
+use Rattle.rounds.proofs.TurnLaws.{few, point-2, point-3, point-4, point-5}
 use Rattle.rounds.proofs.turn.judge.Statement.{statement}
 use Rattle.rounds.proofs.turn.judge.Tie as tie
+
+-- The places where the points before have passed, each from the next one.
+abbrev entry : tie.Else1 → tie.Start
+entry e = e .before
+
+abbrev unequal : tie.After-contractions2 → tie.Else1
+unequal c = c .before .before
+
+abbrev moving : tie.Else3 → tie.Else2
+moving e = e .before
+
+abbrev counted : tie.Else2 → tie.After-contractions2
+counted e = e .before
+
+abbrev affording : tie.After-longer → tie.Else3
+affording c = c .before .before .before
 
 returns : tie.Need-returns
 returns c = rw (c .if1 .taken)
@@ -18,15 +35,23 @@ contractions-requires-2 c κs = search needs
 
 add-count : tie.Need-add-count
 add-count c =
-    let a = c .before .before .before .args in
+    let a = entry (unequal c) .args in
     omega (arith, few (planOf (a .left)) (c .before .contractions .ensures), few (planOf (a .right)) (c .contractions2 .ensures))
 
 returns-2 : tie.Need-returns-2
-returns-2 c = rw (c .before .before .before .if1 .left, ← c .before .before .contractions .ensures, ← c .before .contractions2 .ensures, eq-eqb _ _ (c .if2 .taken))
+returns-2 c =
+    let n = c .before in
+    let a = entry (unequal n) .args in
+    rw (unequal n .if1 .left) (sym (point-2 (a .capacity) (a .rest) (lengthIn (planOf (a .left))) (lengthIn (planOf (a .right)))
+    (n .before .contractions .ensures) (n .contractions2 .ensures) (c .if2 .taken)))
 
 returns-3 : tie.Need-returns-3
 returns-3 c =
-    rw (c .before .before .before .before .if1 .left, ← c .before .before .before .contractions .ensures, ← c .before .before .contractions2 .ensures, ne-eqb _ _ (c .before .if2 .left), lt-ltb _ _ (c .if3 .taken))
+    let e = c .before in
+    let n = counted e in
+    let a = entry (unequal n) .args in
+    rw (unequal n .if1 .left) (sym (point-3 (a .capacity) (a .rest) (lengthIn (planOf (a .left))) (lengthIn (planOf (a .right)))
+    (n .before .contractions .ensures) (n .contractions2 .ensures) (e .if2 .left) (c .if3 .taken)))
 
 next-length-requires : tie.Need-next-length-requires
 next-length-requires c κs = search needs
@@ -39,11 +64,25 @@ longer-requires c κs = search needs
 
 returns-4 : tie.Need-returns-4
 returns-4 c =
-    rw (c .before .before .before .before .before .before .before .before .if1 .left, ← c .before .before .before .before .before .before .before .contractions .ensures, ← c .before .before .before .before .before .before .contractions2 .ensures, ne-eqb _ _ (c .before .before .before .before .before .if2 .left), le-ltb _ _ (c .before .before .before .before .if3 .left), ← c .before .before .before .next-length .ensures, ← c .before .before .next-length2 .ensures, ← c .before .longer .ensures, lt-ltb _ _ (c .if4 .taken))
+    let o = c .before in
+    let e = affording o in
+    let n = counted (moving e) in
+    let a = entry (unequal n) .args in
+    rw (unequal n .if1 .left)
+    (sym (point-4 (a .capacity) (a .rest) (lengthIn (planOf (a .left))) (lengthIn (planOf (a .right)))
+    (n .before .contractions .ensures) (n .contractions2 .ensures) (moving e .if2 .left) (e .if3 .left)
+    (o .before .before .next-length .ensures) (o .before .next-length2 .ensures) (o .longer .ensures) (c .if4 .taken)))
 
 returns-5 : tie.Need-returns-5
 returns-5 c =
-    rw (c .before .before .before .before .before .before .before .before .if1 .left, ← c .before .before .before .before .before .before .before .contractions .ensures, ← c .before .before .before .before .before .before .contractions2 .ensures, ne-eqb _ _ (c .before .before .before .before .before .if2 .left), le-ltb _ _ (c .before .before .before .before .if3 .left), ← c .before .before .before .next-length .ensures, ← c .before .before .next-length2 .ensures, ← c .before .longer .ensures, le-ltb _ _ (c .if4 .left))
+    let o = c .before in
+    let e = affording o in
+    let n = counted (moving e) in
+    let a = entry (unequal n) .args in
+    rw (unequal n .if1 .left)
+    (sym (point-5 (a .capacity) (a .rest) (lengthIn (planOf (a .left))) (lengthIn (planOf (a .right)))
+    (n .before .contractions .ensures) (n .contractions2 .ensures) (moving e .if2 .left) (e .if3 .left)
+    (o .before .before .next-length .ensures) (o .before .next-length2 .ensures) (o .longer .ensures) (c .if4 .left)))
 
 pub judge-spec : {M : Type 1} → statement M
 judge-spec =
