@@ -55,17 +55,7 @@ pub record Passes (S : Stored) (C : ℕ) : Type 0 where
   pub free-numbers-fit : wrongFree (view S) ≡ false
 
 pub passes : (S : Stored) (C : ℕ) → NoneMet (checks S C) → Passes S C
-passes S C h =
-    record {
-      workspace-fits = search needs;
-      length-fits = search needs;
-      header-fits = search needs;
-      short-enough = search needs;
-      values-fit = search needs;
-      links-fit = search needs;
-      children-fit = search needs;
-      free-numbers-fit = search needs;
-    }
+passes S C h = search needs
 
 pub passes-unmet : (S : Stored) (C : ℕ) → Passes S C → NoneMet (checks S C)
 passes-unmet S C p = search needs

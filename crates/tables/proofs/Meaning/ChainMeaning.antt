@@ -1,10 +1,9 @@
 -- The chain of records that refusal 5 follows, and what the chain means: as many records as there are arguments or branches, each of the right
 -- kind, with the same tags.
 use Prim.Native.Nat.{ℕ, suc}
-use mathlib.Core.Path.{_≡_, refl, ap}
+use mathlib.Core.Path.{_≡_, refl, ap, sym, _∙_}
 use mathlib.Core.Bool.{true, false, and-eq-true-iff}
 use mathlib.Core.Logic.{_↔_}
-use native.Mathlib.Omega.{arith}
 use lib.ListN.{length}
 use borrow.Author.Tests.{ltb-true, lt-ltb, ne-eqb}
 use Rattle.calculus.specs.Term.{term, terms, branches, Term, Terms, Branches, count}
@@ -15,11 +14,11 @@ use Rattle.tables.specs.Meaning.{Means, plain, case-of, no-term, a-term,
 use Rattle.records.specs.Children.{chainFrom, isBranch, startsAbove, chainFits, subjectFirst}
 use Rattle.records.proofs.LinkRules.{Linked}
 use Rattle.records.proofs.Hanging.{chain-end, chain-next}
-use Rattle.tables.proofs.Meaning.Nodes.{node-kind}
+use Rattle.tables.proofs.Meaning.Nodes.{node-plain}
 use Rattle.tables.proofs.Meaning.MeaningLaws.{term-inside}
 
 pub term-not-branch : {T : Table} {i : ℕ} {t : Term} → Means T term i t → isBranch (T .at i) ≡ false
-term-not-branch {T} {i} (plain k n m) = ne-eqb (T .at i .kind) branchKind (λ e. omega (arith, node-kind n))
+term-not-branch {T} {i} (plain k n m) = ne-eqb (T .at i .kind) branchKind (λ e. node-plain n .no-branch (sym (k .2) ∙ e))
 term-not-branch (case-of k z m ms) = rw (k .2)
 
 module _ (T : Table) (L : Linked T) where

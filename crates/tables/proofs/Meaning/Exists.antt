@@ -16,7 +16,7 @@ use Rattle.tables.specs.Meaning.{Means, plain, case-of, no-term, a-term,
 use Rattle.records.specs.Children.{children, chainFrom, isBranch, startsAbove, mayStand, chainFits, numberFits, subjectFirst, sortsFit, childrenFit}
 use Rattle.records.specs.Values.{valueFits}
 use Rattle.records.proofs.LinkRules.{Ahead, ahead-from, Linked, Enough, nothing-left, next-enough, children-enough}
-use Rattle.tables.proofs.Meaning.Nodes.{one-child, some-node}
+use Rattle.tables.proofs.Meaning.Nodes.{Plain, one-child, some-node}
 use Rattle.tables.proofs.Meaning.ChainMeaning.{terms-chain}
 use Rattle.records.proofs.Hanging.{chain-end, chain-next}
 use Rattle.records.proofs.Fits.{Valued, Fitted}
@@ -93,9 +93,9 @@ module _ (T : Table) (L : Linked T) (F : Fitted T) where
         let none : T .at i .value ≡ 0 = eqb-true _ 0 (rw k at (values .value-fits i l u)) in
         (case (parts .0) (parts .1), case-of (l, u, k) none (parts .2) (parts .3))
 
-    plain-means : (i : ℕ) → LaterMean i → 1 ≤ i → i ≤ T .n → T .at i .kind < caseKind → (t : Term) × Means T term i t
+    plain-means : (i : ℕ) → LaterMean i → 1 ≤ i → i ≤ T .n → Plain (T .at i .kind) → (t : Term) × Means T term i t
     plain-means i later l u h =
-        let xs = child-terms i later l u (T .at i .kind) refl (λ e. omega arith) in
+        let xs = child-terms i later l u (T .at i .kind) refl (h .no-case) in
         let t = some-node (T .at i .kind) (T .at i .value) (xs .0) h (values .value-fits i l u) (xs .2) in
         (t .0, plain (l, u, refl) (t .1) (xs .1))
 
@@ -105,5 +105,6 @@ module _ (T : Table) (L : Linked T) (F : Fitted T) where
         let later : LaterMean i = λ j v w. record-means k j (omega arith) w (omega arith) in
         elim (ℕ-discrete (T .at i .kind) caseKind) [
           | yes e ↦ case-means i later l u e
-          | no n ↦ plain-means i later l u (omega (arith, values .known-kind i l u, eqb-false (T .at i .kind) branchKind f))
+          | no n ↦ plain-means i later l u
+              (record { no-case = n; no-branch = eqb-false (T .at i .kind) branchKind f; known = values .known-kind i l u })
         ]

@@ -13,7 +13,7 @@ use Rattle.calculus.proofs.All.{All, holds, nothing, all-map, all-bind, all-wea
 use Rattle.records.specs.Records.{Table, OfKind, isRecord}
 use Rattle.tables.specs.Meaning.{Node, Means, plain, case-of, no-term, a-term, no-branch, a-branch, onlyOne, valueless, Reading, meantTerm, meantTerms, meantBranch, meantBranches, meant, meaning}
 use Rattle.records.proofs.Tests.{if-true, if-false, all-if, isRecord-true, record-isRecord}
-use Rattle.tables.proofs.Meaning.Nodes.{made-node, node-made, node-kind}
+use Rattle.tables.proofs.Meaning.Nodes.{made-node, node-made, node-plain}
 use Rattle.records.proofs.LinkRules.{Ahead, ahead-later, Linked, linked}
 use Rattle.tables.specs.Theorems.{Means-unique, Meaning-sound, Meaning-complete}
 
@@ -96,7 +96,7 @@ module _ {T : Table} (L : Linked T) where
   meant-complete {i = i} (plain k n m) (suc b) l h =
       let enough = less T i _ b (k .1) (omega arith) (L .first-ahead i (k .0) (k .1)) in
       if-true (isRecord T i) _ _ (record-isRecord T i (k .0) (k .1))
-      ∙ if-false (eqb (T .at i .kind) caseKind) _ _ (ne-eqb (T .at i .kind) caseKind (λ e. omega (arith, node-kind n)))
+      ∙ if-false (eqb (T .at i .kind) caseKind) _ _ (ne-eqb (T .at i .kind) caseKind (λ e. node-plain n .no-case (sym (k .2) ∙ e)))
       ∙ rw (meant-complete m b (enough .0) (enough .1), k .2) (node-made n)
   meant-complete {i = i} (case-of k z m ms) (suc b) l h =
       let r = term-inside m in
@@ -139,8 +139,8 @@ means-unique T s i e g d d′ = unique d d′
   where
     unique : {s : Sort} {i : ℕ} {e g : Exp s} → Means T s i e → Means T s i g → e ≡ g
     unique (plain k n m) (plain k′ n′ m′) = node-unique n n′ (sym (k .2) ∙ k′ .2) (unique m m′)
-    unique (plain k n m) (case-of k′ z m′ ms) = absurd (omega (arith, node-kind n))
-    unique (case-of k z m ms) (plain k′ n m′) = absurd (omega (arith, node-kind n))
+    unique (plain k n m) (case-of k′ z m′ ms) = absurd (node-plain n .no-case (sym (k .2) ∙ k′ .2))
+    unique (case-of k z m ms) (plain k′ n m′) = absurd (node-plain n .no-case (sym (k′ .2) ∙ k .2))
     unique (case-of k z m ms) (case-of k′ z′ m′ ms′) = ap₂ case (unique m m′) (unique ms ms′)
     unique no-term no-term = refl
     unique no-term (a-term m ms) = absurd (omega (arith, term-inside m))

@@ -1,5 +1,5 @@
 -- The plain kinds, those of records that are no case and no branch: for each law one line a kind. Elsewhere a plain record is a `Node`.
-use Prim.Native.Nat.{ℕ, zero, suc, _+_, _≤_, _<_}
+use Prim.Native.Nat.{ℕ, zero, suc, _+_, _≤_}
 use mathlib.Core.Path.{_≡_, refl, ap}
 use mathlib.Core.Bool.{true, and-eq-true-iff}
 use mathlib.Core.List.{_∷_, append-nil}
@@ -9,7 +9,7 @@ use lib.Dec.{leb}
 use lib.ListN.{length}
 use borrow.Author.Tests.{leb-true, le-leb, eqb-true}
 use Rattle.calculus.specs.Term.{Sort, term, terms, branches, Exp, var, lam, app, con, case, nil, cons, end, branch, Term, Terms, Branches, count}
-use Rattle.calculus.specs.Words.{variableKind, abstractionKind, applicationKind, constructorKind, caseKind, word, words, size}
+use Rattle.calculus.specs.Words.{variableKind, abstractionKind, applicationKind, constructorKind, caseKind, branchKind, word, words, size}
 use Rattle.calculus.specs.Skip.{following, arity}
 use Rattle.calculus.specs.Everywhere.{Asked, Everywhere}
 use Rattle.calculus.specs.Accepted.{tagLimit, argumentLimit, indexLimit, IsTag, Scoped, Accepted}
@@ -59,11 +59,17 @@ node-made abstraction = refl
 node-made application = refl
 node-made constructor = refl
 
-pub node-kind : {k v : ℕ} {xs : Terms} {t : Term} → Node k v xs t → k < caseKind
-node-kind variable = omega arith
-node-kind abstraction = omega arith
-node-kind application = omega arith
-node-kind constructor = omega arith
+-- A known kind that is neither a case nor a branch.
+pub record Plain (k : ℕ) : Type 0 where
+  pub no-case : k ≡ caseKind → ⊥
+  pub no-branch : k ≡ branchKind → ⊥
+  pub known : k ≤ branchKind
+
+pub node-plain : {k v : ℕ} {xs : Terms} {t : Term} → Node k v xs t → Plain k
+node-plain variable = record { no-case = λ e. omega arith; no-branch = λ e. omega arith; known = omega arith }
+node-plain abstraction = record { no-case = λ e. omega arith; no-branch = λ e. omega arith; known = omega arith }
+node-plain application = record { no-case = λ e. omega arith; no-branch = λ e. omega arith; known = omega arith }
+node-plain constructor = record { no-case = λ e. omega arith; no-branch = λ e. omega arith; known = omega arith }
 
 -- A value and a number of children that fit make a node.
 pub one-child : (xs : Terms) → count xs ≡ 1 → (a : Term) × (xs ≡ cons a nil)
@@ -83,7 +89,7 @@ one e f = rw (e, f) abstraction
 two : {v : ℕ} {xs : Terms} {f a : Term} → v ≡ 0 → xs ≡ cons f (cons a nil) → Node applicationKind v xs (app f a)
 two e f = rw (e, f) application
 
-pub some-node : (k v : ℕ) (xs : Terms) → k < caseKind → valueFits k v ≡ true → numberFits k (count xs) ≡ true → (t : Term) × Node k v xs t
+pub some-node : (k v : ℕ) (xs : Terms) → Plain k → valueFits k v ≡ true → numberFits k (count xs) ≡ true → (t : Term) × Node k v xs t
 unfolding valueFits
 some-node zero v nil l f g = (var v, variable)
 some-node zero v (cons a xs) l f g = absurd (omega (arith, eqb-true (suc (count xs)) 0 g))
@@ -92,7 +98,9 @@ some-node (suc (suc zero)) v xs l f g =
     let a = two-children xs (eqb-true (count xs) 2 g) in
     (app (a .0) (a .1), two (eqb-true v 0 f) (a .2))
 some-node (suc (suc (suc zero))) v xs l f g = (con v xs, constructor)
-some-node (suc (suc (suc (suc k)))) v xs l f g = absurd (omega arith)
+some-node (suc (suc (suc (suc zero)))) v xs l f g = absurd (l .no-case refl)
+some-node (suc (suc (suc (suc (suc zero))))) v xs l f g = absurd (l .no-branch refl)
+some-node (suc (suc (suc (suc (suc (suc k)))))) v xs l f g = absurd (omega (arith, l .known))
 
 -- Its words and its records.
 pub node-words : {k v : ℕ} {xs : Terms} {t : Term} → Node k v xs t → words t ≡ word k (payload k v (count xs)) ∷ words xs

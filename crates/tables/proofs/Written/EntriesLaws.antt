@@ -16,7 +16,7 @@ use Rattle.records.specs.Records.{Record, entry}
 use Rattle.tables.specs.Reading.{payload}
 use Rattle.tables.specs.Write.{linkTo, records}
 use Rattle.tables.specs.Writing.{valueOf, linkIf, push, entries}
-use Rattle.tables.proofs.Meaning.Nodes.{node-kind, node-words, node-size, node-arity, node-value, node-records, node-below, Built, plain, of-case, empty, listed, ended, branched, built}
+use Rattle.tables.proofs.Meaning.Nodes.{node-plain, node-words, node-size, node-arity, node-value, node-records, node-below, Built, plain, of-case, empty, listed, ended, branched, built}
 
 -- The record of a word in front, by its kind, payload, number of children and extent.
 first-entry : (k p a s i m : ℕ) (ks ws : List ℕ) → k < kindBase → arity (word k p) ≡ a → span 1 (word k p ∷ ws) ≡ s
@@ -52,7 +52,7 @@ unfolding valueOf
 entries-of (plain {k} {v} {xs} {t} n b) i j m ks rest h e =
     let p = payload k v (count xs) in
     rw (node-words n, node-records n)
-    (first-entry k p (count xs) (suc (size xs)) i m ks (words xs ++ rest) (omega (arith, node-kind n)) (node-arity n h) (rw (node-words n) at (term-span t rest h))
+    (first-entry k p (count xs) (suc (size xs)) i m ks (words xs ++ rest) (omega (arith, node-plain n .known)) (node-arity n h) (rw (node-words n) at (term-span t rest h))
     ∙ same-entry k (node-value n h) refl (ap (linkIf m) (omega (arith, e, node-size n)))
     (entries-of b (suc i) j 0 (push m ks) rest (node-below counted n tt h .1) (omega (arith, e, node-size n))))
 entries-of (of-case {e = t} {bs = bs} b c) i j m ks rest h e =

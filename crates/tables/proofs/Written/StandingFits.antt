@@ -17,7 +17,7 @@ use Rattle.records.specs.Values.{valueFits}
 use Rattle.records.specs.Children.{children, numberFits, childrenFit}
 use Rattle.tables.specs.Write.{linkTo, records}
 use Rattle.records.proofs.LinkRules.{Linked}
-use Rattle.tables.proofs.Meaning.Nodes.{tag-passes, node-kind, node-size, node-below, node-fits, Built, plain, of-case, empty, listed, ended, branched}
+use Rattle.tables.proofs.Meaning.Nodes.{tag-passes, node-plain, node-size, node-below, node-fits, Built, plain, of-case, empty, listed, ended, branched}
 use Rattle.tables.proofs.Meaning.ChainMeaning.{terms-chain, case-chain}
 use Rattle.tables.proofs.Written.Standing.{Stand, stand-node, stand-both, stand-next, then, stand-means}
 
@@ -50,9 +50,9 @@ module _ (T : Table) (L : Linked T) where
       let tests = node-fits n d a w in
       let below = stand-means T b (suc i) 0 (omega arith) (omega (arith, node-size n)) (node-below counted n tt (accepted-packable d t a) .1) (own .1) in
       record {
-        known-kind = rw (own .0) (omega (arith, node-kind n));
+        known-kind = rw (own .0) (node-plain n .known);
         value-fits = rw (own .0) (tests .0);
-        children-fit = node-children {xs = xs} (l, omega (arith, node-size n), ap (λ r. r .kind) (own .0)) (rw (own .0) below) (λ e. omega (arith, node-kind n)) (tests .1);
+        children-fit = node-children {xs = xs} (l, omega (arith, node-size n), ap (λ r. r .kind) (own .0)) (rw (own .0) below) (node-plain n .no-case) (tests .1);
       }
 
   case-fits : {e : Term} {bs : Branches} → Built term e → Built branches bs → (i x d : ℕ) → 1 ≤ i → i + size (case e bs) ≤ suc (T .n) → Accepted d (case e bs)

@@ -15,9 +15,6 @@ use Rattle.words.proofs.PlacedLaws.{placed-length}
 use Rattle.tables.proofs.load.Statement.{statement}
 use Rattle.tables.proofs.load.Tie as tie
 
-enum-told : tie.Need-enum-told
-enum-told c = search needs
-
 -- No refusal is met.
 unmet : (c : tie.After-enum-told)
     → firstMet (checks (inForm1 (c .before .before .before .before .before .args .table .now)) (length (c .before .before .before .before .before .args .workspace .now)))
@@ -72,7 +69,7 @@ load-spec =
     (tie.spec
     (λ c κs. search needs)
     (λ c. search needs)
-    enum-told
+    (λ c. search needs)
     root-requires
     read-term-requires
     clear-requires
