@@ -4,7 +4,7 @@ use std::env;
 use std::ffi::OsString;
 use std::fs;
 use std::io::Write;
-use std::os::unix::fs::PermissionsExt;
+use std::os::unix::fs::{symlink, PermissionsExt};
 use std::path::{Path, PathBuf};
 use std::process::{Command, Output, Stdio};
 use std::sync::OnceLock;
@@ -27,6 +27,9 @@ const SIDES: &str = "#!/bin/sh\nset -- $(od -An -v -tu4)\nnumber=$1\n\
     [ $3 = 16 ] && echo Refused $number && exit\nshift $((3 + $3))\n\
     [ $1 = 16 ] && echo Refused $number && exit\necho Same 0 1 1\n";
 
+/// Stands in for cargo: prints its arguments, a line each.
+const CARGO: &str = "#!/bin/sh\nprintf '%s\\n' \"$@\"\n";
+
 /// A folder laid out like the repository, with ECHO for the built program and the others beside it.
 /// All are written before the first is run: a file open for writing cannot be executed.
 fn repository() -> &'static Path {
@@ -36,9 +39,10 @@ fn repository() -> &'static Path {
         let bin = root.join("target/bin");
         fs::create_dir_all(&bin).expect("a folder for the programs");
         fs::create_dir_all(root.join("docs/deeper")).expect("a folder below the root");
-        fs::create_dir_all(root.join("commands")).expect("a folder for rt");
+        fs::create_dir_all(root.join("commands")).expect("a folder for rt and cargo");
         for (name, script) in [
             ("../../commands/rt", RT),
+            ("../../commands/cargo", CARGO),
             ("verdict", ECHO),
             ("deaf", DEAF),
             ("silent", SILENT),
@@ -307,16 +311,18 @@ impl Repository {
         Repository { root }
     }
 
+    /// A path of commands with RT and CARGO.
+    fn path() -> OsString {
+        let commands = repository().join("commands").into_os_string();
+        [commands, path_without_rt()].join(":".as_ref())
+    }
+
     fn judge(&self) -> (i32, String, String) {
-        let path = [
-            repository().join("commands").into_os_string(),
-            path_without_rt(),
-        ];
         let input = fs::File::open(self.root.join("source"));
         let output = Command::new(env!("CARGO_BIN_EXE_judge"))
             .args(["0", "0"])
             .current_dir(&self.root)
-            .env("PATH", path.join(":".as_ref()))
+            .env("PATH", Repository::path())
             .stdin(input.expect("an input for nobody"))
             .output()
             .expect("judge runs");
@@ -345,6 +351,39 @@ fn the_program_is_built_once_and_its_progress_told() {
     let said = fs::read_to_string(log).expect("the log");
     assert!(said.contains("what the prover has to say\n"), "{said}");
     assert_eq!(repository.judge(), printed("Same 0 1 1"));
+}
+
+#[test]
+fn the_script_compiles_the_tools_and_hands_on_its_arguments() {
+    let repository = Repository::new("script", "");
+    let root = repository.root.to_str().expect("text");
+    let script = repository.root.join("judge");
+    fs::copy("../../judge", &script).expect("the script");
+    let link = repository.root.join("elsewhere/judge");
+    fs::create_dir_all(link.parent().expect("a folder")).expect("a folder");
+    symlink(&script, &link).expect("a link");
+    let run = |script: &Path| {
+        let output = Command::new("bash")
+            .arg(script)
+            .args([r"(\\1) 0  1", "", "--words=16"])
+            .current_dir("/")
+            .env("PATH", Repository::path())
+            .env_remove("CARGO_TARGET_DIR")
+            .output();
+        answer(output.expect("bash runs"))
+    };
+    let arguments = format!(
+        "run\n--quiet\n--release\n--manifest-path\n{root}/tools/Cargo.toml\n--package\njudge\n--\n\
+         --repository\n{root}\n(\\\\1) 0  1\n\n--words=16\n"
+    );
+    let announced = "judge: compiling the tools first\n".to_string();
+    assert_eq!(run(&link), (0, arguments.clone(), announced));
+    let tools = repository.root.join("tools/target/release");
+    fs::create_dir_all(&tools).expect("a folder");
+    fs::write(tools.join("judge"), "").expect("a file");
+    let mode = fs::Permissions::from_mode(0o755);
+    fs::set_permissions(tools.join("judge"), mode).expect("executable");
+    assert_eq!(run(&script), (0, arguments, String::new()));
 }
 
 #[test]
