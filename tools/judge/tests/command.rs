@@ -1,9 +1,10 @@
 //! The command, run on programs that stand in for `verdict`.
 
 use std::env;
-use std::ffi::OsString;
+use std::ffi::{OsStr, OsString};
 use std::fs;
 use std::io::Write;
+use std::os::unix::ffi::OsStrExt;
 use std::os::unix::fs::{symlink, PermissionsExt};
 use std::path::{Path, PathBuf};
 use std::process::{Command, Output, Stdio};
@@ -254,6 +255,30 @@ fn without_a_repository_or_a_program_there_is_nothing_to_run() {
     assert_eq!((status, output.as_str()), (3, ""));
     assert!(
         message.contains("there is no target/bin/verdict"),
+        "{message}"
+    );
+}
+
+#[test]
+fn a_program_that_nothing_has_checked_is_said_to_be() {
+    let (status, _, message) = judge_on(repository(), "", &["0", "0"]);
+    assert_eq!((status, message.as_str()), (0, UNCHECKED));
+}
+
+#[test]
+fn an_rt_that_cannot_be_started_is_said() {
+    let folder = Path::new(env!("CARGO_TARGET_TMPDIR")).join("no-command");
+    fs::create_dir_all(&folder).expect("a folder");
+    fs::write(folder.join("rt"), "").expect("a file");
+    let output = Command::new(env!("CARGO_BIN_EXE_judge"))
+        .args(["0", "0"])
+        .current_dir(repository())
+        .env("PATH", folder)
+        .output();
+    let (status, output, message) = answer(output.expect("judge runs"));
+    assert_eq!((status, output.as_str()), (3, ""));
+    assert!(
+        message.starts_with("judge: `rt check verdict` cannot be followed: Permission denied"),
         "{message}"
     );
 }
@@ -539,6 +564,31 @@ fn text_errors_name_the_term_and_the_place() {
     );
     assert!(refused(2, &["--table", "0 )"]).starts_with("judge: term, column 3: "));
     assert!(refused(2, &["--show-words", ""]).starts_with("judge: term, column 1: "));
+}
+
+#[test]
+fn what_is_not_text_is_said() {
+    let run = |argument: &OsStr, input: &[u8]| {
+        let path = repository().join("not-text");
+        fs::write(&path, input).expect("an input");
+        let output = Command::new(env!("CARGO_BIN_EXE_judge"))
+            .args([OsStr::new("--table"), argument])
+            .stdin(fs::File::open(path).expect("an input"))
+            .output();
+        answer(output.expect("judge runs"))
+    };
+    let (status, output, message) = run(OsStr::from_bytes(b"0\xff"), b"");
+    assert_eq!((status, output.as_str()), (2, ""));
+    assert!(
+        message.starts_with("judge: an argument is not UTF-8\n"),
+        "{message}"
+    );
+    let (status, output, message) = run(OsStr::new("-"), b"0\xff");
+    assert_eq!((status, output.as_str()), (2, ""));
+    assert!(
+        message.starts_with("judge: standard input cannot be read: "),
+        "{message}"
+    );
 }
 
 #[test]
