@@ -156,6 +156,30 @@ fn refused_tables() {
 }
 
 #[test]
+fn refusals_come_in_their_order() {
+    let seventeen = |form: u32, record: [u32; 4]| {
+        let header = [form, 17, 1, 0];
+        [&header[..], &record.repeat(17)].concat()
+    };
+    // Each table also has a fault of the next number: 1, 2, 8, 3, 4, 5, 6.
+    for (number, table) in [
+        (1, vec![2, 2, 1, 0, 0, 0, 0, 0]),
+        (2, seventeen(2, [0, 0, 0, 0])),
+        (8, seventeen(1, [6, 0, 0, 0])),
+        (3, vec![1, 1, 1, 0, 6, 0, 1, 0]),
+        (4, vec![1, 2, 1, 0, 1, 0, 0, 0, 0, 0, 0, 0]),
+        (5, vec![1, 2, 1, 0, 0, 256, 0, 2, 0, 0, 0, 0]),
+    ] {
+        let line = line_of_table(&table);
+        assert_eq!(line, format!("Refused {number}"), "{table:?}");
+    }
+    // Before all of them 7, after all of them 9.
+    let both = |budget, c| printed(&bytes(&[budget, c, 0, 0]));
+    assert_eq!(both(0, 15), "Refused 7");
+    assert_eq!(both(1_000_001, 16), "Refused 1");
+}
+
+#[test]
 fn refused_pairs() {
     let equal_tags = "?0{1.0:0,1.1:0}";
     let many = |text: &str| format!("#1[{}{text}]", format!("{text},").repeat(15));

@@ -1,10 +1,11 @@
 //! The command, run on programs that stand in for `verdict`.
 
 use std::env;
-use std::ffi::OsString;
+use std::ffi::{OsStr, OsString};
 use std::fs;
 use std::io::Write;
-use std::os::unix::fs::PermissionsExt;
+use std::os::unix::ffi::OsStrExt;
+use std::os::unix::fs::{symlink, PermissionsExt};
 use std::path::{Path, PathBuf};
 use std::process::{Command, Output, Stdio};
 use std::sync::OnceLock;
@@ -27,6 +28,9 @@ const SIDES: &str = "#!/bin/sh\nset -- $(od -An -v -tu4)\nnumber=$1\n\
     [ $3 = 16 ] && echo Refused $number && exit\nshift $((3 + $3))\n\
     [ $1 = 16 ] && echo Refused $number && exit\necho Same 0 1 1\n";
 
+/// Stands in for cargo: prints its arguments, a line each.
+const CARGO: &str = "#!/bin/sh\nprintf '%s\\n' \"$@\"\n";
+
 /// A folder laid out like the repository, with ECHO for the built program and the others beside it.
 /// All are written before the first is run: a file open for writing cannot be executed.
 fn repository() -> &'static Path {
@@ -36,9 +40,10 @@ fn repository() -> &'static Path {
         let bin = root.join("target/bin");
         fs::create_dir_all(&bin).expect("a folder for the programs");
         fs::create_dir_all(root.join("docs/deeper")).expect("a folder below the root");
-        fs::create_dir_all(root.join("commands")).expect("a folder for rt");
+        fs::create_dir_all(root.join("commands")).expect("a folder for rt and cargo");
         for (name, script) in [
             ("../../commands/rt", RT),
+            ("../../commands/cargo", CARGO),
             ("verdict", ECHO),
             ("deaf", DEAF),
             ("silent", SILENT),
@@ -255,6 +260,30 @@ fn without_a_repository_or_a_program_there_is_nothing_to_run() {
 }
 
 #[test]
+fn a_program_that_nothing_has_checked_is_said_to_be() {
+    let (status, _, message) = judge_on(repository(), "", &["0", "0"]);
+    assert_eq!((status, message.as_str()), (0, UNCHECKED));
+}
+
+#[test]
+fn an_rt_that_cannot_be_started_is_said() {
+    let folder = Path::new(env!("CARGO_TARGET_TMPDIR")).join("no-command");
+    fs::create_dir_all(&folder).expect("a folder");
+    fs::write(folder.join("rt"), "").expect("a file");
+    let output = Command::new(env!("CARGO_BIN_EXE_judge"))
+        .args(["0", "0"])
+        .current_dir(repository())
+        .env("PATH", folder)
+        .output();
+    let (status, output, message) = answer(output.expect("judge runs"));
+    assert_eq!((status, output.as_str()), (3, ""));
+    assert!(
+        message.starts_with("judge: `rt check verdict` cannot be followed: Permission denied"),
+        "{message}"
+    );
+}
+
+#[test]
 fn a_folder_that_is_no_repository_is_left_alone() {
     let other = Path::new(env!("CARGO_TARGET_TMPDIR")).join("other");
     fs::create_dir_all(&other).expect("a folder");
@@ -307,16 +336,18 @@ impl Repository {
         Repository { root }
     }
 
+    /// A path of commands with RT and CARGO.
+    fn path() -> OsString {
+        let commands = repository().join("commands").into_os_string();
+        [commands, path_without_rt()].join(":".as_ref())
+    }
+
     fn judge(&self) -> (i32, String, String) {
-        let path = [
-            repository().join("commands").into_os_string(),
-            path_without_rt(),
-        ];
         let input = fs::File::open(self.root.join("source"));
         let output = Command::new(env!("CARGO_BIN_EXE_judge"))
             .args(["0", "0"])
             .current_dir(&self.root)
-            .env("PATH", path.join(":".as_ref()))
+            .env("PATH", Repository::path())
             .stdin(input.expect("an input for nobody"))
             .output()
             .expect("judge runs");
@@ -345,6 +376,39 @@ fn the_program_is_built_once_and_its_progress_told() {
     let said = fs::read_to_string(log).expect("the log");
     assert!(said.contains("what the prover has to say\n"), "{said}");
     assert_eq!(repository.judge(), printed("Same 0 1 1"));
+}
+
+#[test]
+fn the_script_compiles_the_tools_and_hands_on_its_arguments() {
+    let repository = Repository::new("script", "");
+    let root = repository.root.to_str().expect("text");
+    let script = repository.root.join("judge");
+    fs::copy("../../judge", &script).expect("the script");
+    let link = repository.root.join("elsewhere/judge");
+    fs::create_dir_all(link.parent().expect("a folder")).expect("a folder");
+    symlink(&script, &link).expect("a link");
+    let run = |script: &Path| {
+        let output = Command::new("bash")
+            .arg(script)
+            .args([r"(\\1) 0  1", "", "--words=16"])
+            .current_dir("/")
+            .env("PATH", Repository::path())
+            .env_remove("CARGO_TARGET_DIR")
+            .output();
+        answer(output.expect("bash runs"))
+    };
+    let arguments = format!(
+        "run\n--quiet\n--release\n--manifest-path\n{root}/tools/Cargo.toml\n--package\njudge\n--\n\
+         --repository\n{root}\n(\\\\1) 0  1\n\n--words=16\n"
+    );
+    let announced = "judge: compiling the tools first\n".to_string();
+    assert_eq!(run(&link), (0, arguments.clone(), announced));
+    let tools = repository.root.join("tools/target/release");
+    fs::create_dir_all(&tools).expect("a folder");
+    fs::write(tools.join("judge"), "").expect("a file");
+    let mode = fs::Permissions::from_mode(0o755);
+    fs::set_permissions(tools.join("judge"), mode).expect("executable");
+    assert_eq!(run(&script), (0, arguments, String::new()));
 }
 
 #[test]
@@ -500,6 +564,31 @@ fn text_errors_name_the_term_and_the_place() {
     );
     assert!(refused(2, &["--table", "0 )"]).starts_with("judge: term, column 3: "));
     assert!(refused(2, &["--show-words", ""]).starts_with("judge: term, column 1: "));
+}
+
+#[test]
+fn what_is_not_text_is_said() {
+    let run = |argument: &OsStr, input: &[u8]| {
+        let path = repository().join("not-text");
+        fs::write(&path, input).expect("an input");
+        let output = Command::new(env!("CARGO_BIN_EXE_judge"))
+            .args([OsStr::new("--table"), argument])
+            .stdin(fs::File::open(path).expect("an input"))
+            .output();
+        answer(output.expect("judge runs"))
+    };
+    let (status, output, message) = run(OsStr::from_bytes(b"0\xff"), b"");
+    assert_eq!((status, output.as_str()), (2, ""));
+    assert!(
+        message.starts_with("judge: an argument is not UTF-8\n"),
+        "{message}"
+    );
+    let (status, output, message) = run(OsStr::new("-"), b"0\xff");
+    assert_eq!((status, output.as_str()), (2, ""));
+    assert!(
+        message.starts_with("judge: standard input cannot be read: "),
+        "{message}"
+    );
 }
 
 #[test]

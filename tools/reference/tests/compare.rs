@@ -63,7 +63,8 @@ fn the_first_difference_is_kept() {
     let (message, kept) = difference("swapped", [REPLAY, REPLAY]);
     let first = on_large_stack(|| inputs::input(2, 0));
     assert_eq!(kept, first);
-    assert!(message.contains("case 0 of seed 2"), "{message}");
+    assert!(message.contains("case 0 of seed 2, program "), "{message}");
+    assert!(message.contains(", line 1\n"), "{message}");
     assert!(message.contains("\nexpected: Same "), "{message}");
     assert!(message.contains("\ngot:      "), "{message}");
 }
@@ -122,5 +123,7 @@ fn kinds_that_are_not_seen_are_named() {
     };
     let (few, least) = none.too_few(6_000, verdict);
     assert_eq!((few.len(), least), (14, 200));
+    assert_eq!(none.too_few(3_000, verdict).1, 100);
+    assert_eq!(none.too_few(2_999, verdict).1, 49);
     assert!(few.contains(&"verdict: Refused 9"));
 }

@@ -92,6 +92,20 @@ fn stuck_terms() {
 }
 
 #[test]
+fn where_a_tag_is_repeated_its_first_branch_decides() {
+    // No term in a workspace repeats one. The first branch of tag 1 binds one
+    // variable and the constructor has no argument, so the case is stuck.
+    let branches = vec![branch(1, 1, var(0)), branch(1, 0, var(5))];
+    assert_eq!(
+        contractum(&case(con(1, Vec::new()), branches.clone())),
+        None
+    );
+    // With one argument it is the first that contracts.
+    let redex = case(con(1, vec![var(7)]), branches);
+    assert_eq!(contractum(&redex), Some(var(7)));
+}
+
+#[test]
 fn outermost_before_the_parts() {
     // (\ f0) ((\ 0) f1): the outer redex throws the inner one away.
     assert_eq!(next(&[2, 1, 8, 2, 1, 0, 8]), Some(vec![0]));

@@ -1,12 +1,11 @@
-//! Programs that hang, crash or answer almost right. One test alone, since a
-//! file that is being written cannot be started.
+//! Programs that hang, crash or fail. One test alone, since a file that is
+//! being written cannot be started.
 #![cfg(unix)]
 
 use reference::child::{run, Ending, Feed};
 use std::fs;
 use std::os::unix::fs::PermissionsExt;
 use std::path::{Path, PathBuf};
-use std::process::Command;
 use std::time::{Duration, Instant};
 
 /// A shell program with the given lines.
@@ -55,46 +54,4 @@ fn programs_are_stopped_and_crashes_are_seen() {
     assert_eq!(ending(&copies, b"abcdefghijklmno", Feed::Pipe(99)), long);
     let fails = program("fails", "echo line\nexit 3");
     assert_eq!(ending(&fails, &[], Feed::Pipe(1)), Ending::Failed(3));
-    almost_right_answers_are_differences();
-}
-
-/// The comparing program on the reference, with its answers changed a little.
-fn almost_right_answers_are_differences() {
-    let verdict = env!("CARGO_BIN_EXE_reference-verdict");
-    let replay = env!("CARGO_BIN_EXE_reference-replay");
-    for (name, change, shown) in [
-        ("unchanged", "cat", None),
-        ("last-line-missing", "sed '$d'", Some("(end of output)")),
-        ("last-byte-missing", "head -c -1", Some("")),
-        ("one-byte-more", "cat; echo", Some("")),
-        ("last-line-longer", "sed '$s/$/ 0/'", Some(" 0")),
-        ("exit-status-1", "cat; exit 1", Some("(exit status 1)")),
-    ] {
-        for (half, of) in [("verdict", verdict), ("replay", replay)] {
-            let changed = program(
-                &format!("{name}-{half}"),
-                &format!("'{of}' | {{ {change}; }}"),
-            );
-            let changed = changed.to_str().expect("the path is text");
-            let programs = match half {
-                "verdict" => [changed, "-"],
-                _ => ["-", changed],
-            };
-            let output = Command::new(env!("CARGO_BIN_EXE_compare"))
-                .args(programs)
-                .args(["20", "2", "--keep", env!("CARGO_TARGET_TMPDIR")])
-                .output()
-                .expect("compare can be started");
-            let message = String::from_utf8_lossy(&output.stderr);
-            match shown {
-                None => assert_eq!(message, ""),
-                Some(got) => assert!(
-                    message.contains(&format!("{got}\ninput kept in ")),
-                    "{message}"
-                ),
-            }
-            let status = i32::from(shown.is_some());
-            assert_eq!(output.status.code(), Some(status), "{name} {half}");
-        }
-    }
 }
