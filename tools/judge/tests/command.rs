@@ -330,7 +330,7 @@ impl Repository {
     fn new(name: &str, source: &str) -> Repository {
         let root = Path::new(env!("CARGO_TARGET_TMPDIR")).join(name);
         let _ = fs::remove_dir_all(&root);
-        fs::create_dir_all(&root).expect("a folder for the repository");
+        fs::create_dir_all(root.join("below")).expect("a folder in the repository");
         fs::write(root.join("crates.txt"), "").expect("a list of crates");
         fs::write(root.join("source"), source).expect("a source");
         Repository { root }
@@ -342,13 +342,14 @@ impl Repository {
         [commands, path_without_rt()].join(":".as_ref())
     }
 
+    /// As `judge_on`, in a folder below the root, with an input that is for nobody.
     fn judge(&self) -> (i32, String, String) {
         let input = fs::File::open(self.root.join("source"));
         let output = Command::new(env!("CARGO_BIN_EXE_judge"))
             .args(["0", "0"])
-            .current_dir(&self.root)
+            .current_dir(self.root.join("below"))
             .env("PATH", Repository::path())
-            .stdin(input.expect("an input for nobody"))
+            .stdin(input.expect("an input"))
             .output()
             .expect("judge runs");
         answer(output)
