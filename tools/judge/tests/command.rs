@@ -309,6 +309,7 @@ if cmp -s source target/stamp/verdict; then
 fi
 echo 'what the prover has to say' >&2
 echo 'rt: words proved (unchanged since it was last proved)'
+echo 'rt: press proved (2 s)'
 if grep -q wrong source; then
     echo 'rt: verdict NOT PROVED (exit 1, 3 s)'
     exit 1
@@ -370,6 +371,7 @@ fn the_program_is_built_once_and_its_progress_told() {
         message,
         format!(
             "judge: proving and building the program first, which can take minutes (log: {})\n\
+             judge: press proved (2 s)\n\
              judge: verdict proved (3 s)\n",
             log.display()
         )
@@ -456,9 +458,11 @@ fn a_build_that_leaves_no_program_is_said() {
     let repository = Repository::new("nothing", "nothing");
     let (status, output, message) = repository.judge();
     assert_eq!((status, output.as_str()), (3, ""));
-    assert!(message.starts_with(
-        "judge: `rt check verdict` did not build target/bin/verdict from these sources: exit status: 0\n"
-    ), "{message}");
+    let said = "judge: `rt check verdict` did not build target/bin/verdict from these sources: ";
+    assert!(
+        message.contains(&format!("{said}exit status: 0\n")),
+        "{message}"
+    );
 }
 
 #[test]
@@ -602,6 +606,10 @@ fn bad_usage_is_status_2() {
         (&["--words", "4294967296"], "--words needs a number"),
         (&["--program"], "--program needs a value"),
         (&["--budget=", "0", "0"], "--budget needs a number"),
+        (
+            &["--budget=5=6", "0", "0"],
+            "--budget needs a number from 0 to 4294967295, found `5=6`",
+        ),
         (&["--fast", "0", "0"], "--fast is no option"),
         (&["--exit-code=1", "0", "0"], "--exit-code takes no value"),
         (&["--table=0"], "--table takes no value"),
