@@ -18,12 +18,14 @@ pub fn rounded(value: f64) -> String {
     if value < 1.0 {
         return format!("{value:.2}");
     }
-    let digits = value.log10().floor() as i32 + 1;
-    if digits < 3 {
-        return format!("{value:.*}", (3 - digits) as usize);
+    // Before the point; rounding can make one more.
+    let digits = |value: f64| value.log10().floor() as i32 + 1;
+    let unit = 10_f64.powi(digits(value) - 3);
+    let value = (value / unit).round() * unit;
+    match 3 - digits(value) {
+        decimals @ 1.. => format!("{value:.*}", decimals as usize),
+        _ => grouped(value.round() as usize),
     }
-    let unit = 10_f64.powi(digits - 3);
-    grouped(((value / unit).round() * unit) as usize)
 }
 
 #[cfg(test)]
@@ -34,7 +36,10 @@ mod tests {
     fn numbers_have_three_significant_digits() {
         assert_eq!(rounded(0.126), "0.13");
         assert_eq!(rounded(1.0), "1.00");
+        assert_eq!(rounded(9.994), "9.99");
+        assert_eq!(rounded(9.996), "10.0");
         assert_eq!(rounded(12.34), "12.3");
+        assert_eq!(rounded(99.96), "100");
         assert_eq!(rounded(123.4), "123");
         assert_eq!(rounded(999.6), "1,000");
         assert_eq!(rounded(12_345.0), "12,300");

@@ -49,6 +49,9 @@ mod tests {
         let (a, b) = ("a".repeat(60), "b".repeat(60));
         let caret = " ".repeat(62);
         assert_eq!(marked(&text, 101), format!("    ..{a}x{b}..\n    {caret}^"));
+        // One character too many on either side is enough.
+        let text = format!("a{a}x{b}b");
+        assert_eq!(marked(&text, 62), format!("    ..{a}x{b}..\n    {caret}^"));
         let short = format!("{a}x{b}");
         assert_eq!(
             marked(&short, 61),

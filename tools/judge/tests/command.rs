@@ -309,6 +309,7 @@ if cmp -s source target/stamp/verdict; then
 fi
 echo 'what the prover has to say' >&2
 echo 'rt: words proved (unchanged since it was last proved)'
+echo 'rt: press proved (2 s)'
 if grep -q wrong source; then
     echo 'rt: verdict NOT PROVED (exit 1, 3 s)'
     exit 1
@@ -330,7 +331,7 @@ impl Repository {
     fn new(name: &str, source: &str) -> Repository {
         let root = Path::new(env!("CARGO_TARGET_TMPDIR")).join(name);
         let _ = fs::remove_dir_all(&root);
-        fs::create_dir_all(&root).expect("a folder for the repository");
+        fs::create_dir_all(root.join("below")).expect("a folder in the repository");
         fs::write(root.join("crates.txt"), "").expect("a list of crates");
         fs::write(root.join("source"), source).expect("a source");
         Repository { root }
@@ -342,13 +343,14 @@ impl Repository {
         [commands, path_without_rt()].join(":".as_ref())
     }
 
+    /// As `judge_on`, in a folder below the root, with an input that is for nobody.
     fn judge(&self) -> (i32, String, String) {
         let input = fs::File::open(self.root.join("source"));
         let output = Command::new(env!("CARGO_BIN_EXE_judge"))
             .args(["0", "0"])
-            .current_dir(&self.root)
+            .current_dir(self.root.join("below"))
             .env("PATH", Repository::path())
-            .stdin(input.expect("an input for nobody"))
+            .stdin(input.expect("an input"))
             .output()
             .expect("judge runs");
         answer(output)
@@ -369,6 +371,7 @@ fn the_program_is_built_once_and_its_progress_told() {
         message,
         format!(
             "judge: proving and building the program first, which can take minutes (log: {})\n\
+             judge: press proved (2 s)\n\
              judge: verdict proved (3 s)\n",
             log.display()
         )
@@ -455,9 +458,11 @@ fn a_build_that_leaves_no_program_is_said() {
     let repository = Repository::new("nothing", "nothing");
     let (status, output, message) = repository.judge();
     assert_eq!((status, output.as_str()), (3, ""));
-    assert!(message.starts_with(
-        "judge: `rt check verdict` did not build target/bin/verdict from these sources: exit status: 0\n"
-    ), "{message}");
+    let said = "judge: `rt check verdict` did not build target/bin/verdict from these sources: ";
+    assert!(
+        message.contains(&format!("{said}exit status: 0\n")),
+        "{message}"
+    );
 }
 
 #[test]
@@ -601,6 +606,10 @@ fn bad_usage_is_status_2() {
         (&["--words", "4294967296"], "--words needs a number"),
         (&["--program"], "--program needs a value"),
         (&["--budget=", "0", "0"], "--budget needs a number"),
+        (
+            &["--budget=5=6", "0", "0"],
+            "--budget needs a number from 0 to 4294967295, found `5=6`",
+        ),
         (&["--fast", "0", "0"], "--fast is no option"),
         (&["--exit-code=1", "0", "0"], "--exit-code takes no value"),
         (&["--table=0"], "--table takes no value"),

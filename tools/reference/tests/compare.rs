@@ -1,15 +1,21 @@
 //! The comparing program, run on the reference itself and on programs that
 //! answer otherwise.
 
-use reference::generate::inputs;
-use reference::on_large_stack;
+use reference::generate::{inputs, scripts};
 use reference::tally::{Halves, Tally};
+use reference::verdict::outcome;
+use reference::{on_large_stack, replay};
 use std::fs;
 use std::path::PathBuf;
 use std::process::{Command, Output};
 
 const VERDICT: &str = env!("CARGO_BIN_EXE_reference-verdict");
 const REPLAY: &str = env!("CARGO_BIN_EXE_reference-replay");
+
+const BOTH: Halves = Halves {
+    verdict: true,
+    replay: true,
+};
 
 fn compare(arguments: &[&str]) -> Output {
     Command::new(env!("CARGO_BIN_EXE_compare"))
@@ -106,20 +112,46 @@ fn wrong_arguments() {
     }
 }
 
+/// The kinds that sixty cases of a seed have to see once and do not.
+fn missing(seed: u64) -> Vec<&'static str> {
+    let mut tally = Tally::default();
+    for case in 0..40 {
+        tally.verdict(&outcome(&inputs::input(seed, case)));
+    }
+    for case in 0..20 {
+        let transcript = replay::run(&scripts::script(seed, case));
+        transcript
+            .events
+            .iter()
+            .for_each(|event| tally.event(event));
+    }
+    tally.too_few(60, BOTH).0
+}
+
+#[test]
+fn a_run_that_sees_too_little_fails() {
+    let missing = |seed| Some((seed, missing(seed))).filter(|(_, few)| !few.is_empty());
+    let found = on_large_stack(|| (1..100).find_map(missing));
+    let (seed, few) = found.expect("sixty cases are few for some seed");
+    let output = compare(&[VERDICT, REPLAY, "60", &seed.to_string()]);
+    assert_eq!(output.status.code(), Some(1));
+    let few: Vec<String> = few.iter().map(|kind| format!("{kind} (0)")).collect();
+    assert_eq!(
+        String::from_utf8_lossy(&output.stderr),
+        format!("compare: seen fewer than 1 times: {}\n", few.join(", "))
+    );
+}
+
 #[test]
 fn kinds_that_are_not_seen_are_named() {
     let none = Tally::default();
-    let both = Halves {
-        verdict: true,
-        replay: true,
-    };
     // Four verdicts, refusals 1 to 9 and Input; in scripts nine answers of
     // load, seven of press, three of show, four of write and four others.
-    assert_eq!(none.too_few(60, both).0.len(), 14 + 27);
-    assert_eq!(none.too_few(59, both).0.len(), 0);
+    assert_eq!(none.too_few(60, BOTH).0.len(), 14 + 27);
+    assert_eq!(none.too_few(59, BOTH).0.len(), 0);
     let verdict = Halves {
         replay: false,
-        ..both
+        ..BOTH
     };
     let (few, least) = none.too_few(6_000, verdict);
     assert_eq!((few.len(), least), (14, 200));
