@@ -9,7 +9,7 @@ use Rattle.vectors.specs.Text.{nowhere, after, numberAt, settingAt}
 use Rattle.vectors.specs.Keywords.{leftWord, pressWord}
 use Rattle.vectors.specs.Lists.{listAt}
 use Rattle.vectors.specs.Stored.{chain}
-use Rattle.vectors.specs.Vector.{nothing, failed, shareOf}
+use Rattle.vectors.specs.Vector.{nothing, counted, shareOf}
 
 -- ` press 5`
 abbrev pub pressed : List ℕ
@@ -50,4 +50,4 @@ pub record Read-examples : Type 0 where
   -- \x.f5 as a table
   pub chain-of-two : chain 2 6 12 ≡ 1 ∷ 2 ∷ 1 ∷ 0 ∷ 1 ∷ 0 ∷ 2 ∷ 0 ∷ 0 ∷ 6 ∷ 0 ∷ 0 ∷ []
   pub comment : shareOf (35 ∷ 120 ∷ []) true ≡ nothing
-  pub cut-off : shareOf pressed false ≡ failed
+  pub cut-off : shareOf pressed false ≡ counted false

@@ -1,6 +1,6 @@
 -- The vectors of a text, one to a line, and how many of them pass.
 use Prim.Native.Nat.{ℕ, zero, suc, _+_, _-_}
-use mathlib.Core.Bool.{Bool, cond}
+use mathlib.Core.Bool.{Bool, cond, _&&_}
 use mathlib.Core.List.{List, [], _∷_}
 use lib.Dec.{eqb, leb, ltb}
 use lib.ListN.{length, getD, take, drop}
@@ -35,16 +35,12 @@ comment = 35
 abbrev pub nothing : Tally
 nothing = record { vectors = 0; passed = 0 }
 
-abbrev pub failed : Tally
-failed = record { vectors = 1; passed = 0 }
-
-abbrev pub passed : Tally
-passed = record { vectors = 1; passed = 1 }
+abbrev pub counted : (passes : Bool) → Tally
+counted b = record { vectors = 1; passed = cond b 1 0 }
 
 unfoldable pub shareOf : (line : List ℕ) (ended : Bool) → Tally
 shareOf line ended =
-    cond (eqb (length line) 0) nothing
-    (cond (eqb (getD line 0 0) comment) nothing (cond ended (cond (passes line) passed failed) failed))
+    cond (eqb (length line) 0) nothing (cond (eqb (getD line 0 0) comment) nothing (counted (ended && passes line)))
 
 -- The lines from a position on, at most `turns` of them, with a tally so far; a text has no more lines than bytes.
 abbrev pub shareAt : List ℕ → (at : ℕ) → Tally
