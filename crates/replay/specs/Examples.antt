@@ -3,7 +3,7 @@ use Prim.Native.Nat.{ℕ}
 use mathlib.Core.Path.{_≡_}
 use mathlib.Core.List.{List, _∷_}
 use lib.ListN.{replicate}
-use Rattle.press.specs.Showing.{Part, left, right, show}
+use Rattle.press.specs.Showing.{left, right, show}
 
 -- Workspaces of 16 words that hold f1, and f1 f2.
 abbrev pub variable : List ℕ

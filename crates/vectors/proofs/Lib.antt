@@ -4,3 +4,4 @@ pub mod ListLaws
 pub mod StepLaws
 pub mod StoredLaws
 pub mod TallyLaws
+pub mod Examples

@@ -2,12 +2,32 @@
 use Prim.Native.Nat.{ℕ, zero, suc, _+_, _-_, _≤_, _<_}
 use native.Mathlib.Omega.{arith}
 use mathlib.Core.Path.{_≡_, refl}
+use mathlib.Core.Bool.{Bool, true, false, cond, _&&_}
 use mathlib.Core.List.{List}
-use lib.Dec.{ltb}
-use lib.ListN.{length, take, drop}
+use lib.Dec.{eqb, ltb}
+use lib.ListN.{length, getD, take, drop}
 use borrow.Author.Tests.{le-leb, lt-leb}
-use Rattle.vectors.specs.Vector.{lineEnd, shareOf, tallyFrom}
+use Rattle.vectors.specs.Vector.{lineEnd, passes, comment, nothing, counted, shareOf, tallyFrom}
 use Rattle.vectors.specs.declared.vector.Tally.{Tally}
+
+-- A line has at most one vector, and it passes at most once.
+abbrev Small : Tally → Type 0
+Small t = (t .passed ≤ t .vectors) × (t .vectors ≤ 1)
+
+small-either : (b : Bool) (s t : Tally) → Small s → Small t → Small (cond b s t)
+small-either true s t p q = p
+small-either false s t p q = q
+
+small-counted : (b : Bool) → Small (counted b)
+small-counted true = (omega arith, omega arith)
+small-counted false = (omega arith, omega arith)
+
+pub share-small : (line : List ℕ) (ended : Bool) (s : Tally) → s ≡ shareOf line ended → (s .passed ≤ s .vectors) × (s .vectors ≤ 1)
+unfolding shareOf
+share-small line ended s e =
+    rw e
+    (small-either (eqb (length line) 0) nothing _ (omega arith, omega arith)
+    (small-either (eqb (getD line 0 0) comment) nothing _ (omega arith, omega arith) (small-counted (ended && passes line))))
 
 module _ (text : List ℕ) (at v p : ℕ) where
   pub tally-over : (turns : ℕ) → length text ≤ at → tallyFrom turns text at v p ≡ record { vectors = v; passed = p }

@@ -7,3 +7,4 @@ pub mod Answers
 pub mod Pair
 pub mod Stored
 pub mod Vector
+pub mod Examples

@@ -1,6 +1,6 @@
 -- What a line of presses and showings says: `pair C left right CALL ..`.
 use Prim.Native.Nat.{ℕ, zero, suc, _+_, min}
-use mathlib.Core.Bool.{Bool, true, false, cond, _&&_}
+use mathlib.Core.Bool.{Bool, false, cond, _&&_}
 use mathlib.Core.List.{List}
 use lib.Dec.{eqb, leb}
 use lib.ListN.{length, take, replicate}
@@ -20,7 +20,6 @@ use Rattle.vectors.specs.Compared.{areWords}
 use Rattle.vectors.specs.Lists.{Listed, comma, listAt, comparedAt}
 use Rattle.vectors.specs.Answers.{isSession, isShown, isRefused}
 use Rattle.vectors.specs.declared.text.Compared.{Compared}
-use Rattle.vectors.specs.declared.text.Setting.{Setting}
 use Rattle.vectors.specs.declared.pair.Named.{Named}
 use Rattle.vectors.specs.declared.pair.Given.{Given}
 use Rattle.vectors.specs.declared.pair.Lent.{Lent}

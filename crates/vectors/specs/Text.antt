@@ -1,6 +1,6 @@
 -- What stands at a position of a line: a keyword, a number in base ten, a setting. Each comes behind at most one space. Where what is wanted does not come
 -- next, reading goes on nowhere, and nothing is found there.
-use Prim.Native.Nat.{ℕ, suc, _+_, _*_, _-_}
+use Prim.Native.Nat.{ℕ, _+_, _*_, _-_}
 use mathlib.Core.Bool.{Bool, true, false, cond, _&&_}
 use mathlib.Core.List.{List, [], _∷_}
 use lib.Dec.{eqb, leb, ltb}

@@ -35,16 +35,12 @@ comment = 35
 abbrev pub nothing : Tally
 nothing = record { vectors = 0; passed = 0 }
 
-abbrev pub failed : Tally
-failed = record { vectors = 1; passed = 0 }
-
-abbrev pub passed : Tally
-passed = record { vectors = 1; passed = 1 }
+abbrev pub counted : (passes : Bool) → Tally
+counted b = record { vectors = 1; passed = cond b 1 0 }
 
 unfoldable pub shareOf : (line : List ℕ) (ended : Bool) → Tally
 shareOf line ended =
-    cond (eqb (length line) 0) nothing
-    (cond (eqb (getD line 0 0) comment) nothing (cond ended (cond (passes line) passed failed) failed))
+    cond (eqb (length line) 0) nothing (cond (eqb (getD line 0 0) comment) nothing (counted (ended && passes line)))
 
 -- The lines from a position on, at most `turns` of them, with a tally so far; a text has no more lines than bytes.
 abbrev pub shareAt : List ℕ → (at : ℕ) → Tally

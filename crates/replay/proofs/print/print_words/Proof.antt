@@ -1,3 +1,4 @@
+-- `print_words` stays inside its slice.
 use Prim.Native.Nat.{_≤_, _-_}
 use lib.ListN.{length}
 use borrow.Author.Needs.{needs}

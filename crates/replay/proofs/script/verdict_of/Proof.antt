@@ -1,22 +1,17 @@
+-- `verdict_of` meets its contract.
 use borrow.Author.Tests.{ne-eqb}
 use Rattle.replay.proofs.script.verdict_of.Statement.{statement}
 use Rattle.replay.proofs.script.verdict_of.Tie as tie
-use Rattle.replay.proofs.script.verdict_of.Reads as reads
-use Rattle.replay.proofs.script.verdict_of.Lts as lts
 
--- src/script.rt:119:1
 returns : tie.Need-returns
 returns c = rw (c .match .keys1)
 
--- src/script.rt:119:1
 returns-2 : tie.Need-returns-2
 returns-2 c = rw (c .match .keys2)
 
--- src/script.rt:119:1
 returns-3 : tie.Need-returns-3
 returns-3 c = rw (c .match .keys3)
 
--- src/script.rt:119:1
 returns-4 : tie.Need-returns-4
 returns-4 c =
     let other = c .match .rest in

@@ -4,7 +4,7 @@ use mathlib.Core.Path.{_≡_, refl, sym, _∙_}
 use native.Mathlib.Omega.{arith}
 use lib.ListN.{length}
 use Rattle.vectors.specs.Vector.{tallyFrom, tallyAll}
-use Rattle.vectors.proofs.TallyLaws.{tally-over, tally-end, tally-next}
+use Rattle.vectors.proofs.TallyLaws.{share-small, tally-over, tally-end, tally-next}
 use borrow.Author.Needs.{needs}
 use Rattle.vectors.proofs.vector.tally_all.Statement.{statement}
 use Rattle.vectors.proofs.vector.tally_all.Tie as tie
@@ -37,10 +37,10 @@ share-requires : tie.Need-share-requires Inv-loop μ-loop
 share-requires c κs = search needs
 
 add-vectors : tie.Need-add-vectors Inv-loop μ-loop
-add-vectors c = search needs
+add-vectors c = let small = share-small _ _ (c .before .share .result) (c .before .share .ensures) in omega (arith, small .0, small .1)
 
 add-passed : tie.Need-add-passed Inv-loop μ-loop
-add-passed c = search needs
+add-passed c = let small = share-small _ _ (c .before .before .share .result) (c .before .before .share .ensures) in omega (arith, small .0, small .1)
 
 add-at : tie.Need-add-at Inv-loop μ-loop
 add-at c = search needs
@@ -52,7 +52,7 @@ loop-less : tie.Need-loop-less Inv-loop μ-loop
 loop-less c = search needs
 
 loop-again : tie.Need-loop-again Inv-loop μ-loop
-loop-again c = (omega arith, omega arith, omega arith, sym (tally-next _ _ _ _ (c .before .before .before .before .line-end .result) (c .before .before .share .result) (c .before .before .before .before .line-end .ensures .0) (c .before .before .share .ensures .0) (c .before .before .before .before .before .if1 .left) _ (c .before .before .before .before .before .before .loop-test .taken)) ∙ c .before .before .before .before .before .before .before .loop .inv .3)
+loop-again c = let small = share-small _ _ (c .before .before .share .result) (c .before .before .share .ensures) in (omega (arith, small .0, small .1), omega (arith, small .0, small .1), omega arith, sym (tally-next _ _ _ _ (c .before .before .before .before .line-end .result) (c .before .before .share .result) (c .before .before .before .before .line-end .ensures .0) (c .before .before .share .ensures) (c .before .before .before .before .before .if1 .left) _ (c .before .before .before .before .before .before .loop-test .taken)) ∙ c .before .before .before .before .before .before .before .loop .inv .3)
 
 returns-2 : tie.Need-returns-2 Inv-loop μ-loop
 returns-2 c = sym (tally-end _ _ _ _ _ (c .loop-test .left)) ∙ c .before .loop .inv .3
