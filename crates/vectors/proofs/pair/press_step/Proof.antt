@@ -1,7 +1,7 @@
 -- `press_step` meets its contract.
 use mathlib.Core.Path.{_∙_, ap}
-use Rattle.rounds.specs.Press.{press}
-use Rattle.rounds.specs.Types.{memoryOf, callOf, pressedOf}
+use Rattle.press.specs.Press.{press}
+use Rattle.press.specs.Types.{memoryOf, callOf, pressedOf}
 use Rattle.vectors.specs.Pair.{room, junk, Stage, stageOf, Stepped, checked, steppedAfter, pressStep}
 use Rattle.vectors.proofs.ListLaws.{lent-words, lent-length, lent-again}
 use borrow.Author.Needs.{needs}
