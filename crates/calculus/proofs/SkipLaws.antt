@@ -3,7 +3,7 @@
 use Prim.Native.Nat.{ℕ, zero, suc, _+_, _≤_, _<_}
 use mathlib.Core.Path.{_≡_, refl, sym, _∙_, ap}
 use mathlib.Core.List.{List, [], _∷_, _++_, append-assoc}
-use native.Mathlib.Nat.{zero-add, suc-add}
+use native.Mathlib.Nat.{zero-add, suc-add, add-assoc}
 use native.Mathlib.Omega.{arith}
 use lib.ListN.{length, drop, length-append}
 use lib.Seq.{drop-append-add}
@@ -101,6 +101,16 @@ pub span-bounded : (k : ℕ) (ws : List ℕ) → span k ws ≤ length ws
 span-bounded k [] = omega arith
 span-bounded zero (w ∷ ws) = omega arith
 span-bounded (suc k) (w ∷ ws) = omega (arith, span-bounded (arity w + k) ws)
+
+-- Items behind items.
+pub span-add : (ws : List ℕ) (j k : ℕ) → span (j + k) ws ≡ span j ws + span k (drop (span j ws) ws)
+span-add [] j k = refl
+span-add (w ∷ ws) zero k = ap (λ m. span m (w ∷ ws)) (zero-add k) ∙ sym (zero-add _)
+span-add (w ∷ ws) (suc j) k =
+    ap (λ m. span m (w ∷ ws)) (suc-add j k)
+    ∙ ap (λ m. suc (span m ws)) (sym (add-assoc (arity w) j k))
+    ∙ ap suc (span-add ws (arity w + j) k)
+    ∙ sym (suc-add _ _)
 
 -- More items end no earlier, and an item that starts inside others ends inside them.
 span-more : (j k : ℕ) (ws : List ℕ) → j ≤ k → span j ws ≤ span k ws

@@ -8,6 +8,7 @@ use native.Mathlib.Omega.{arith}
 use lib.Dec.{leb, eqb}
 use lib.ListN.{length}
 use borrow.Author.Tests.{le-leb, lt-leb, leb-true, eqb-true}
+use Rattle.words.proofs.Scan.{both}
 use Rattle.text.specs.Bytes.{wordBytes}
 use Rattle.replay.specs.declared.script.Operands.{Operands}
 use Rattle.replay.specs.declared.script.Operation.{Operation}
@@ -34,16 +35,6 @@ number-known n h = go (decLt n operations)
     go (yes l) = l
     go (no g) = absurd (omega (arith, number-unknown n (omega arith)))
 
--- Of two tests that hold, each does.
-first-holds : (a b : Bool) → (a && b) ≡ true → a ≡ true
-first-holds true b e = refl
-first-holds false b e = e
-
-second-holds : (a b : Bool) → (a && b) ≡ true → b ≡ true
-second-holds true b e = e
-second-holds false true e = refl
-second-holds false false e = e
-
 -- What the operations need of their operands: the length of a scratch and of a table within their limits.
 module _ (bytes : List ℕ) (o : Operands) (from : ℕ) where
   by-number : (P : Operation → Type 0) (n k : ℕ) {a b : Operation} → (n ≡ k → P a) → P b → P (cond (eqb n k) a b)
@@ -59,9 +50,9 @@ module _ (bytes : List ℕ) (o : Operands) (from : ℕ) where
       let first = leb (o .first) (mostOf n 0) in
       let second = leb (o .second) (mostOf n 1) in
       let third = leb (o .third) (mostOf n 2) in
-      let three = first-holds ((first && second) && third) (leb (o .fourth) (mostOf n 3)) h in
-      let two = first-holds (first && second) third three in
-      (leb-true _ _ (first-holds first second two), leb-true _ _ (second-holds first second two), leb-true _ _ (second-holds (first && second) third three))
+      let three = both ((first && second) && third) (leb (o .fourth) (mostOf n 3)) h .0 in
+      let two = both (first && second) third three .0 in
+      (leb-true _ _ (both first second two .0), leb-true _ _ (both first second two .1), leb-true _ _ (both (first && second) third three .1))
 
   operation-fits : (n : ℕ) → within n o ≡ true → from + wordBytes * following n o ≤ length bytes → Fits bytes (operationOf n o from)
   operation-fits n h inside =

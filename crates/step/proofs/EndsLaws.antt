@@ -8,9 +8,8 @@ use native.Mathlib.Omega.{arith}
 use lib.ListN.{length, getD, take, drop, set, length-set, length-drop}
 use lib.Seq.{drop-drop, drop-set-lt, take-set-le, getD-set-same, getD-set-other}
 use Rattle.calculus.specs.Skip.{arity, span}
-use Rattle.calculus.proofs.SkipLaws.{span-bounded}
+use Rattle.calculus.proofs.SkipLaws.{span-bounded, span-add}
 use Rattle.words.proofs.Spans.{span-step}
-use Rattle.substitution.proofs.StartLaws.{span-add}
 use Rattle.step.specs.Ends.{Ends, Filled}
 use Rattle.step.proofs.TailLaws.{taken-less}
 

@@ -12,7 +12,7 @@ use Rattle.calculus.specs.Words.{workspaceMost, countBase, payloadOf, words, si
 use Rattle.calculus.specs.Skip.{span}
 use Rattle.calculus.specs.First.{firstTerms}
 use Rattle.calculus.specs.Shift.{shift}
-use Rattle.calculus.proofs.SkipLaws.{span-bounded}
+use Rattle.calculus.proofs.SkipLaws.{span-bounded, span-add}
 use Rattle.calculus.proofs.FirstLaws.{span-items}
 use Rattle.calculus.specs.Accepted.{indexLimit}
 use Rattle.substitution.specs.Rewritten.{substituting, rewritten, place}
@@ -20,7 +20,7 @@ use Rattle.substitution.specs.Results.{shifted, Shiftable, Substitutable
 use Rattle.substitution.proofs.MoveLaws.{movable-up}
 use Rattle.substitution.proofs.ResultLaws.{starts-split, shifted-at, shiftable-at}
 use Rattle.calculus.proofs.SizeLaws.{size-shift}
-use Rattle.substitution.proofs.StartLaws.{Offsets, span-add}
+use Rattle.substitution.proofs.StartLaws.{Offsets}
 use Rattle.substitution.proofs.ArgumentLaws.{Argument, argument-some, place-index, rewritten-argument}
 
 module _ {ws : List ℕ} {body args n : ℕ} (h : Substitutable ws body args n) {starts : List ℕ} (p : Offsets ws args starts n) (d w : ℕ) (bounded : d ≤ countBase * workspaceMost) {j : ℕ} (place-is : j ≡ place n d w) (chosen : j < n) where

@@ -14,7 +14,7 @@ use Rattle.calculus.specs.Term.{Term, Terms}
 use Rattle.calculus.specs.Words.{workspaceMost, countBase, words, size}
 use Rattle.calculus.specs.Skip.{arity, span}
 use Rattle.calculus.specs.First.{firstTerms}
-use Rattle.calculus.proofs.SkipLaws.{span-zero, span-bounded}
+use Rattle.calculus.proofs.SkipLaws.{span-zero, span-bounded, span-add}
 use Rattle.words.specs.Bound.{bound}
 use Rattle.substitution.specs.Depths.{depths}
 use Rattle.substitution.specs.Rewritten.{substituting, rewritten, place}
@@ -23,7 +23,7 @@ use Rattle.substitution.specs.Measure.{occurrences, Measures}
 use Rattle.substitution.proofs.DepthLaws.{Bounded, bounded-word, length-items}
 use Rattle.substitution.proofs.Traversal.{marked, flat}
 use Rattle.substitution.proofs.ResultLaws.{subst-starts}
-use Rattle.substitution.proofs.StartLaws.{Offsets, span-add}
+use Rattle.substitution.proofs.StartLaws.{Offsets}
 use Rattle.substitution.proofs.ArgumentLaws.{length-body}
 use Rattle.substitution.proofs.Chosen.{chosen-length}
 

@@ -8,16 +8,7 @@ use native.Mathlib.Omega.{arith}
 use lib.ListN.{length, getD, drop, set}
 use lib.Seq.{drop-drop, getD-set-same, getD-set-other}
 use Rattle.calculus.specs.Skip.{arity, span}
-use Rattle.calculus.proofs.SkipLaws.{span-zero}
-
-pub span-add : (ws : List ℕ) (j k : ℕ) → span (j + k) ws ≡ span j ws + span k (drop (span j ws) ws)
-span-add [] j k = refl
-span-add (w ∷ ws) zero k = ap (λ m. span m (w ∷ ws)) (zero-add k) ∙ sym (zero-add _)
-span-add (w ∷ ws) (suc j) k =
-    ap (λ m. span m (w ∷ ws)) (suc-add j k)
-    ∙ ap (λ m. suc (span m ws)) (sym (add-assoc (arity w) j k))
-    ∙ ap suc (span-add ws (arity w + j) k)
-    ∙ sym (suc-add _ _)
+use Rattle.calculus.proofs.SkipLaws.{span-zero, span-add}
 
 -- The positions at which the items from position `args` on start, written up to the j-th.
 pub record Offsets (src : List ℕ) (args : ℕ) (starts : List ℕ) (j : ℕ) : Type 0 where

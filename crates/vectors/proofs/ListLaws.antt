@@ -6,16 +6,12 @@ use mathlib.Core.List.{List, _∷_, _++_}
 use lib.ListN.{length, take, drop, replicate, length-append, length-replicate}
 use lib.Seq.{sets, take-at, length-take-le}
 use borrow.Author.Tests.{le-leb, lt-leb, eq-eqb, ne-eqb}
+use Rattle.words.proofs.RoomLaws.{take-replicate}
 use Rattle.vectors.specs.Text.{nowhere, after}
 use Rattle.vectors.specs.Lists.{dash, comma, itemAt, Listed, unlisted, withMore, items, listAt}
 use Rattle.vectors.specs.declared.text.Item.{Item}
 
 -- So many words of an array of equal ones.
-take-replicate : (a n m : ℕ) → n ≤ m → take n (replicate m a) ≡ replicate n a
-take-replicate a zero m h = refl
-take-replicate a (suc n) zero h = absurd (omega arith)
-take-replicate a (suc n) (suc m) h = ap (_∷_ a) (take-replicate a n m (omega arith))
-
 module _ (a k m n : ℕ) (is : n ≡ min k m) where
   pub lent-words : take n (replicate m a) ≡ replicate (min k m) a
   lent-words = rw is (take-replicate a (min k m) m (omega arith))

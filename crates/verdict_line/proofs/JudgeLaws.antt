@@ -21,7 +21,7 @@ use Rattle.tables.specs.Types.{loadedOf}
 use Rattle.verdict_line.specs.Line.{refuses, lineOf, loadedLeft, loadedRight, judged}
 use Rattle.verdict_line.specs.Request.{Request}
 use Rattle.verdict_line.specs.Judge.{lentMost}
-use Rattle.verdict_line.proofs.LineLaws.{take-replicate}
+use Rattle.words.proofs.RoomLaws.{take-replicate}
 
 -- An array as it is at first.
 abbrev array : List ℕ

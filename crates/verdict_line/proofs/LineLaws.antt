@@ -37,12 +37,6 @@ unfolding printed
 printed-fits {before} bytes p size =
     rw (p .slice, length-sets) (omega (arith, p .position, line-length (judged (request bytes))))
 
--- The first of so many equal words.
-pub take-replicate : (a n m : ℕ) → n ≤ m → take n (replicate m a) ≡ replicate n a
-take-replicate a zero m h = refl
-take-replicate a (suc n) zero h = absurd (omega arith)
-take-replicate a (suc n) (suc m) h = ap (_∷_ a) (take-replicate a n m (omega arith))
-
 -- A workspace above the limit is refused, whatever its length.
 too-large : (table ws : List ℕ) → workspaceMost < length ws → load table ws .answer ≡ refused WrongWorkspace
 unfolding loadStored
