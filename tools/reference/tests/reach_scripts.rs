@@ -54,6 +54,18 @@ fn look_at_bytes(bytes: &[u8], census: &mut Census) {
     });
 }
 
+/// The side whose table is one word too long, if nothing else is wrong.
+fn one_word_too_long(bytes: &[u8]) -> Option<&'static str> {
+    let left = word(bytes, 2)? as usize;
+    let right = word(bytes, 3 + left)? as usize;
+    match (left, right) {
+        _ if bytes.len() != 4 * (4 + left + right) => None,
+        (8_197, 0..=8_196) => Some("left: 8,197 words and no other fault"),
+        (0..=8_196, 8_197) => Some("right: 8,197 words and no other fault"),
+        _ => None,
+    }
+}
+
 #[test]
 fn broken_inputs_are_broken_in_every_way() {
     let census = on_large_stack(|| {
@@ -62,6 +74,9 @@ fn broken_inputs_are_broken_in_every_way() {
             let bytes = inputs::aimed(&mut Random::new(41, case), Aim::Input);
             if outcome(&bytes) == Outcome::Input {
                 look_at_bytes(&bytes, &mut census);
+                one_word_too_long(&bytes)
+                    .into_iter()
+                    .for_each(|side| census.meet(side));
             }
         }
         census
@@ -78,6 +93,8 @@ fn broken_inputs_are_broken_in_every_way() {
             "left: some bytes missing",
             "left: one word missing",
             "left: more missing",
+            "left: 8,197 words and no other fault",
+            "right: 8,197 words and no other fault",
             "right: no count",
             "right: count 8,196",
             "right: count 8,197",
