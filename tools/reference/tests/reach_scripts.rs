@@ -250,6 +250,135 @@ fn wrong_term(before: &Machine, lengths: (u32, u32)) -> &'static str {
     }
 }
 
+/// Words that are read once more, up to the first that breaks a rule.
+struct Reader<'a> {
+    ahead: &'a [u32],
+}
+
+impl Reader<'_> {
+    /// Kind and payload of the next word.
+    fn next(&mut self) -> Result<(u32, u32), String> {
+        let (word, ahead) = self.ahead.split_first().ok_or("too few words")?;
+        self.ahead = ahead;
+        Ok((word % 8, word / 8))
+    }
+
+    fn term(&mut self, binders: u32) -> Result<(), String> {
+        let (kind, payload) = self.next()?;
+        match (kind, payload) {
+            (0, index) => return free_number(index, binders),
+            (1, 0) => self.term(binders + 1)?,
+            (2, 0) => (0..2).try_for_each(|_| self.term(binders))?,
+            (1, _) => return Err("an abstraction with a payload".to_string()),
+            (2, _) => return Err("an application with a payload".to_string()),
+            (3, _) => {
+                in_range("constructor", payload)?;
+                (0..payload % 16).try_for_each(|_| self.term(binders))?;
+            }
+            (4, 0..=15) => {
+                self.term(binders)?;
+                let mut last = 0;
+                (0..payload).try_for_each(|_| self.branch(binders, &mut last))?;
+            }
+            (4, 16) => return Err("16 branches".to_string()),
+            (4, _) => return Err("more than 16 branches".to_string()),
+            (5, _) => return Err("a branch in a term's place".to_string()),
+            _ => return Err(format!("kind {kind}")),
+        }
+        Ok(())
+    }
+
+    fn branch(&mut self, binders: u32, last: &mut u32) -> Result<(), String> {
+        let (kind, payload) = self.next()?;
+        if kind != 5 {
+            return Err("no branch in its place".to_string());
+        }
+        in_range("branch", payload)?;
+        let tag = payload / 16;
+        if tag <= *last {
+            let tags = if tag == *last { "equal" } else { "falling" };
+            return Err(format!("{tags} tags"));
+        }
+        *last = tag;
+        self.term(binders + payload % 16)
+    }
+}
+
+fn in_range(of: &str, payload: u32) -> Result<(), String> {
+    match payload / 16 {
+        0 => Err(format!("a {of} of tag 0")),
+        1..=255 => Ok(()),
+        256 => Err(format!("a {of} of tag 256")),
+        _ => Err(format!("a {of} of a larger tag")),
+    }
+}
+
+fn free_number(index: u32, binders: u32) -> Result<(), String> {
+    match index.saturating_sub(binders) {
+        0..=255 => Ok(()),
+        _ if index == u32::MAX / 8 => Err("the largest index".to_string()),
+        256 => Err("free number 256".to_string()),
+        _ => Err("a larger free number".to_string()),
+    }
+}
+
+/// The first rule that the words break, if they break one.
+fn broken_rule(words: &[u32]) -> Option<String> {
+    let mut reader = Reader { ahead: words };
+    match reader.term(0) {
+        Err(rule) => Some(rule),
+        Ok(()) => (!reader.ahead.is_empty()).then(|| "too many words".to_string()),
+    }
+}
+
+#[test]
+fn words_that_are_no_term_break_every_rule() {
+    let census = on_large_stack(|| {
+        let mut census = Census::default();
+        // Of eight scripts the third is about such words.
+        for case in (2..4_000).step_by(8) {
+            each_call(&scripts::script(46, case), |before, operation, event| {
+                let Operation::Press { lengths, .. } = operation else {
+                    return;
+                };
+                if event != Event::Press(Err(Refusal::NotATerm)) {
+                    return;
+                }
+                let left = before.left.get(..lengths.0 as usize);
+                let right = before.right.get(..lengths.1 as usize);
+                let mut sides = [left, right].into_iter().flatten();
+                let rule = sides.find_map(|words| broken_rule(words).filter(|_| !words.is_empty()));
+                rule.into_iter().for_each(|rule| census.meet(rule));
+            });
+        }
+        census
+    });
+    let rules = [
+        "too few words",
+        "too many words",
+        "kind 6",
+        "kind 7",
+        "an abstraction with a payload",
+        "an application with a payload",
+        "a constructor of tag 0",
+        "a constructor of tag 256",
+        "a constructor of a larger tag",
+        "16 branches",
+        "more than 16 branches",
+        "a branch in a term's place",
+        "no branch in its place",
+        "a branch of tag 0",
+        "a branch of tag 256",
+        "a branch of a larger tag",
+        "equal tags",
+        "falling tags",
+        "free number 256",
+        "a larger free number",
+        "the largest index",
+    ];
+    census.assert_reaches(2, &rules);
+}
+
 /// Calls and answers that have no side.
 const CALLS: [&str; 20] = [
     "press, Same",
