@@ -390,8 +390,25 @@ fn look_at_end(end: Rounds, capacity: usize, budget: u32, census: &mut Census) {
     }
 }
 
+/// The longest term that so many contractions of a pair's rounds give.
+fn longest_given(mut sides: [Term; 2], contractions: u32) -> usize {
+    let (mut made, mut longest) = (0, 0);
+    while made < contractions {
+        for side in &mut sides {
+            if let Some(next) = step(side) {
+                *side = next;
+                made += 1;
+                longest = longest.max(side.size());
+            }
+        }
+    }
+    longest
+}
+
 /// Ends of rounds beside how many contractions they come after.
-const ENDS: [&str; 20] = [
+const ENDS: [&str; 22] = [
+    "Same, C words on the way",
+    "Different, C words on the way",
     "Same, all spent",
     "Same, one unspent",
     "Same, much unspent",
@@ -422,7 +439,12 @@ fn trials_reach_every_edge() {
             let wish = VERDICTS[case as usize % VERDICTS.len()];
             let trial = trial(&mut Random::new(33, case), Some(wish));
             let (capacity, budget) = (trial.capacity, trial.budget);
+            let sides = [trial.left.clone(), trial.right.clone()];
             let end = rounds(trial.left, trial.right, capacity, budget);
+            let decides = matches!(end.verdict, Verdict::Same | Verdict::Different);
+            if decides && end.spent <= 50 && longest_given(sides, end.spent) == capacity {
+                census.meet(format!("{}, C words on the way", end.verdict));
+            }
             look_at_end(end, capacity, budget, &mut census);
         }
         census
