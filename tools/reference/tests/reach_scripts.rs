@@ -434,22 +434,31 @@ fn broken(bytes: &[u8]) -> String {
     let Some(code) = word(bytes, 0) else {
         return "some bytes".to_string();
     };
-    let (first, second, third) = (word(bytes, 1), word(bytes, 2), word(bytes, 3));
-    match code {
+    let beyond = |name: &str, place: usize, limit: u32| {
+        let value = word(bytes, place).filter(|value| *value > limit)?;
+        Some(match value == limit + 1 {
+            true => format!("{code}: {name} {value}"),
+            false => format!("{code}: far {name}"),
+        })
+    };
+    let wrong = match code {
+        1 => beyond("side", 1, 1).or_else(|| beyond("count", 2, 8_196)),
+        2 => beyond("count", 1, 8_196),
+        4 => beyond("side", 1, 1).or_else(|| beyond("count", 3, 8_196)),
+        5 => beyond("verdict", 4, 3),
+        6 => beyond("side", 1, 1),
+        _ => None,
+    };
+    wrong.unwrap_or_else(|| match code {
         0 => "operation 0".to_string(),
         8 => "operation 8".to_string(),
         9.. => "far operation".to_string(),
-        1 | 4 | 6 if first.is_some_and(|side| side > 1) => format!("{code}: side"),
-        1 if second.is_some_and(|count| count > 8_196) => "1: count".to_string(),
-        2 if first.is_some_and(|count| count > 8_196) => "2: count".to_string(),
-        4 if third.is_some_and(|count| count > 8_196) => "4: count".to_string(),
-        5 if word(bytes, 4).is_some_and(|verdict| verdict > 3) => "5: verdict".to_string(),
         _ => format!("{code}: cut"),
-    }
+    })
 }
 
 /// Ways in which a script breaks off, and lengths at their limit.
-const BREAKS: [&str; 20] = [
+const BREAKS: [&str; 27] = [
     "32,768 words",
     "32,769 words",
     "no start",
@@ -457,18 +466,25 @@ const BREAKS: [&str; 20] = [
     "operation 0",
     "operation 8",
     "far operation",
-    "1: side",
-    "1: count",
+    "1: side 2",
+    "1: far side",
+    "1: count 8197",
+    "1: far count",
     "1: cut",
-    "2: count",
+    "2: count 8197",
+    "2: far count",
     "2: cut",
     "3: cut",
-    "4: side",
-    "4: count",
+    "4: side 2",
+    "4: far side",
+    "4: count 8197",
+    "4: far count",
     "4: cut",
-    "5: verdict",
+    "5: verdict 4",
+    "5: far verdict",
     "5: cut",
-    "6: side",
+    "6: side 2",
+    "6: far side",
     "6: cut",
 ];
 
