@@ -220,8 +220,10 @@ fn written(length: u32, table: usize, answer: Result<u32, Refusal>) -> String {
     let fitting = 4 * (length as usize + 1);
     match answer {
         Ok(_) => String::new(),
-        Err(Refusal::TableLength) if table < fitting => ", 1 by too short".to_string(),
-        Err(Refusal::TableLength) => ", 1 by too long".to_string(),
+        Err(Refusal::TableLength) if table + 1 == fitting => ", 1 by one less".to_string(),
+        Err(Refusal::TableLength) if table < fitting => ", 1 by fewer".to_string(),
+        Err(Refusal::TableLength) if table == fitting + 1 => ", 1 by one more".to_string(),
+        Err(Refusal::TableLength) => ", 1 by more".to_string(),
         Err(refusal) => format!(", {refusal}"),
     }
 }
@@ -419,7 +421,9 @@ fn scripts_reach_every_call_and_answer() {
         features.push(format!("load {side}"));
         features.extend((1..=8).map(|number| format!("load {side}, {number}")));
         features.push(format!("write {side}"));
-        let refusals = ["1 by too short", "1 by too long", "7", "10"];
+        let lengths = ["1 by one less", "1 by fewer", "1 by one more", "1 by more"];
+        features.extend(lengths.map(|length| format!("write {side}, {length}")));
+        let refusals = ["7", "10"];
         features.extend(refusals.map(|refusal| format!("write {side}, {refusal}")));
         features.push(format!("store {side}"));
         let lengths = ["length 0", "length above C", "words"];
