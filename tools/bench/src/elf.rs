@@ -41,20 +41,23 @@ fn number(file: &[u8], at: usize, length: usize) -> Option<usize> {
 mod tests {
     use super::*;
 
-    /// A header of 64 bytes, the names, then the headers of `.data`, the names and `.text`.
+    /// A header of 64 bytes, the names, then the headers of `.data`, the names and `.text`, whose name
+    /// stands beyond the first 256 bytes of the names.
     fn file() -> Vec<u8> {
-        let names = b".data\0.names\0.text\0";
-        let headers = 64 + names.len();
+        let mut names = b".data\0.names\0".to_vec();
+        names.resize(300, b'-');
+        names.extend(b".text\0");
+        let headers = 64 + names.len() as u16;
         let mut file = ELF_64_LITTLE_ENDIAN.to_vec();
         file.resize(64, 0);
-        file[SECTION_HEADERS] = headers as u8;
+        file[SECTION_HEADERS..SECTION_HEADERS + 2].copy_from_slice(&headers.to_le_bytes());
         file[HEADER_LENGTH] = 64;
         file[HEADER_COUNT] = 3;
         file[NAMES_INDEX] = 1;
         file.extend(names);
-        for (name, length) in [(0, 7), (6, 19), (13, 0x1234)] {
+        for (name, length) in [(0_u16, 7), (6, 306), (300, 0x1234)] {
             let mut header = vec![0; 64];
-            header[0] = name;
+            header[..2].copy_from_slice(&name.to_le_bytes());
             header[SECTION_PLACE] = 64;
             header[SECTION_LENGTH..SECTION_LENGTH + 4].copy_from_slice(&u32::to_le_bytes(length));
             file.extend(header);

@@ -243,12 +243,16 @@ mod tests {
     }
 
     fn report(rows: [Row; 3]) -> String {
+        counted(rows, Some(Counter::Callgrind))
+    }
+
+    fn counted(rows: [Row; 3], counter: Option<Counter>) -> String {
         let [contracting, untouched, normal] = rows.map(|row| vec![row]);
         let report = Report {
             contracting,
             untouched,
             normal,
-            counter: Some(Counter::Callgrind),
+            counter,
             plot: Some("growth.svg".to_string()),
         };
         report.markdown(&NAMES.map(|name| format!("/no/{name}").into()))
@@ -277,6 +281,11 @@ mod tests {
             "### Contractions: contractions a second",
             "### Normal terms, no contraction: microseconds a press",
             "| `flat` | n/a |",
+            "| pair | line | verdict | flat | graph |",
+            "|---|---|---:|---:|---:|",
+            "| pair | verdict | flat | graph |",
+            "|---|---:|---:|---:|",
+            "|---|---:|---:|---:|---:|---:|---:|---:|",
         ] {
             assert!(
                 page.lines().any(|printed| printed == line),
@@ -284,6 +293,14 @@ mod tests {
             );
         }
         assert!(page.contains("](growth.svg)"));
+        assert!(page.contains("counted by `valgrind --tool=callgrind` over at most 10,000 "));
+    }
+
+    #[test]
+    fn it_is_said_where_nothing_counts() {
+        let rows = ["One", "Two", "Three"].map(|name| row(name, "Same 2 1 1", None));
+        let page = counted(rows, None);
+        assert!(page.contains("n/a, as neither valgrind nor perf counts them here"));
     }
 
     #[test]
@@ -295,5 +312,10 @@ mod tests {
         let page = report(["One", "Two", "Three"].map(untimed));
         assert!(!page.contains("## Times"));
         assert!(page.contains("## Machine stack"));
+        let timed = row("One", "Same 2 1 1", press(1e-6));
+        let page = report([timed, untimed("Two"), untimed("Three")]);
+        let times = |name, cell| format!("| {name} | {cell} | {cell} | {cell} |\n");
+        assert!(page.contains(&times("One", "2,000,000 ±2%")), "{page}");
+        assert!(page.contains(&times("Two", "n/a")), "{page}");
     }
 }

@@ -144,6 +144,15 @@ mod tests {
     }
 
     #[test]
+    fn an_input_lasts_as_long_as_its_value() {
+        let input = InputFile::new("lasting", b"0").expect("an input");
+        let path = input.path.clone();
+        assert_eq!(fs::read(&path).expect("the file"), b"0");
+        drop(input);
+        assert!(!path.exists());
+    }
+
+    #[test]
     fn the_smallest_stack_limit_is_found() {
         let least = |script: &str| {
             let input = InputFile::new("stack-limit", script.as_bytes()).expect("an input");

@@ -1,10 +1,13 @@
-//! What the README and `judge --help` say of pairs and tables, against the peers.
+//! What the README and `judge --help` say of pairs and tables, against the peers, and the rows of the
+//! benchmark's page.
 
+use bench::cases::{contracting, normal, untouched};
 use bench::peers::{flat, graph};
 use unit::program::input;
 use unit::{table, Term};
 
 const README: &str = include_str!("../../../README.md");
+const BENCHMARKS: &str = include_str!("../../../docs/BENCHMARKS.md");
 const HELP: &str = include_str!("../../judge/src/help.txt");
 
 /// The line that both peers print.
@@ -123,5 +126,23 @@ fn the_examples_of_the_help() {
     assert_eq!(examples.len(), 3);
     for (command, line) in examples {
         assert_eq!(judged(command), line, "{command}");
+    }
+}
+
+#[test]
+fn the_rows_of_the_benchmark_are_cases() {
+    let cases = [contracting(), untouched(), normal()].into_iter().flatten();
+    let cases: Vec<_> = cases
+        .map(|case| format!("| {} | `{}` |", case.name, case.line))
+        .collect();
+    let (_, text) = BENCHMARKS
+        .split_once("\n## Instructions\n")
+        .expect("the heading");
+    let (text, _) = text.split_once("\n## ").expect("the next heading");
+    let rows: Vec<_> = text.lines().filter(|line| line.contains(" | `")).collect();
+    assert!(rows.len() >= 25);
+    for row in rows {
+        let is_case = cases.iter().any(|case| row.starts_with(case));
+        assert!(is_case, "{row}");
     }
 }

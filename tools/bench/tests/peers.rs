@@ -59,6 +59,8 @@ fn growing_pairs() {
     assert_eq!(line(1, 16, w, "0"), "Full 0 13 1");
     assert_eq!(line(0, 16, w, "0"), "Budget 0 13 1");
     assert_eq!(line(1, 20, w, "0"), "Budget 1 20 1");
+    assert_eq!(line(1, 16, "0", w), "Full 0 1 13");
+    assert_eq!(line(1, 20, "0", w), "Budget 1 1 20");
 }
 
 #[test]
@@ -191,6 +193,9 @@ fn refused_pairs() {
     assert_eq!(line(1, 16, "0", &many("0")), "Refused 8");
     assert_eq!(line(1_000_001, 16, "0", "0"), "Refused 9");
     assert_eq!(line(1_000_000, 2_048, "255", "0"), "Different 0 1 1");
+    // A branch binds what it says: the free number is 255, then 256.
+    assert_eq!(line(1, 16, "?0{1.2:257}", "0"), "Different 0 4 1");
+    assert_eq!(line(1, 16, "?0{1.2:258}", "0"), "Refused 6");
     // The left table's refusal comes first, and any before that of the budget.
     assert_eq!(line(1_000_001, 16, "256", "#0"), "Refused 6");
     assert_eq!(line(1_000_001, 16, "0", "#0"), "Refused 3");

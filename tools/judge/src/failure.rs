@@ -3,6 +3,7 @@
 #[derive(Debug, PartialEq, Eq)]
 pub struct Failure {
     pub status: u8,
+    /// Empty where nobody is to be told.
     pub message: String,
 }
 

@@ -7,7 +7,7 @@ mod verdict;
 
 use std::env;
 use std::ffi::OsString;
-use std::io::{self, Read, Write};
+use std::io::{self, ErrorKind, Read, Write};
 use std::path::{Path, PathBuf};
 use std::process::{Command, ExitCode};
 
@@ -23,7 +23,9 @@ fn main() -> ExitCode {
     match done.and_then(|(text, status)| print(&text).map(|()| status)) {
         Ok(status) => ExitCode::from(status),
         Err(failure) => {
-            tell(&failure.message);
+            if !failure.message.is_empty() {
+                tell(&failure.message);
+            }
             ExitCode::from(failure.status)
         }
     }
@@ -36,8 +38,15 @@ fn tell(message: &str) {
 
 fn print(text: &str) -> Result<(), Failure> {
     let mut output = io::stdout();
-    let written = writeln!(output, "{text}").and_then(|()| output.flush());
-    written.map_err(|error| Failure::program(format!("standard output cannot be written: {error}")))
+    let text = format!("{text}\n");
+    let written = output.write_all(text.as_bytes());
+    written
+        .and_then(|()| output.flush())
+        .map_err(|error| match error.kind() {
+            // Whoever reads it has read enough.
+            ErrorKind::BrokenPipe => Failure::program(String::new()),
+            _ => Failure::program(format!("standard output cannot be written: {error}")),
+        })
 }
 
 /// What is printed, and the exit status.

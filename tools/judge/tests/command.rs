@@ -547,6 +547,24 @@ fn a_line_that_cannot_be_written_is_said() {
 }
 
 #[test]
+fn a_reader_that_has_gone_is_not_told() {
+    for arguments in [&["0", "0"][..], &["--help"]] {
+        let mut reader = Command::new("true").stdin(Stdio::piped()).spawn();
+        let reader = reader.as_mut().expect("true runs");
+        let pipe = reader.stdin.take().expect("standard input is piped");
+        reader.wait().expect("true ends");
+        let output = Command::new(env!("CARGO_BIN_EXE_judge"))
+            .args(arguments)
+            .current_dir(repository())
+            .env("PATH", path_without_rt())
+            .stdout(pipe)
+            .output();
+        let (status, _, message) = answer(output.expect("judge runs"));
+        assert_eq!((status, message.replace(UNCHECKED, "").as_str()), (3, ""));
+    }
+}
+
+#[test]
 fn text_errors_name_the_term_and_the_place() {
     assert_eq!(
         refused(2, &["0", "0 (1"]),

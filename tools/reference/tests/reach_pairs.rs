@@ -291,6 +291,55 @@ fn pairs_reach_every_relation() {
     );
 }
 
+/// The place of an endless part which the contractions throw away.
+fn thrown_away(term: &Term, endless: &Term) -> Option<&'static str> {
+    let place = match term {
+        Term::App(function, last) => match function.as_ref() {
+            Term::App(_, first) if **first == *endless => "first argument",
+            Term::App(..) if **last == *endless => "second argument",
+            _ => return None,
+        },
+        Term::Case {
+            scrutinee,
+            branches,
+        } => match scrutinee.as_ref() {
+            Term::Con { args, .. } if args.contains(endless) => "constructor's argument",
+            Term::Con { .. } if branches.iter().any(|b| b.body == *endless) => "other branch",
+            _ => return None,
+        },
+        _ => return None,
+    };
+    let end = std::iter::successors(Some(term.clone()), step).nth(2);
+    let normal = end.or_else(|| step(term));
+    matches!(normal, Some(Term::Var(_))).then_some(place)
+}
+
+#[test]
+fn endless_parts_are_thrown_away_in_every_way() {
+    let mut census = Census::default();
+    for case in 0..1_500 {
+        let (left, _) = families::pair(&mut Random::new(37, case));
+        for (name, endless) in [("loop", families::omega()), ("growth", families::growing())] {
+            if let Some(place) = thrown_away(&left, &endless) {
+                census.meet(format!("{name}, {place}"));
+            }
+        }
+    }
+    census.assert_reaches(
+        10,
+        &[
+            "loop, first argument",
+            "loop, second argument",
+            "loop, constructor's argument",
+            "loop, other branch",
+            "growth, first argument",
+            "growth, second argument",
+            "growth, constructor's argument",
+            "growth, other branch",
+        ],
+    );
+}
+
 /// The sides that a round moves at the end of rounds, and the longest of
 /// their next terms.
 fn ahead(left: &Term, right: &Term) -> (u32, usize) {
@@ -341,8 +390,25 @@ fn look_at_end(end: Rounds, capacity: usize, budget: u32, census: &mut Census) {
     }
 }
 
+/// The longest term that so many contractions of a pair's rounds give.
+fn longest_given(mut sides: [Term; 2], contractions: u32) -> usize {
+    let (mut made, mut longest) = (0, 0);
+    while made < contractions {
+        for side in &mut sides {
+            if let Some(next) = step(side) {
+                *side = next;
+                made += 1;
+                longest = longest.max(side.size());
+            }
+        }
+    }
+    longest
+}
+
 /// Ends of rounds beside how many contractions they come after.
-const ENDS: [&str; 20] = [
+const ENDS: [&str; 22] = [
+    "Same, C words on the way",
+    "Different, C words on the way",
     "Same, all spent",
     "Same, one unspent",
     "Same, much unspent",
@@ -373,7 +439,12 @@ fn trials_reach_every_edge() {
             let wish = VERDICTS[case as usize % VERDICTS.len()];
             let trial = trial(&mut Random::new(33, case), Some(wish));
             let (capacity, budget) = (trial.capacity, trial.budget);
+            let sides = [trial.left.clone(), trial.right.clone()];
             let end = rounds(trial.left, trial.right, capacity, budget);
+            let decides = matches!(end.verdict, Verdict::Same | Verdict::Different);
+            if decides && end.spent <= 50 && longest_given(sides, end.spent) == capacity {
+                census.meet(format!("{}, C words on the way", end.verdict));
+            }
             look_at_end(end, capacity, budget, &mut census);
         }
         census

@@ -54,6 +54,18 @@ fn look_at_bytes(bytes: &[u8], census: &mut Census) {
     });
 }
 
+/// The side whose table is one word too long, if nothing else is wrong.
+fn one_word_too_long(bytes: &[u8]) -> Option<&'static str> {
+    let left = word(bytes, 2)? as usize;
+    let right = word(bytes, 3 + left)? as usize;
+    match (left, right) {
+        _ if bytes.len() != 4 * (4 + left + right) => None,
+        (8_197, 0..=8_196) => Some("left: 8,197 words and no other fault"),
+        (0..=8_196, 8_197) => Some("right: 8,197 words and no other fault"),
+        _ => None,
+    }
+}
+
 #[test]
 fn broken_inputs_are_broken_in_every_way() {
     let census = on_large_stack(|| {
@@ -62,6 +74,9 @@ fn broken_inputs_are_broken_in_every_way() {
             let bytes = inputs::aimed(&mut Random::new(41, case), Aim::Input);
             if outcome(&bytes) == Outcome::Input {
                 look_at_bytes(&bytes, &mut census);
+                one_word_too_long(&bytes)
+                    .into_iter()
+                    .for_each(|side| census.meet(side));
             }
         }
         census
@@ -78,6 +93,8 @@ fn broken_inputs_are_broken_in_every_way() {
             "left: some bytes missing",
             "left: one word missing",
             "left: more missing",
+            "left: 8,197 words and no other fault",
+            "right: 8,197 words and no other fault",
             "right: no count",
             "right: count 8,196",
             "right: count 8,197",
@@ -203,8 +220,10 @@ fn written(length: u32, table: usize, answer: Result<u32, Refusal>) -> String {
     let fitting = 4 * (length as usize + 1);
     match answer {
         Ok(_) => String::new(),
-        Err(Refusal::TableLength) if table < fitting => ", 1 by too short".to_string(),
-        Err(Refusal::TableLength) => ", 1 by too long".to_string(),
+        Err(Refusal::TableLength) if table + 1 == fitting => ", 1 by one less".to_string(),
+        Err(Refusal::TableLength) if table < fitting => ", 1 by fewer".to_string(),
+        Err(Refusal::TableLength) if table == fitting + 1 => ", 1 by one more".to_string(),
+        Err(Refusal::TableLength) => ", 1 by more".to_string(),
         Err(refusal) => format!(", {refusal}"),
     }
 }
@@ -231,6 +250,135 @@ fn wrong_term(before: &Machine, lengths: (u32, u32)) -> &'static str {
         Some(_) if lengths.1 as usize > before.right.len() => "right's length above C",
         Some(_) => "right's words",
     }
+}
+
+/// Words that are read once more, up to the first that breaks a rule.
+struct Reader<'a> {
+    ahead: &'a [u32],
+}
+
+impl Reader<'_> {
+    /// Kind and payload of the next word.
+    fn next(&mut self) -> Result<(u32, u32), String> {
+        let (word, ahead) = self.ahead.split_first().ok_or("too few words")?;
+        self.ahead = ahead;
+        Ok((word % 8, word / 8))
+    }
+
+    fn term(&mut self, binders: u32) -> Result<(), String> {
+        let (kind, payload) = self.next()?;
+        match (kind, payload) {
+            (0, index) => return free_number(index, binders),
+            (1, 0) => self.term(binders + 1)?,
+            (2, 0) => (0..2).try_for_each(|_| self.term(binders))?,
+            (1, _) => return Err("an abstraction with a payload".to_string()),
+            (2, _) => return Err("an application with a payload".to_string()),
+            (3, _) => {
+                in_range("constructor", payload)?;
+                (0..payload % 16).try_for_each(|_| self.term(binders))?;
+            }
+            (4, 0..=15) => {
+                self.term(binders)?;
+                let mut last = 0;
+                (0..payload).try_for_each(|_| self.branch(binders, &mut last))?;
+            }
+            (4, 16) => return Err("16 branches".to_string()),
+            (4, _) => return Err("more than 16 branches".to_string()),
+            (5, _) => return Err("a branch in a term's place".to_string()),
+            _ => return Err(format!("kind {kind}")),
+        }
+        Ok(())
+    }
+
+    fn branch(&mut self, binders: u32, last: &mut u32) -> Result<(), String> {
+        let (kind, payload) = self.next()?;
+        if kind != 5 {
+            return Err("no branch in its place".to_string());
+        }
+        in_range("branch", payload)?;
+        let tag = payload / 16;
+        if tag <= *last {
+            let tags = if tag == *last { "equal" } else { "falling" };
+            return Err(format!("{tags} tags"));
+        }
+        *last = tag;
+        self.term(binders + payload % 16)
+    }
+}
+
+fn in_range(of: &str, payload: u32) -> Result<(), String> {
+    match payload / 16 {
+        0 => Err(format!("a {of} of tag 0")),
+        1..=255 => Ok(()),
+        256 => Err(format!("a {of} of tag 256")),
+        _ => Err(format!("a {of} of a larger tag")),
+    }
+}
+
+fn free_number(index: u32, binders: u32) -> Result<(), String> {
+    match index.saturating_sub(binders) {
+        0..=255 => Ok(()),
+        _ if index == u32::MAX / 8 => Err("the largest index".to_string()),
+        256 => Err("free number 256".to_string()),
+        _ => Err("a larger free number".to_string()),
+    }
+}
+
+/// The first rule that the words break, if they break one.
+fn broken_rule(words: &[u32]) -> Option<String> {
+    let mut reader = Reader { ahead: words };
+    match reader.term(0) {
+        Err(rule) => Some(rule),
+        Ok(()) => (!reader.ahead.is_empty()).then(|| "too many words".to_string()),
+    }
+}
+
+#[test]
+fn words_that_are_no_term_break_every_rule() {
+    let census = on_large_stack(|| {
+        let mut census = Census::default();
+        // Of eight scripts the third is about such words.
+        for case in (2..4_000).step_by(8) {
+            each_call(&scripts::script(46, case), |before, operation, event| {
+                let Operation::Press { lengths, .. } = operation else {
+                    return;
+                };
+                if event != Event::Press(Err(Refusal::NotATerm)) {
+                    return;
+                }
+                let left = before.left.get(..lengths.0 as usize);
+                let right = before.right.get(..lengths.1 as usize);
+                let mut sides = [left, right].into_iter().flatten();
+                let rule = sides.find_map(|words| broken_rule(words).filter(|_| !words.is_empty()));
+                rule.into_iter().for_each(|rule| census.meet(rule));
+            });
+        }
+        census
+    });
+    let rules = [
+        "too few words",
+        "too many words",
+        "kind 6",
+        "kind 7",
+        "an abstraction with a payload",
+        "an application with a payload",
+        "a constructor of tag 0",
+        "a constructor of tag 256",
+        "a constructor of a larger tag",
+        "16 branches",
+        "more than 16 branches",
+        "a branch in a term's place",
+        "no branch in its place",
+        "a branch of tag 0",
+        "a branch of tag 256",
+        "a branch of a larger tag",
+        "equal tags",
+        "falling tags",
+        "free number 256",
+        "a larger free number",
+        "the largest index",
+    ];
+    census.assert_reaches(2, &rules);
 }
 
 /// Calls and answers that have no side.
@@ -273,7 +421,9 @@ fn scripts_reach_every_call_and_answer() {
         features.push(format!("load {side}"));
         features.extend((1..=8).map(|number| format!("load {side}, {number}")));
         features.push(format!("write {side}"));
-        let refusals = ["1 by too short", "1 by too long", "7", "10"];
+        let lengths = ["1 by one less", "1 by fewer", "1 by one more", "1 by more"];
+        features.extend(lengths.map(|length| format!("write {side}, {length}")));
+        let refusals = ["7", "10"];
         features.extend(refusals.map(|refusal| format!("write {side}, {refusal}")));
         features.push(format!("store {side}"));
         let lengths = ["length 0", "length above C", "words"];
@@ -288,22 +438,31 @@ fn broken(bytes: &[u8]) -> String {
     let Some(code) = word(bytes, 0) else {
         return "some bytes".to_string();
     };
-    let (first, second, third) = (word(bytes, 1), word(bytes, 2), word(bytes, 3));
-    match code {
+    let beyond = |name: &str, place: usize, limit: u32| {
+        let value = word(bytes, place).filter(|value| *value > limit)?;
+        Some(match value == limit + 1 {
+            true => format!("{code}: {name} {value}"),
+            false => format!("{code}: far {name}"),
+        })
+    };
+    let wrong = match code {
+        1 => beyond("side", 1, 1).or_else(|| beyond("count", 2, 8_196)),
+        2 => beyond("count", 1, 8_196),
+        4 => beyond("side", 1, 1).or_else(|| beyond("count", 3, 8_196)),
+        5 => beyond("verdict", 4, 3),
+        6 => beyond("side", 1, 1),
+        _ => None,
+    };
+    wrong.unwrap_or_else(|| match code {
         0 => "operation 0".to_string(),
         8 => "operation 8".to_string(),
         9.. => "far operation".to_string(),
-        1 | 4 | 6 if first.is_some_and(|side| side > 1) => format!("{code}: side"),
-        1 if second.is_some_and(|count| count > 8_196) => "1: count".to_string(),
-        2 if first.is_some_and(|count| count > 8_196) => "2: count".to_string(),
-        4 if third.is_some_and(|count| count > 8_196) => "4: count".to_string(),
-        5 if word(bytes, 4).is_some_and(|verdict| verdict > 3) => "5: verdict".to_string(),
         _ => format!("{code}: cut"),
-    }
+    })
 }
 
 /// Ways in which a script breaks off, and lengths at their limit.
-const BREAKS: [&str; 20] = [
+const BREAKS: [&str; 27] = [
     "32,768 words",
     "32,769 words",
     "no start",
@@ -311,18 +470,25 @@ const BREAKS: [&str; 20] = [
     "operation 0",
     "operation 8",
     "far operation",
-    "1: side",
-    "1: count",
+    "1: side 2",
+    "1: far side",
+    "1: count 8197",
+    "1: far count",
     "1: cut",
-    "2: count",
+    "2: count 8197",
+    "2: far count",
     "2: cut",
     "3: cut",
-    "4: side",
-    "4: count",
+    "4: side 2",
+    "4: far side",
+    "4: count 8197",
+    "4: far count",
     "4: cut",
-    "5: verdict",
+    "5: verdict 4",
+    "5: far verdict",
     "5: cut",
-    "6: side",
+    "6: side 2",
+    "6: far side",
     "6: cut",
 ];
 

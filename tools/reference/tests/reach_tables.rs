@@ -483,6 +483,8 @@ fn look_at_refused(request: &Request, refusal: Refusal, census: &mut Census) {
             let side = if left { "left" } else { "right" };
             census.meet(format!("{refusal} {side}"));
             census.meet_if(left && right, "left before right");
+            let is_longest = refusal == Refusal::TooLong && capacity == 2_047;
+            census.meet_if(is_longest, "8 by 2,048 records");
         }
     }
 }
@@ -503,6 +505,7 @@ fn inputs_put_every_fault_on_either_side() {
     let sides = FAULTS.map(|fault| [format!("{fault} left"), format!("{fault} right")]);
     let sides: Vec<&str> = sides.iter().flatten().map(String::as_str).collect();
     let others = [
+        "8 by 2,048 records",
         "7 by 15 words",
         "7 by 2,049 words",
         "7 by fewer",

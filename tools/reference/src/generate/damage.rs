@@ -328,12 +328,14 @@ pub fn changed_word(random: &mut Random, old: u32) -> u32 {
     // Only the low bits, so that sums stay words after several changes.
     let word = old % (1 << 30);
     let unit = 8 * COUNTS;
+    let tags = [word % unit, word % unit + 256 * unit, word + 256 * unit];
+    let tag = random.pick(&tags);
     let wrong = match word % 8 {
         kind::VARIABLE => random.pick(&[word + 8 * 256, u32::MAX - 7, 5 + unit, 3 + unit]),
         kind::ABSTRACTION | kind::APPLICATION => random.pick(&[word + 8, word + unit, 0, word ^ 3]),
-        kind::CONSTRUCTOR => random.pick(&[word % unit, word + 256 * unit, word + 8, word + 2]),
+        kind::CONSTRUCTOR => random.pick(&[tag, tag, word + 8, word + 2]),
         kind::CASE => random.pick(&[word + 8, word + unit, 4 + 8 * 16, word + 1]),
-        _ => random.pick(&[word % unit, word + 256 * unit, 15 * unit + 5, 5 + unit, 0]),
+        _ => random.pick(&[tag, tag, 15 * unit + 5, 5 + unit, 0]),
     };
     let unknown = word - word % 8 + random.pick(&[6, 7]);
     random.pick(&[wrong, wrong, wrong, unknown])

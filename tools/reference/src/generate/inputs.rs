@@ -100,7 +100,11 @@ fn attempt(random: &mut Random, aim: Aim) -> Vec<u8> {
 /// A workspace length for which every fault of the refusal is possible.
 fn room_for(random: &mut Random, refusal: Refusal, capacity: u32) -> u32 {
     match refusal {
-        Refusal::TooLong => capacity.min(*WORKSPACE.end() as u32 - 1),
+        Refusal::TooLong => {
+            let most = *WORKSPACE.end() as u32 - 1;
+            let near = capacity.min(most);
+            random.pick(&[near, near, near, most])
+        }
         Refusal::Structure => capacity.max(random.pick(&[16, 80])),
         _ => capacity,
     }
@@ -205,6 +209,10 @@ fn broken_bytes(random: &mut Random, mut request: Request) -> Vec<u8> {
         _ => {}
     }
     let mut bytes = encoded(&request);
+    let is_longer = request.left.len().max(request.right.len()) > LONGEST_TABLE;
+    if is_longer && random.percent(50) {
+        return bytes;
+    }
     let right_count = LEFT_COUNT + 4 * (request.left.len() + 1);
     match random.below(6) {
         0 => {

@@ -11,6 +11,7 @@ use crate::random::Random;
 use crate::replay::{Event, Machine, Operation, LONGEST_SCRIPT, VERDICTS};
 use crate::table::{LONGEST_TABLE, RECORD};
 use crate::term::{var, Term, WORKSPACE};
+use crate::words::kind;
 
 /// What a script is about; the cases of a run go through these in turn.
 const SUBJECTS: [fn(&mut Random) -> Composer; 8] = [
@@ -331,7 +332,14 @@ fn store_changed(random: &mut Random, composer: &mut Composer, side: Side) {
         Side::Right => &composer.machine.right,
     };
     if length > 0 {
-        let at = random.below(length);
+        // Words with a range for their payload are few and taken more often.
+        let ranged: Vec<usize> = (0..length)
+            .filter(|at| workspace[*at] % 8 >= kind::CONSTRUCTOR)
+            .collect();
+        let at = match ranged.is_empty() || random.percent(50) {
+            true => random.below(length),
+            false => random.pick(&ranged),
+        };
         let word = changed_word(random, workspace[at]);
         let at = at as u32;
         composer.add(Operation::Store { side, at, word });
