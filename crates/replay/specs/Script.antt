@@ -10,7 +10,7 @@ use Rattle.rounds.specs.declared.Verdict.{Verdict}
 use Rattle.rounds.specs.declared.Verdict.the-variants as verdict
 use Rattle.text.specs.Bytes.{wordBytes}
 use Rattle.text.specs.Decode.{wordAt}
-use Rattle.tables.specs.Records.{form1}
+use Rattle.records.specs.Records.{form1}
 use Rattle.replay.specs.declared.script.Side.{Side}
 use Rattle.replay.specs.declared.script.Side.the-variants as side
 use Rattle.replay.specs.declared.script.Operands.{Operands}

@@ -1,11 +1,6 @@
 -- Stored tables ("The stored table"): what a table means, loading and writing.
-pub mod Records
 pub mod Types
 pub mod Meaning
-pub mod Header
-pub mod Values
-pub mod Links
-pub mod Children
 pub mod Reading
 pub mod FreeNumbers
 pub mod Load

@@ -6,7 +6,7 @@ use lib.Dec.{eqb, leb}
 use lib.ListN.{length, replicate}
 use lib.Seq.{sets}
 use Rattle.calculus.specs.Words.{workspaceMost}
-use Rattle.tables.specs.Records.{form1}
+use Rattle.records.specs.Records.{form1}
 use Rattle.vectors.specs.Text.{nowhere, after, numberAt}
 use Rattle.vectors.specs.Compared.{areWords}
 use Rattle.vectors.specs.declared.text.Item.{Item}

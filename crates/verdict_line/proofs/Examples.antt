@@ -11,10 +11,10 @@ use Rattle.calculus.specs.Equality.{tree, from-trees, equal?}
 use Rattle.calculus.specs.Workspace.{termAt}
 use Rattle.calculus.specs.Rounds.{same, roundsIn, roundsBy}
 use Rattle.press.specs.Press.{press}
-use Rattle.tables.specs.Header.{wrongLength, wrongHeader}
-use Rattle.tables.specs.Values.{valueFits, wrongValue}
-use Rattle.tables.specs.Links.{namings, wrongLink}
-use Rattle.tables.specs.Children.{childrenFit, wrongChildren}
+use Rattle.records.specs.Header.{wrongLength, wrongHeader}
+use Rattle.records.specs.Values.{valueFits, wrongValue}
+use Rattle.records.specs.Links.{namings, wrongLink}
+use Rattle.records.specs.Children.{childrenFit, wrongChildren}
 use Rattle.tables.specs.Meaning.{termOf, meantTerm, meantTerms, meantBranch, meantBranches, meant, meaning}
 use Rattle.tables.specs.Load.{loadStored}
 use Rattle.text.specs.Bytes.{wordsOf}

@@ -1,2 +1,0 @@
--- Refusal 4, defined by the crate `records`.
-unfoldable pub use Rattle.records.specs.Links.{namings, wrongLink}
