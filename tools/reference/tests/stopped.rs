@@ -17,8 +17,14 @@ fn program(name: &str, lines: &str) -> PathBuf {
     path
 }
 
+fn ending_within(seconds: u64, program: &Path, input: &[u8], feed: Feed<'_>) -> Ending {
+    let time = Duration::from_secs(seconds);
+    run(program, input, feed, 10, time).expect("the program can be started")
+}
+
+/// The ending of a program that ends by itself, with time enough on a busy machine.
 fn ending(program: &Path, input: &[u8], feed: Feed<'_>) -> Ending {
-    run(program, input, feed, 10, Duration::from_secs(1)).expect("the program can be started")
+    ending_within(60, program, input, feed)
 }
 
 #[test]
@@ -28,9 +34,10 @@ fn programs_are_stopped_and_crashes_are_seen() {
     // More than a pipe holds, so that writing it has to be broken off.
     let long = vec![0; 1 << 20];
     let stopped = Ending::Stopped(Vec::new());
-    assert_eq!(ending(&hangs, &long, Feed::Pipe(long.len())), stopped);
+    let pipe = Feed::Pipe(long.len());
+    assert_eq!(ending_within(1, &hangs, &long, pipe), stopped);
     let closes = program("closes", "exec sleep 60 >&-");
-    assert_eq!(ending(&closes, &[], Feed::Pipe(1)), stopped);
+    assert_eq!(ending_within(1, &closes, &[], Feed::Pipe(1)), stopped);
     assert!(start.elapsed() < Duration::from_secs(20));
 
     let crashes = program("crashes", "echo line\nkill -KILL $$");
