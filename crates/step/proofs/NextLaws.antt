@@ -25,7 +25,7 @@ use Rattle.calculus.specs.Accepted.{indexLimit}
 use Rattle.substitution.specs.Results.{Substitutable, substituted}
 use Rattle.substitution.proofs.ResultLaws.{substituted-at, substitutable-at}
 use Rattle.step.specs.Held.{held}
-use Rattle.step.specs.Parts.{nothing, parted, parts}
+use Rattle.step.specs.Rules.{nothing, parted, parts}
 use Rattle.step.specs.Next.{next, nextFrom, HoldsRedex}
 use Rattle.step.proofs.HeldLaws.{Start, termAt-start}
 use Rattle.step.proofs.SearchLaws.{no-redex-here}

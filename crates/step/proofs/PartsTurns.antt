@@ -16,7 +16,7 @@ use Rattle.calculus.proofs.SkipLaws.{skip-drop}
 use Rattle.step.specs.declared.rules.Found.{Found}
 use Rattle.step.specs.declared.rules.Found.the-variants as found
 use Rattle.step.specs.Plan.{CaseAt}
-use Rattle.step.specs.Parts.{nothing, parted, branchBody, withBody, caseParts, parts}
+use Rattle.step.specs.Rules.{nothing, parted, branchBody, withBody, caseParts, parts}
 
 pub branchBody-none : (t n i : ℕ) (ws : List ℕ) → branchBody zero t n i ws ≡ found.Nothing
 unfolding branchBody

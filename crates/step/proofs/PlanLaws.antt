@@ -29,7 +29,7 @@ use Rattle.step.specs.declared.Rule.the-variants as rule
 use Rattle.step.specs.declared.Redex.{Redex}
 use Rattle.step.specs.Held.{held}
 use Rattle.step.specs.Search.{Searched}
-use Rattle.step.specs.Parts.{parted, parts}
+use Rattle.step.specs.Rules.{parted, parts}
 use Rattle.step.specs.Next.{next, HoldsRedex}
 use Rattle.step.specs.Plan.{ruleOf, Plans, At, Applied, EndTold, walked, stays, Inspected}
 use Rattle.step.proofs.HeldLaws.{next-term}

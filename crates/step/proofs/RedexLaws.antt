@@ -23,7 +23,7 @@ use Rattle.calculus.proofs.SkipLaws.{itemsAnd, skip-words, skip-zero, span-word
 use Rattle.calculus.proofs.FirstLaws.{span-items}
 use Rattle.step.specs.declared.rules.Found.{Found}
 use Rattle.step.specs.declared.rules.Found.the-variants as found
-use Rattle.step.specs.Parts.{Parts, nothing, parted, branchBody, withBody, caseParts, parts}
+use Rattle.step.specs.Rules.{Parts, nothing, parted, branchBody, withBody, caseParts, parts}
 
 -- From a position on, a workspace is these words.
 pub record From (W : List ℕ) (p : ℕ) (ws : List ℕ) : Type 0 where

@@ -18,7 +18,7 @@ use Rattle.calculus.specs.Theorems.{Packable}
 use Rattle.step.specs.Held.{held, Holds}
 use Rattle.step.specs.Ends.{Ends, Filled}
 use Rattle.step.specs.Search.{Searched}
-use Rattle.step.specs.Parts.{Parts, nothing, parted, parts}
+use Rattle.step.specs.Rules.{Parts, nothing, parted, parts}
 use Rattle.calculus.proofs.PositionLaws.{redex-absent}
 use Rattle.calculus.proofs.WordLaws.{accepted-packable}
 use Rattle.calculus.proofs.SkipLaws.{span-inside}

@@ -25,7 +25,7 @@ use Rattle.step.specs.declared.Plan.the-variants.{Normal, Contract}
 use Rattle.step.specs.declared.rules.Seen.{Seen}
 use Rattle.step.specs.declared.rules.Seen.the-variants as seen
 use Rattle.step.specs.Held.{held, Holds}
-use Rattle.step.specs.Parts.{nothing, parted, parts}
+use Rattle.step.specs.Rules.{nothing, parted, parts}
 use Rattle.step.specs.Next.{next, nextFrom, HoldsRedex}
 
 -- The words that stand for those of the body before `stop`.

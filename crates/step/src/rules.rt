@@ -13,7 +13,7 @@ ghost use lib.ListN.{length, drop};
 ghost use Rattle.calculus.specs.Words.{workspaceMost};
 ghost use Rattle.words.specs.Room.{Room};
 ghost use Rattle.step.specs.Ends.{Ends};
-ghost use Rattle.step.specs.Parts.{branchBody};
+ghost use Rattle.step.specs.Rules.{branchBody};
 ghost use Rattle.step.specs.Plan.{At, SeenAt, Plans, EndTold, Applied, Inspected, Selected};
 
 // What is seen at a position: nothing that contracts, a case that is stuck and whose ends inside are not known yet, or a redex with its plan.

@@ -19,7 +19,7 @@ use Rattle.calculus.specs.Substitution.{argument}
 use Rattle.calculus.specs.Theorems.{Packable, IndicesWithin}
 use Rattle.calculus.proofs.SkipLaws.{span-words, span-zero}
 use Rattle.calculus.specs.Accepted.{indexLimit}
-use Rattle.substitution.specs.Moves.{Moves}
+use Rattle.substitution.specs.Index.{Moves}
 use Rattle.substitution.specs.Rewritten.{shifting, substituting, rewritten, place}
 use Rattle.substitution.proofs.MoveLaws.{moves-down}
 use Rattle.substitution.proofs.RewrittenLaws.{rewritten-variable, rewritten-other, shifting-length, place-argument, place-past, place-bound, place-other}

@@ -15,7 +15,7 @@ use Rattle.calculus.specs.Substitution.{subst}
 use Rattle.calculus.specs.Theorems.{Packable, IndicesWithin}
 use Rattle.calculus.specs.Skip.{span}
 use Rattle.calculus.proofs.FirstLaws.{span-items, firstTerm-words, firstTerms-words}
-use Rattle.substitution.specs.Moves.{Movable}
+use Rattle.substitution.specs.Index.{Movable}
 use Rattle.substitution.specs.Depths.{depths}
 use Rattle.substitution.specs.Rewritten.{shifting, substituting}
 use Rattle.substitution.specs.Results.{Starts, shifted, Shiftable, substituted, Substitutable}

@@ -18,7 +18,7 @@ use Rattle.calculus.specs.Theorems.{Packable}
 use Rattle.calculus.proofs.WordLaws.{kindOf-word, payloadOf-word, countOf-pack}
 use Rattle.calculus.proofs.MarkedWords as marks
 use Rattle.calculus.proofs.MarkedWords.{inside, words-traverse, Every, IfVariable, everywhere-inside}
-use Rattle.substitution.specs.Moves.{MayMove, Movable}
+use Rattle.substitution.specs.Index.{MayMove, Movable}
 use Rattle.substitution.specs.Depths.{depths}
 use Rattle.words.specs.Bound.{binding as bound, bound as binders}
 use Rattle.substitution.specs.Rewritten.{shifting, substituting, rewritten}

@@ -1,5 +1,5 @@
 -- What the contracts of shift and substitution cite beside the calculus.
-pub mod Moves
+pub mod Index
 pub mod Depths
 pub mod Rewritten
 pub mod Results

@@ -12,7 +12,7 @@ use Rattle.calculus.specs.First.{firstTerm, firstTerms}
 use Rattle.calculus.specs.Shift.{shift}
 use Rattle.calculus.specs.Substitution.{subst}
 use Rattle.calculus.specs.Theorems.{Packable, IndicesWithin}
-use Rattle.substitution.specs.Moves.{Movable}
+use Rattle.substitution.specs.Index.{Movable}
 use Rattle.substitution.specs.Depths.{depths}
 use Rattle.substitution.specs.Rewritten.{place}
 

@@ -23,7 +23,7 @@ ghost use Rattle.calculus.specs.Skip.{span};
 ghost use Rattle.calculus.specs.First.{firstTerms};
 ghost use Rattle.words.specs.Placed.{Placed};
 ghost use Rattle.words.specs.Room.{Room};
-ghost use Rattle.substitution.specs.Moves.{distanceBound};
+ghost use Rattle.substitution.specs.Index.{distanceBound};
 ghost use Rattle.substitution.specs.Rewritten.{substituting, standing};
 ghost use Rattle.substitution.specs.Results.{Shiftable, shifted, Substitutes};
 

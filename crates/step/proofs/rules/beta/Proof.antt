@@ -16,7 +16,7 @@ use Rattle.substitution.specs.Results.{substituted}
 use Rattle.substitution.proofs.WalkLaws.{starts-some}
 use Rattle.substitution.proofs.CountLaws.{times-few, substituted-one, product-few}
 use Rattle.step.specs.declared.Rule.the-variants as rule
-use Rattle.step.specs.Parts.{parted, parts}
+use Rattle.step.specs.Rules.{parted, parts}
 use Rattle.step.specs.Plan.{Plans, EndTold, walked, stays}
 use Rattle.step.proofs.NextLaws.{endAt, start, length-short, Contraction}
 use Rattle.step.proofs.PlanLaws.{redex-found, contracts, measurable, left-end, plans, plans-left, applied-parts}

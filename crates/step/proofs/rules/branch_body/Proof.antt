@@ -4,7 +4,7 @@ use mathlib.Core.Path.{_≡_, refl, sym, _∙_}
 use native.Mathlib.Omega.{arith}
 use lib.ListN.{length, drop}
 use borrow.Author.Needs.{needs}
-use Rattle.step.specs.Parts.{branchBody}
+use Rattle.step.specs.Rules.{branchBody}
 use Rattle.step.proofs.EndsLaws.{ends-later}
 use Rattle.step.proofs.PartsTurns.{branchBody-none, branchBody-past, branchBody-fits, branchBody-other, branchBody-later}
 use Rattle.step.proofs.rules.branch_body.Statement.{statement}

@@ -6,7 +6,7 @@ use borrow.Author.Needs.{needs}
 use lib.ListN.{drop}
 use Rattle.calculus.specs.Words.{kindOf}
 use Rattle.step.specs.declared.rules.Found.{Found}
-use Rattle.step.specs.Parts.{withBody, parts}
+use Rattle.step.specs.Rules.{withBody, parts}
 use Rattle.step.proofs.EndsLaws.{ends-later}
 use Rattle.step.proofs.PartsTurns.{branchBody-left, parts-case, caseParts-found}
 use Rattle.step.proofs.PlanLaws.{inspected-after}

@@ -9,7 +9,7 @@ use mir.Val.{toZ, ofZ}
 use mir.ValLaws.{toZ-ofZ}
 use Rattle.calculus.specs.Words.{variableKind, kindOf, payloadOf}
 use Rattle.calculus.specs.Shift.{move}
-use Rattle.substitution.specs.Moves.{Moves}
+use Rattle.substitution.specs.Index.{Moves}
 use Rattle.calculus.proofs.Move.{move-down}
 use Rattle.substitution.proofs.MoveLaws.{moves-down}
 use Rattle.substitution.proofs.RewrittenLaws.{place-argument, place-past, place-bound, place-other}
