@@ -1,7 +1,8 @@
 -- The definitions tried on small tables, by computation. The identity's table is that of "Bench pairs"; the others are made by hand from
 -- the rules of the stored table.
-use Prim.Native.Nat.{ℕ}
+use Prim.Native.Nat.{ℕ, zero, suc}
 use mathlib.Core.Path.{_≡_, refl}
+use mathlib.Core.Bool.{true, false}
 use mathlib.Core.List.{List, [], _∷_, _++_}
 use mathlib.Core.Logic.{Dec·and}
 use mathlib.Core.Option.{bind}
@@ -11,13 +12,14 @@ use native.Mathlib.Omega.{arith}
 use Rattle.calculus.specs.Decide.{both₃, isTag?, startsAbove?, rising?, everywhere?, tagged?, scoped?, accepted?}
 use Rattle.calculus.specs.Read.{takeTerm, takeTerms, takeBranches, readLam, readApp, readCon, readCase, readBranch, item, items, oneTerm, read}
 use Rattle.calculus.specs.Refusal.{number}
+use Rattle.calculus.specs.Words.{constructorKind, caseKind}
 use Rattle.calculus.specs.Workspace.{termAt}
 use Rattle.records.specs.Records.{view, inForm1}
 use Rattle.tables.specs.Meaning.{termOf, meantTerm, meantTerms, meantBranch, meantBranches, meant, meaning}
 use Rattle.records.specs.Header.{wrongLength, wrongHeader}
 use Rattle.records.specs.Values.{valueFits, wrongValue}
 use Rattle.records.specs.Links.{namings, wrongLink}
-use Rattle.records.specs.Children.{childrenFit, wrongChildren}
+use Rattle.records.specs.Children.{numberFits, childrenFit, wrongChildren}
 use Rattle.tables.specs.Load.{Answer, refused, returned, Loaded, loadStored, load}
 use Rattle.tables.specs.PrefixOrder.{InPrefixOrder, nothing, chained}
 use Rattle.tables.specs.Write.{write}
@@ -73,6 +75,15 @@ inspecting =
     ∷ (0, 0, 0, 0)
     ∷ []
 
+-- The records of so many abstractions around the variable 0, the first of them at index i.
+abbrev abstractions : (i number : ℕ) → List Four
+abstractions i zero = (0, 0, 0, 0) ∷ []
+abstractions i (suc k) = (1, 0, suc i, 0) ∷ abstractions (suc i) k
+
+-- The case of the variable 0 with one branch of this value.
+abbrev branching : (value : ℕ) → List ℕ
+branching v = table ((1, 4, 1, 0) ∷ (4, 0, 2, 0) ∷ (0, 0, 0, 3) ∷ (5, v, 4, 0) ∷ (0, 0, 0, 0) ∷ [])
+
 record Tried : Type 0 where
   identity-loads : loading identity ≡ holding 2 14 (1 ∷ 0 ∷ [])
   identity-written : write (1 ∷ 0 ∷ replicate 14 9) 2 (replicate 12 9) ≡ record { answer = returned 2; table = table identity }
@@ -84,23 +95,47 @@ record Tried : Type 0 where
       ≡ record { answer = returned 7; table = table inspecting }
   workspace-of-15 : Refusing 7 (table identity) (replicate 15 9)
   a-word-too-many : Refusing 1 (table identity ++ (0 ∷ [])) fresh
+  a-word-too-few : Refusing 1 (1 ∷ 2 ∷ 1 ∷ 0 ∷ 1 ∷ 0 ∷ 2 ∷ 0 ∷ 0 ∷ 0 ∷ 0 ∷ []) fresh
   no-header : Refusing 1 (1 ∷ 0 ∷ 1 ∷ []) fresh
   no-record : Refusing 1 (table ((1, 0, 0, 0) ∷ [])) fresh
+  records-2048 : Refusing 8 (1 ∷ 2048 ∷ 1 ∷ 0 ∷ replicate 8192 0) fresh
+  records-2049 : Refusing 1 (1 ∷ 2049 ∷ 1 ∷ 0 ∷ replicate 8196 0) fresh
   form-2 : Refusing 2 (table ((2, 1, 1, 0) ∷ (0, 0, 0, 0) ∷ [])) fresh
+  form-0 : Refusing 2 (table ((0, 1, 1, 0) ∷ (0, 0, 0, 0) ∷ [])) fresh
   last-header-word : Refusing 2 (table ((1, 1, 1, 1) ∷ (0, 0, 0, 0) ∷ [])) fresh
   root-outside : Refusing 2 (table ((1, 1, 2, 0) ∷ (0, 0, 0, 0) ∷ [])) fresh
+  root-0 : Refusing 2 (table ((1, 1, 0, 0) ∷ (0, 0, 0, 0) ∷ [])) fresh
+  as-long-as-workspace : loading ((1, 16, 1, 0) ∷ abstractions 1 15) ≡ holding 16 0 (replicate 15 1 ++ (0 ∷ []))
   longer-than-workspace : Refusing 8 (1 ∷ 17 ∷ 1 ∷ 0 ∷ replicate 68 0) fresh
   kind-6 : Refusing 3 (table ((1, 1, 1, 0) ∷ (6, 0, 0, 0) ∷ [])) fresh
-  index-too-large : Refusing 3 (table ((1, 1, 1, 0) ∷ (0, 32768, 0, 0) ∷ [])) fresh
+  index-32767 : Refusing 6 (table ((1, 1, 1, 0) ∷ (0, 32767, 0, 0) ∷ [])) fresh
+  index-32768 : Refusing 3 (table ((1, 1, 1, 0) ∷ (0, 32768, 0, 0) ∷ [])) fresh
   tag-0 : Refusing 3 (table ((1, 1, 1, 0) ∷ (3, 0, 0, 0) ∷ [])) fresh
+  tag-1 : loading ((1, 1, 1, 0) ∷ (3, 1, 0, 0) ∷ []) ≡ holding 1 15 (131 ∷ [])
   tag-255 : loading ((1, 1, 1, 0) ∷ (3, 255, 0, 0) ∷ []) ≡ holding 1 15 (32643 ∷ [])
   tag-256 : Refusing 3 (table ((1, 1, 1, 0) ∷ (3, 256, 0, 0) ∷ [])) fresh
+  branch-tag-0 : Refusing 3 (branching 15) fresh
+  branch-tag-1 : load (branching 16) fresh ≡ holding 4 12 (12 ∷ 0 ∷ 133 ∷ 0 ∷ [])
+  branch-tag-255 : load (branching 4095) fresh ≡ holding 4 12 (12 ∷ 0 ∷ 32765 ∷ 0 ∷ [])
+  branch-tag-256 : Refusing 3 (branching 4096) fresh
   abstraction-with-value : Refusing 3 (table ((1, 2, 1, 0) ∷ (1, 1, 2, 0) ∷ (0, 0, 0, 0) ∷ [])) fresh
+  application-with-value : Refusing 3 (table ((1, 3, 1, 0) ∷ (2, 1, 2, 0) ∷ (0, 0, 0, 3) ∷ (0, 0, 0, 0) ∷ [])) fresh
+  case-with-value : Refusing 3 (table ((1, 2, 1, 0) ∷ (4, 1, 2, 0) ∷ (0, 0, 0, 0) ∷ [])) fresh
   link-to-itself : Refusing 4 (table ((1, 1, 1, 0) ∷ (1, 0, 1, 0) ∷ [])) fresh
+  link-to-itself-alone : Refusing 4 (table ((1, 2, 1, 0) ∷ (0, 0, 0, 0) ∷ (1, 0, 2, 0) ∷ [])) fresh
+  child-before-its-parent : Refusing 4 (table ((1, 3, 1, 0) ∷ (1, 0, 3, 0) ∷ (0, 0, 0, 0) ∷ (1, 0, 2, 0) ∷ [])) fresh
+  next-before-its-sibling : Refusing 4 (table ((1, 3, 1, 0) ∷ (2, 0, 3, 0) ∷ (0, 0, 0, 0) ∷ (0, 0, 0, 2) ∷ [])) fresh
   link-outside : Refusing 4 (table ((1, 2, 1, 0) ∷ (1, 0, 3, 0) ∷ (0, 0, 0, 0) ∷ [])) fresh
+  link-outside-alone : Refusing 4 (table ((1, 1, 1, 0) ∷ (1, 0, 2, 0) ∷ [])) fresh
   named-by-none : Refusing 4 (table ((1, 2, 1, 0) ∷ (0, 0, 0, 0) ∷ (0, 0, 0, 0) ∷ [])) fresh
   named-twice : Refusing 4 (table ((1, 3, 1, 0) ∷ (2, 0, 2, 0) ∷ (1, 0, 3, 3) ∷ (0, 0, 0, 0) ∷ [])) fresh
   variable-with-a-child : Refusing 5 (table ((1, 2, 1, 0) ∷ (0, 0, 2, 0) ∷ (0, 0, 0, 0) ∷ [])) fresh
+  arguments-15 : numberFits constructorKind 15 ≡ true
+  arguments-16 : numberFits constructorKind 16 ≡ false
+  no-subject : numberFits caseKind 0 ≡ false
+  no-branches : numberFits caseKind 1 ≡ true
+  branches-15 : numberFits caseKind 16 ≡ true
+  branches-16 : numberFits caseKind 17 ≡ false
   root-with-a-next : Refusing 5 (table ((1, 2, 1, 0) ∷ (0, 0, 0, 2) ∷ (0, 0, 0, 0) ∷ [])) fresh
   root-a-branch : Refusing 5 (table ((1, 2, 1, 0) ∷ (5, 16, 2, 0) ∷ (0, 0, 0, 0) ∷ [])) fresh
   equal-tags : Refusing 5
@@ -116,9 +151,15 @@ record Tried : Type 0 where
   values-before-links : Refusing 3 (table ((1, 1, 1, 0) ∷ (6, 0, 1, 0) ∷ [])) fresh
   links-before-children : Refusing 4 (table ((1, 2, 1, 0) ∷ (0, 0, 2, 5) ∷ (0, 0, 0, 0) ∷ [])) fresh
   children-before-free-numbers : Refusing 5 (table ((1, 2, 1, 0) ∷ (0, 256, 0, 2) ∷ (0, 0, 0, 0) ∷ [])) fresh
+  all-values-before-links : Refusing 3 (table ((1, 2, 1, 0) ∷ (1, 0, 1, 0) ∷ (6, 0, 0, 0) ∷ [])) fresh
+  all-links-before-children : Refusing 4 (table ((1, 3, 1, 0) ∷ (0, 0, 2, 0) ∷ (0, 0, 0, 0) ∷ (0, 0, 0, 0) ∷ [])) fresh
+  all-children-before-free-numbers : Refusing 5 (table ((1, 3, 1, 0) ∷ (2, 0, 2, 0) ∷ (0, 256, 0, 3) ∷ (1, 0, 0, 0) ∷ [])) fresh
   write-workspace-of-15 : Unwritten 7 (replicate 15 0) 1 (replicate 8 9)
   write-no-term : Unwritten 10 (1 ∷ 0 ∷ replicate 14 0) 1 (replicate 8 9)
+  write-length-0 : Unwritten 10 (1 ∷ 0 ∷ replicate 14 0) 0 (replicate 4 9)
+  write-length-17 : Unwritten 10 (replicate 15 1 ++ (0 ∷ [])) 17 (replicate 72 9)
   write-table-too-long : Unwritten 1 (1 ∷ 0 ∷ replicate 14 0) 2 (replicate 16 9)
+  write-table-too-short : Unwritten 1 (1 ∷ 0 ∷ replicate 14 0) 2 (replicate 11 9)
   write-workspace-before-term : Unwritten 7 (replicate 15 1) 1 (replicate 8 9)
   write-term-before-length : Unwritten 10 (1 ∷ 0 ∷ replicate 14 0) 1 (replicate 7 9)
   in-order : InPrefixOrder (view (inForm1 (table identity)))
@@ -135,23 +176,47 @@ tried =
       case-written = refl;
       workspace-of-15 = (refl, refl);
       a-word-too-many = (refl, refl);
+      a-word-too-few = (refl, refl);
       no-header = (refl, refl);
       no-record = (refl, refl);
+      records-2048 = (refl, refl);
+      records-2049 = (refl, refl);
       form-2 = (refl, refl);
+      form-0 = (refl, refl);
       last-header-word = (refl, refl);
       root-outside = (refl, refl);
+      root-0 = (refl, refl);
+      as-long-as-workspace = refl;
       longer-than-workspace = (refl, refl);
       kind-6 = (refl, refl);
-      index-too-large = (refl, refl);
+      index-32767 = (refl, refl);
+      index-32768 = (refl, refl);
       tag-0 = (refl, refl);
+      tag-1 = refl;
       tag-255 = refl;
       tag-256 = (refl, refl);
+      branch-tag-0 = (refl, refl);
+      branch-tag-1 = refl;
+      branch-tag-255 = refl;
+      branch-tag-256 = (refl, refl);
       abstraction-with-value = (refl, refl);
+      application-with-value = (refl, refl);
+      case-with-value = (refl, refl);
       link-to-itself = (refl, refl);
+      link-to-itself-alone = (refl, refl);
+      child-before-its-parent = (refl, refl);
+      next-before-its-sibling = (refl, refl);
       link-outside = (refl, refl);
+      link-outside-alone = (refl, refl);
       named-by-none = (refl, refl);
       named-twice = (refl, refl);
       variable-with-a-child = (refl, refl);
+      arguments-15 = refl;
+      arguments-16 = refl;
+      no-subject = refl;
+      no-branches = refl;
+      branches-15 = refl;
+      branches-16 = refl;
       root-with-a-next = (refl, refl);
       root-a-branch = (refl, refl);
       equal-tags = (refl, refl);
@@ -164,9 +229,15 @@ tried =
       values-before-links = (refl, refl);
       links-before-children = (refl, refl);
       children-before-free-numbers = (refl, refl);
+      all-values-before-links = (refl, refl);
+      all-links-before-children = (refl, refl);
+      all-children-before-free-numbers = (refl, refl);
       write-workspace-of-15 = (refl, refl);
       write-no-term = (refl, refl);
+      write-length-0 = (refl, refl);
+      write-length-17 = (refl, refl);
       write-table-too-long = (refl, refl);
+      write-table-too-short = (refl, refl);
       write-workspace-before-term = (refl, refl);
       write-term-before-length = (refl, refl);
       in-order = chained (chained nothing nothing) nothing;
