@@ -81,6 +81,11 @@ pub record Computed : Type 0 where
   pub ended : Ended start calls (showing Same 1 1 1)
   pub total-at-its-limit : press (total 999999999) (call 16 7 1 1) .answer ≡ shown (showing Budget 1 4 1)
   pub total-above-its-limit : press (total 1000000000) (call 16 7 1 1) .answer ≡ refused OverBudget
+  -- Presses that meet two refusals, neighbours in the order of the checks, and one that is refused for the right side alone.
+  pub workspace-before-budget : press start (call 15 7 1 1000001) .answer ≡ refused WrongWorkspace
+  pub budget-before-term : press start (call 16 6 1 1000001) .answer ≡ refused OverBudget
+  pub total-before-term : press (total 1000000000) (call 16 7 2 1) .answer ≡ refused OverBudget
+  pub no-term-on-the-right : press start (call 16 7 2 1) .answer ≡ refused NoTerm
 
 -- The identity applied to f0, 2,1,0,0, against f1 in workspaces of C words and from a fresh session: with 16 words a press of budget 0 stops at
 -- Budget and the next one ends in Different; with 20 words one press ends there at once.
@@ -128,6 +133,10 @@ computed =
       ended = refl;
       total-at-its-limit = refl;
       total-above-its-limit = refl;
+      workspace-before-budget = refl;
+      budget-before-term = refl;
+      total-before-term = refl;
+      no-term-on-the-right = refl;
     }
 
 pub apart : Apart
@@ -155,6 +164,7 @@ pub claimed : Claim 16 leftTerm rightTerm start calls
 claimed = every-list-of-presses 16 leftTerm rightTerm start left-holds right-holds calls
 
 pub limits : Limits
+unfolding termAt read items item takeTerm takeTerms takeBranches readLam readApp readCon readCase readBranch oneTerm accepted? everywhere? tagged? both₃ isTag? startsAbove? rising? Dec·and decLe decLt bind
 limits =
     record {
       words-15 = refl;
@@ -167,6 +177,10 @@ limits =
       two-unequal = refl;
       one-of-2048 = refl;
       one-of-2049 = refl;
+      length-0 = refl;
+      length-15 = refl;
+      length-16 = refl;
+      length-17 = refl;
       budget-1000000 = refl;
       budget-1000001 = refl;
       total-1000000000 = refl;
