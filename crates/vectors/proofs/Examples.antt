@@ -1,10 +1,31 @@
--- What some bytes read as, by computation.
+-- What some bytes read as and which lines pass, by computation.
 use mathlib.Core.Path.{refl}
+use mathlib.Core.Logic.{Dec·and}
+use mathlib.Core.Option.{bind, orElse}
+use native.Mathlib.Decide.{ℕ-discrete, decLe, decLt}
+use Rattle.calculus.specs.Decide.{both₃, isTag?, startsAbove?, rising?, everywhere?, tagged?, scoped?, accepted?}
+use Rattle.calculus.specs.Read.{takeTerm, takeTerms, takeBranches, readLam, readApp, readCon, readCase, readBranch, item, items as readItems, oneTerm, read}
+use Rattle.calculus.specs.Step.{firstStep}
+use Rattle.calculus.specs.Leftmost.{leftmost}
+use Rattle.calculus.specs.Equality.{tree, from-trees, equal?}
+use Rattle.calculus.specs.Workspace.{termAt}
+use Rattle.calculus.specs.Rounds.{same, roundsIn, roundsBy}
+use Rattle.press.specs.Press.{press}
+use Rattle.press.specs.Showing.{show}
+use Rattle.records.specs.Header.{wrongLength, wrongHeader}
+use Rattle.records.specs.Values.{valueFits, wrongValue}
+use Rattle.records.specs.Links.{namings, wrongLink}
+use Rattle.records.specs.Children.{childrenFit, wrongChildren}
+use Rattle.tables.specs.Meaning.{termOf, meantTerm, meantTerms, meantBranch, meantBranches, meant, meaning}
+use Rattle.tables.specs.Load.{loadStored}
+use Rattle.tables.specs.Write.{write}
 use Rattle.vectors.specs.Text.{pastSpace, startsWith, after, digits, numberAt, settingAt}
-use Rattle.vectors.specs.Lists.{itemAt, withMore, items, listAt}
-use Rattle.vectors.specs.Stored.{chainFrom}
-use Rattle.vectors.specs.Vector.{shareOf}
-use Rattle.vectors.specs.Examples.{Read-examples}
+use Rattle.vectors.specs.Lists.{itemAt, withMore, items, listAt, comparedAt}
+use Rattle.vectors.specs.Compared.{agree, areWords}
+use Rattle.vectors.specs.Pair.{verdictAt, givenAt, lentAt, refusedAfter, countedAfter, checked, pressStep, shownAfter, stepped, stepsFrom, openedAt, pairRun, pairHolds}
+use Rattle.vectors.specs.Stored.{chainFrom, tableAt, isTable, writesInto, writesBack, loadedAs, loading, loadHolds, writesWords, writeHolds}
+use Rattle.vectors.specs.Vector.{passes, shareOf}
+use Rattle.vectors.specs.Examples.{Read-examples, Passing-examples}
 
 pub read-examples : Read-examples
 unfolding pastSpace startsWith after digits numberAt settingAt itemAt withMore items listAt chainFrom shareOf
@@ -24,4 +45,44 @@ read-examples =
       chain-of-two = refl;
       comment = refl;
       cut-off = refl;
+    }
+
+pub passing-examples : Passing-examples
+unfolding pastSpace startsWith after digits numberAt settingAt itemAt withMore items listAt comparedAt agree areWords verdictAt givenAt lentAt refusedAfter countedAfter checked pressStep shownAfter stepped stepsFrom openedAt pairRun pairHolds chainFrom tableAt isTable writesInto writesBack loadedAs loading loadHolds writesWords writeHolds passes loadStored write wrongLength wrongHeader valueFits wrongValue namings wrongLink childrenFit wrongChildren termOf meantTerm meantTerms meantBranch meantBranches meant meaning press show termAt read readItems item takeTerm takeTerms takeBranches readLam readApp readCon readCase readBranch oneTerm accepted? scoped? everywhere? tagged? both₃ isTag? startsAbove? rising? Dec·and decLe decLt bind orElse firstStep leftmost tree from-trees equal? ℕ-discrete same roundsIn roundsBy
+passing-examples =
+    record {
+      pressed-right = refl;
+      other-verdict = refl;
+      other-spent = refl;
+      other-left = refl;
+      other-right = refl;
+      surplus = refl;
+      refused-right = refl;
+      other-refusal = refl;
+      shown-right = refl;
+      other-shown = refl;
+      loaded-right = refl;
+      other-loaded = refl;
+      unloaded-right = refl;
+      other-unloaded = refl;
+      written-right = refl;
+      other-written = refl;
+      no-keyword = refl;
+      session = refl;
+      session-total = refl;
+      session-left = refl;
+      session-right = refl;
+      session-verdict = refl;
+      answer = refl;
+      answer-spent = refl;
+      answer-left = refl;
+      answer-right = refl;
+      answer-verdict = refl;
+      answer-refused = refl;
+      not-refused = refl;
+      lent = refl;
+      lent-left = refl;
+      lent-right = refl;
+      lent-scratch = refl;
+      lent-last = refl;
     }

@@ -1,15 +1,23 @@
 -- What some bytes read as: a keyword that is there and one that is cut off, a number at its limit and above it, a setting and its default, a list that fits
--- and one that does not, the table of a chain, a comment and a line that is cut off.
+-- and one that does not, the table of a chain, a comment and a line that is cut off. And which lines pass: a right one of each sort, and beside it lines that
+-- expect one thing else; answers, sessions and lent words beside those that a line may expect.
 use Prim.Native.Nat.{ℕ}
 use mathlib.Core.Path.{_≡_}
-use mathlib.Core.Bool.{true, false}
-use mathlib.Core.List.{List, [], _∷_}
+use mathlib.Core.Bool.{Bool, true, false}
+use mathlib.Core.List.{List, [], _∷_, _++_}
 use lib.ListN.{replicate}
+use Rattle.calculus.specs.Rounds.{Same, Different, Budget, Full}
+use Rattle.calculus.specs.Refusal.{NoTerm}
+use Rattle.press.specs.State.{fresh}
+use Rattle.press.specs.Answer.{Answer, refused, shown}
 use Rattle.vectors.specs.Text.{nowhere, after, numberAt, settingAt}
-use Rattle.vectors.specs.Keywords.{leftWord, pressWord}
+use Rattle.vectors.specs.Keywords.{pairWord, loadWord, writeWord, leftWord, pressWord, showWord}
+use Rattle.vectors.specs.Keywords.{sameWord, differentWord, refusedWord, givesWord, writesWord}
 use Rattle.vectors.specs.Lists.{listAt}
+use Rattle.vectors.specs.Answers.{isSession, isShown, isRefused}
+use Rattle.vectors.specs.Pair.{junk, lentAt}
 use Rattle.vectors.specs.Stored.{chain}
-use Rattle.vectors.specs.Vector.{nothing, counted, shareOf}
+use Rattle.vectors.specs.Vector.{nothing, counted, passes, shareOf}
 
 -- ` press 5`
 abbrev pub pressed : List ℕ
@@ -51,3 +59,89 @@ pub record Read-examples : Type 0 where
   pub chain-of-two : chain 2 6 12 ≡ 1 ∷ 2 ∷ 1 ∷ 0 ∷ 1 ∷ 0 ∷ 2 ∷ 0 ∷ 0 ∷ 6 ∷ 0 ∷ 0 ∷ []
   pub comment : shareOf (35 ∷ 120 ∷ []) true ≡ nothing
   pub cut-off : shareOf pressed false ≡ counted false
+
+-- A keyword behind a space, and the numbers ` 0`, ` 1`, ` 8`, ` 16`.
+abbrev pub spaced : List ℕ → List ℕ
+spaced word = 32 ∷ word
+
+abbrev pub n0 : List ℕ
+n0 = 32 ∷ 48 ∷ []
+
+abbrev pub n1 : List ℕ
+n1 = 32 ∷ 49 ∷ []
+
+abbrev pub n8 : List ℕ
+n8 = 32 ∷ 56 ∷ []
+
+abbrev pub n16 : List ℕ
+n16 = 32 ∷ 49 ∷ 54 ∷ []
+
+-- `pair 16 0 8`, and with it a press of budget 0 that should answer a verdict with a number spent and two terms.
+abbrev pub pairing : List ℕ
+pairing = pairWord ++ (n16 ++ (n0 ++ n8))
+
+abbrev pub pressing : (verdict spent left right : List ℕ) → List ℕ
+pressing v s l r = pairing ++ (spaced pressWord ++ (n0 ++ (spaced v ++ (s ++ (l ++ r)))))
+
+-- `pair 16 0 8 left 0 press 0 Refused `
+abbrev pub refusing : List ℕ
+refusing = pairing ++ (spaced leftWord ++ (n0 ++ (spaced pressWord ++ (n0 ++ spaced refusedWord))))
+
+-- ` 1,1,1,0,0,v,0,0` with a digit for v, `load 16 1,1,1,0,0,0,0,0` and `load 16 -`
+abbrev pub tableWith : (digit : ℕ) → List ℕ
+tableWith v = 32 ∷ 49 ∷ 44 ∷ 49 ∷ 44 ∷ 49 ∷ 44 ∷ 48 ∷ 44 ∷ 48 ∷ 44 ∷ v ∷ 44 ∷ 48 ∷ 44 ∷ 48 ∷ []
+
+abbrev pub loading : List ℕ
+loading = loadWord ++ (n16 ++ tableWith 48)
+
+abbrev pub loadingNothing : List ℕ
+loadingNothing = loadWord ++ (n16 ++ (32 ∷ 45 ∷ []))
+
+-- `write 16 0 1 8`
+abbrev pub writing : List ℕ
+writing = writeWord ++ (n16 ++ (n0 ++ (n1 ++ n8)))
+
+-- A press's answer.
+abbrev pub answered : Answer
+answered = shown (record { verdict = Different; spent = 3; left = 1; right = 2 })
+
+-- Whether workspaces of the terms 0 and 8 with a word behind each, and a scratch of two words, are as ` 0 8` says where junk was lent.
+abbrev pub lentOf : (behindLeft behindRight first last : ℕ) → Bool
+lentOf behindLeft behindRight first last =
+    lentAt (n0 ++ n8) 0 (0 ∷ behindLeft ∷ []) (8 ∷ behindRight ∷ []) junk (first ∷ last ∷ []) junk .equal
+
+pub record Passing-examples : Type 0 where
+  pub pressed-right : passes (pressing differentWord n0 n0 n8) ≡ true
+  pub other-verdict : passes (pressing sameWord n0 n0 n8) ≡ false
+  pub other-spent : passes (pressing differentWord n1 n0 n8) ≡ false
+  pub other-left : passes (pressing differentWord n0 n8 n8) ≡ false
+  pub other-right : passes (pressing differentWord n0 n0 n0) ≡ false
+  pub surplus : passes (pressing differentWord n0 n0 n8 ++ n0) ≡ false
+  pub refused-right : passes (refusing ++ (32 ∷ 49 ∷ 48 ∷ [])) ≡ true
+  pub other-refusal : passes (refusing ++ n8) ≡ false
+  pub shown-right : passes (pairing ++ (spaced showWord ++ n0)) ≡ true
+  pub other-shown : passes (pairing ++ (spaced showWord ++ n8)) ≡ false
+  pub loaded-right : passes (loading ++ (spaced givesWord ++ n0)) ≡ true
+  pub other-loaded : passes (loading ++ (spaced givesWord ++ n8)) ≡ false
+  pub unloaded-right : passes (loadingNothing ++ (spaced refusedWord ++ n1)) ≡ true
+  pub other-unloaded : passes (loadingNothing ++ (spaced refusedWord ++ n8)) ≡ false
+  pub written-right : passes (writing ++ (spaced writesWord ++ tableWith 48)) ≡ true
+  pub other-written : passes (writing ++ (spaced writesWord ++ tableWith 56)) ≡ false
+  pub no-keyword : passes pressed ≡ false
+  pub session : isSession fresh 0 0 0 Budget ≡ true
+  pub session-total : isSession fresh 1 0 0 Budget ≡ false
+  pub session-left : isSession fresh 0 1 0 Budget ≡ false
+  pub session-right : isSession fresh 0 0 1 Budget ≡ false
+  pub session-verdict : isSession fresh 0 0 0 Full ≡ false
+  pub answer : isShown answered Different 3 1 2 ≡ true
+  pub answer-spent : isShown answered Different 4 1 2 ≡ false
+  pub answer-left : isShown answered Different 3 2 2 ≡ false
+  pub answer-right : isShown answered Different 3 1 1 ≡ false
+  pub answer-verdict : isShown answered Same 3 1 2 ≡ false
+  pub answer-refused : isShown (refused NoTerm) Different 3 1 2 ≡ false
+  pub not-refused : isRefused answered 10 ≡ false
+  pub lent : lentOf 7 7 7 7 ≡ true
+  pub lent-left : lentOf 0 7 7 7 ≡ false
+  pub lent-right : lentOf 7 0 7 7 ≡ false
+  pub lent-scratch : lentOf 7 7 0 7 ≡ false
+  pub lent-last : lentOf 7 7 7 0 ≡ false
