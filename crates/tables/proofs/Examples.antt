@@ -5,7 +5,7 @@ use mathlib.Core.Path.{_≡_, refl}
 use mathlib.Core.Bool.{true, false}
 use mathlib.Core.List.{List, [], _∷_, _++_}
 use mathlib.Core.Logic.{Dec·and}
-use mathlib.Core.Option.{bind}
+use mathlib.Core.Option.{none, bind}
 use lib.ListN.{replicate}
 use native.Mathlib.Decide.{decLe, decLt}
 use native.Mathlib.Omega.{arith}
@@ -53,6 +53,9 @@ Refusing k ws workspace = Refuses k (load ws workspace .answer) workspace (load 
 
 abbrev Unwritten : ℕ → (workspace : List ℕ) (len : ℕ) (table : List ℕ) → Type 0
 Unwritten k workspace len ws = Refuses k (write workspace len ws .answer) ws (write workspace len ws .table)
+
+abbrev Meaningless : List Four → Type 0
+Meaningless rs = meaning (view (inForm1 (table rs))) ≡ none
 
 abbrev identity : List Four
 identity = (1, 2, 1, 0) ∷ (1, 0, 2, 0) ∷ (0, 0, 0, 0) ∷ []
@@ -162,6 +165,14 @@ record Tried : Type 0 where
   write-table-too-short : Unwritten 1 (1 ∷ 0 ∷ replicate 14 0) 2 (replicate 11 9)
   write-workspace-before-term : Unwritten 7 (replicate 15 1) 1 (replicate 8 9)
   write-term-before-length : Unwritten 10 (1 ∷ 0 ∷ replicate 14 0) 1 (replicate 7 9)
+  -- Refused tables that mean no term: a value where there should be 0, too many children, a branch.
+  abstraction-with-value-means-none : Meaningless ((1, 2, 1, 0) ∷ (1, 1, 2, 0) ∷ (0, 0, 0, 0) ∷ [])
+  application-with-value-means-none : Meaningless ((1, 3, 1, 0) ∷ (2, 1, 2, 0) ∷ (0, 0, 0, 3) ∷ (0, 0, 0, 0) ∷ [])
+  case-with-value-means-none : Meaningless ((1, 2, 1, 0) ∷ (4, 1, 2, 0) ∷ (0, 0, 0, 0) ∷ [])
+  child-of-a-variable-means-none : Meaningless ((1, 2, 1, 0) ∷ (0, 0, 2, 0) ∷ (0, 0, 0, 0) ∷ [])
+  two-bodies-mean-none : Meaningless ((1, 3, 1, 0) ∷ (1, 0, 2, 0) ∷ (0, 0, 0, 3) ∷ (0, 0, 0, 0) ∷ [])
+  three-parts-mean-none : Meaningless ((1, 4, 1, 0) ∷ (2, 0, 2, 0) ∷ (0, 0, 0, 3) ∷ (0, 0, 0, 4) ∷ (0, 0, 0, 0) ∷ [])
+  branch-means-none : Meaningless ((1, 2, 1, 0) ∷ (5, 16, 2, 0) ∷ (0, 0, 0, 0) ∷ [])
   in-order : InPrefixOrder (view (inForm1 (table identity)))
 
 tried : Tried
@@ -240,6 +251,13 @@ tried =
       write-table-too-short = (refl, refl);
       write-workspace-before-term = (refl, refl);
       write-term-before-length = (refl, refl);
+      abstraction-with-value-means-none = refl;
+      application-with-value-means-none = refl;
+      case-with-value-means-none = refl;
+      child-of-a-variable-means-none = refl;
+      two-bodies-mean-none = refl;
+      three-parts-mean-none = refl;
+      branch-means-none = refl;
       in-order = chained (chained nothing nothing) nothing;
     }
 
