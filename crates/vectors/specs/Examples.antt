@@ -50,6 +50,8 @@ pub record Read-examples : Type 0 where
   pub number-largest : numberAt largest 2 ≡ record { value = 4294967295; next = 13 }
   pub number-above : numberAt above 0 ≡ record { value = 0; next = nowhere }
   pub number-none : numberAt list 3 ≡ record { value = 0; next = nowhere }
+  pub number-behind-a-space : numberAt (32 ∷ 53 ∷ []) 0 ≡ record { value = 5; next = 2 }
+  pub number-behind-two : numberAt (32 ∷ 32 ∷ 53 ∷ []) 0 ≡ record { value = 0; next = nowhere }
   pub setting : settingAt given 0 leftWord 9 ≡ record { value = 3; next = 6 }
   pub setting-default : settingAt list 0 leftWord 9 ≡ record { value = 9; next = 0 }
   pub list-fits : listAt list 0 (replicate 5 7) ≡ record { words = 8 ∷ 8 ∷ 8 ∷ 0 ∷ 7 ∷ []; count = 4; next = 5 }
