@@ -7,16 +7,18 @@ use mathlib.Core.Bool.{Bool, true, false}
 use mathlib.Core.List.{List, [], _∷_, _++_}
 use lib.ListN.{replicate}
 use Rattle.calculus.specs.Rounds.{Same, Different, Budget, Full}
-use Rattle.calculus.specs.Refusal.{NoTerm}
-use Rattle.press.specs.State.{fresh}
+use Rattle.calculus.specs.Refusal.{WrongLength, NoTerm}
+use Rattle.press.specs.State.{Session, fresh}
 use Rattle.press.specs.Answer.{Answer, refused, shown}
+use Rattle.tables.specs.Load as tables
 use Rattle.vectors.specs.Text.{nowhere, after, numberAt, settingAt}
 use Rattle.vectors.specs.Keywords.{pairWord, loadWord, writeWord, leftWord, pressWord, showWord}
 use Rattle.vectors.specs.Keywords.{sameWord, differentWord, refusedWord, givesWord, writesWord}
 use Rattle.vectors.specs.Lists.{listAt}
 use Rattle.vectors.specs.Answers.{isSession, isShown, isRefused}
-use Rattle.vectors.specs.Pair.{junk, lentAt}
-use Rattle.vectors.specs.Stored.{chain}
+use Rattle.vectors.specs.Pair.{junk, lentAt, Stage, refusedAfter, countedAfter}
+use Rattle.vectors.specs.Stored.{chain, writtenAs, loadedAs}
+use Rattle.vectors.specs.declared.pair.Lent.{Lent}
 use Rattle.vectors.specs.Vector.{nothing, counted, passes, shareOf}
 
 -- ` press 5`
@@ -62,9 +64,12 @@ pub record Read-examples : Type 0 where
   pub comment : shareOf (35 ∷ 120 ∷ []) true ≡ nothing
   pub cut-off : shareOf pressed false ≡ counted false
 
--- A keyword behind a space, and the numbers ` 0`, ` 1`, ` 8`, ` 16`.
+-- A keyword behind a space, ` -`, and the numbers ` 0`, ` 1`, ` 8`, ` 16`.
 abbrev pub spaced : List ℕ → List ℕ
 spaced word = 32 ∷ word
+
+abbrev pub nothingGiven : List ℕ
+nothingGiven = 32 ∷ 45 ∷ []
 
 abbrev pub n0 : List ℕ
 n0 = 32 ∷ 48 ∷ []
@@ -97,7 +102,7 @@ abbrev pub loading : List ℕ
 loading = loadWord ++ (n16 ++ tableWith 48)
 
 abbrev pub loadingNothing : List ℕ
-loadingNothing = loadWord ++ (n16 ++ (32 ∷ 45 ∷ []))
+loadingNothing = loadWord ++ (n16 ++ nothingGiven)
 
 -- `write 16 0 1 8`
 abbrev pub writing : List ℕ
@@ -112,23 +117,52 @@ abbrev pub lentOf : (behindLeft behindRight first last : ℕ) → Bool
 lentOf behindLeft behindRight first last =
     lentAt (n0 ++ n8) 0 (0 ∷ behindLeft ∷ []) (8 ∷ behindRight ∷ []) junk (first ∷ last ∷ []) junk .equal
 
+-- Where a line goes on after a refusal with the number 1 and after that answer, by whether the lent words are as they should be, and the session.
+abbrev pub renewed : Session
+renewed = record { total = 3; left = 1; right = 2; verdict = Different }
+
+abbrev pub stage : Stage
+stage = record { at = 0; terms = 0; left = 1; right = 2; tail = junk; session = fresh }
+
+abbrev pub lentAs : Bool → Lent
+lentAs equal = record { equal = equal; left = 1; right = 2; next = 9 }
+
+abbrev pub refusedStage : Bool → Session → ℕ
+refusedStage equal session = refusedAfter n1 0 (lentAs equal) (refused WrongLength) session stage .at
+
+abbrev pub countedStage : Bool → Session → ℕ
+countedStage equal session = countedAfter Different 3 0 (lentAs equal) answered session stage .at
+
+-- Whether ` Refused 1` holds of a loading and of a writing that were refused so and left this word in what was lent.
+abbrev pub unloadedFrom : ℕ → Bool
+unloadedFrom w = loadedAs (spaced refusedWord ++ n1) 0 [] (record { answer = tables.refused WrongLength; workspace = w ∷ [] })
+
+abbrev pub unwrittenFrom : ℕ → Bool
+unwrittenFrom w = writtenAs (spaced refusedWord ++ n1) 0 [] 0 (record { answer = tables.refused WrongLength; table = w ∷ [] }) .holds
+
 pub record Passing-examples : Type 0 where
   pub pressed-right : passes (pressing differentWord n0 n0 n8) ≡ true
   pub other-verdict : passes (pressing sameWord n0 n0 n8) ≡ false
   pub other-spent : passes (pressing differentWord n1 n0 n8) ≡ false
   pub other-left : passes (pressing differentWord n0 n8 n8) ≡ false
   pub other-right : passes (pressing differentWord n0 n0 n0) ≡ false
+  pub no-left : passes (pressing differentWord n0 nothingGiven n8) ≡ false
   pub surplus : passes (pressing differentWord n0 n0 n8 ++ n0) ≡ false
   pub refused-right : passes (refusing ++ (32 ∷ 49 ∷ 48 ∷ [])) ≡ true
   pub other-refusal : passes (refusing ++ n8) ≡ false
   pub shown-right : passes (pairing ++ (spaced showWord ++ n0)) ≡ true
   pub other-shown : passes (pairing ++ (spaced showWord ++ n8)) ≡ false
+  pub nothing-shown : passes (pairing ++ (spaced showWord ++ nothingGiven)) ≡ false
   pub loaded-right : passes (loading ++ (spaced givesWord ++ n0)) ≡ true
   pub other-loaded : passes (loading ++ (spaced givesWord ++ n8)) ≡ false
+  pub nothing-loaded : passes (loading ++ (spaced givesWord ++ nothingGiven)) ≡ false
+  pub surplus-loaded : passes (loading ++ (spaced givesWord ++ (n0 ++ n0))) ≡ false
   pub unloaded-right : passes (loadingNothing ++ (spaced refusedWord ++ n1)) ≡ true
   pub other-unloaded : passes (loadingNothing ++ (spaced refusedWord ++ n8)) ≡ false
+  pub surplus-unloaded : passes (loadingNothing ++ (spaced refusedWord ++ (n1 ++ n0))) ≡ false
   pub written-right : passes (writing ++ (spaced writesWord ++ tableWith 48)) ≡ true
   pub other-written : passes (writing ++ (spaced writesWord ++ tableWith 56)) ≡ false
+  pub surplus-written : passes (writing ++ (spaced writesWord ++ (tableWith 48 ++ n0))) ≡ false
   pub no-keyword : passes pressed ≡ false
   pub session : isSession fresh 0 0 0 Budget ≡ true
   pub session-total : isSession fresh 1 0 0 Budget ≡ false
@@ -147,3 +181,13 @@ pub record Passing-examples : Type 0 where
   pub lent-right : lentOf 7 0 7 7 ≡ false
   pub lent-scratch : lentOf 7 7 0 7 ≡ false
   pub lent-last : lentOf 7 7 7 0 ≡ false
+  pub refused-kept : refusedStage true fresh ≡ 2
+  pub refused-words : refusedStage false fresh ≡ nowhere
+  pub refused-session : refusedStage true renewed ≡ nowhere
+  pub counted-renewed : countedStage true renewed ≡ 9
+  pub counted-words : countedStage false renewed ≡ nowhere
+  pub counted-session : countedStage true fresh ≡ nowhere
+  pub unloaded-kept : unloadedFrom junk ≡ true
+  pub unloaded-changed : unloadedFrom 0 ≡ false
+  pub unwritten-kept : unwrittenFrom junk ≡ true
+  pub unwritten-changed : unwrittenFrom 0 ≡ false
