@@ -3,8 +3,8 @@
 use Prim.Native.Nat.{ℕ, _-_}
 use mathlib.Core.Path.{_≡_, refl}
 use mathlib.Core.List.{List, [], _∷_, map}
-use mathlib.Core.Logic.{inr, Dec·and}
-use mathlib.Core.Option.{some, bind, orElse}
+use mathlib.Core.Logic.{inl, inr, Dec·and}
+use mathlib.Core.Option.{some, none, bind, orElse}
 use native.Mathlib.Decide.{ℕ-discrete, decLe, decLt}
 use native.Mathlib.Omega.{arith}
 use lib.ListN.{length, take, replicate}
@@ -24,7 +24,7 @@ use Rattle.press.specs.Limits.{Limits}
 use Rattle.press.specs.Answer.{refused, shown, Memory, Call}
 use Rattle.press.specs.Press.{press}
 use Rattle.press.specs.Presses.{final, history, spentIn, budgetInOneGo}
-use Rattle.press.specs.Claim.{Contains, Ended, inAll, SameTerms, Claim, together}
+use Rattle.press.specs.Claim.{Contains, Again, Ended, inAll, SameTerms, Claim, together}
 use Rattle.press.proofs.Claim.{every-list-of-presses}
 use Rattle.press.proofs.TwoPresses.{two-presses}
 
@@ -58,6 +58,14 @@ total n = record { left = start .left; right = start .right; session = record { 
 abbrev calls : List Call
 calls = call 15 7 1 1 ∷ call 16 7 1 1 ∷ call 16 7 1 1 ∷ call 16 4 1 1000001 ∷ call 16 4 1 1 ∷ []
 
+-- After them one that spends 0 and gives Same again, and one with lengths of earlier terms.
+abbrev later : List Call
+later = call 16 1 1 1000000 ∷ call 16 4 1 1 ∷ []
+
+-- All refused, 7 and 10.
+abbrev refusing : List Call
+refusing = call 15 7 1 1 ∷ call 16 6 1 1 ∷ []
+
 pub record Computed : Type 0 where
   pub answers :
       map (λ e. e .1) (history start calls)
@@ -79,6 +87,8 @@ pub record Computed : Type 0 where
   pub budget-in-one-go : budgetInOneGo (history start calls) ≡ some 2
   pub spent : spentIn (history start calls) ≡ 2
   pub ended : Ended start calls (showing Same 1 1 1)
+  pub later-answers : map (λ e. e .1) (history (final start calls) later) ≡ shown (showing Same 0 1 1) ∷ refused NoTerm ∷ []
+  pub refused-all : budgetInOneGo (history start refusing) ≡ none
   pub total-at-its-limit : press (total 999999999) (call 16 7 1 1) .answer ≡ shown (showing Budget 1 4 1)
   pub total-above-its-limit : press (total 1000000000) (call 16 7 1 1) .answer ≡ refused OverBudget
   -- Presses that meet two refusals, neighbours in the order of the checks, and one that is refused for the right side alone.
@@ -120,6 +130,7 @@ pub record Apart : Type 0 where
   pub second-press : press (press (pair 16) (call 16 4 1 0) .memory) (call 16 4 1 1) .answer ≡ shown (showing Different 1 1 1)
   pub in-two-spent : spentIn (history (pair 16) in-two) ≡ 1
   pub on-first-terms : press (pair 20) (call 20 4 1 1) .answer ≡ shown (showing Different 1 1 1)
+  pub on-first-terms-with-more : press (pair 20) (call 20 4 1 1000000) .answer ≡ shown (showing Different 1 1 1)
 
 pub computed : Computed
 unfolding press termAt read items item takeTerm takeTerms takeBranches readLam readApp readCon readCase readBranch oneTerm accepted? everywhere? tagged? both₃ isTag? startsAbove? rising? Dec·and decLe decLt bind orElse firstStep leftmost tree from-trees equal? ℕ-discrete same roundsIn roundsBy
@@ -131,6 +142,8 @@ computed =
       budget-in-one-go = refl;
       spent = refl;
       ended = refl;
+      later-answers = refl;
+      refused-all = refl;
       total-at-its-limit = refl;
       total-above-its-limit = refl;
       workspace-before-budget = refl;
@@ -152,6 +165,7 @@ apart =
       second-press = refl;
       in-two-spent = refl;
       on-first-terms = refl;
+      on-first-terms-with-more = refl;
     }
 
 pub left-holds : Contains 16 leftTerm (start .left)
@@ -162,6 +176,12 @@ right-holds = record { accepted = omega arith; others = replicate 15 7; contents
 
 pub claimed : Claim 16 leftTerm rightTerm start calls
 claimed = every-list-of-presses 16 leftTerm rightTerm start left-holds right-holds calls
+
+pub unchanged : final start refusing ≡ start
+unchanged = every-list-of-presses 16 leftTerm rightTerm start left-holds right-holds refusing .all-refused (computed .refused-all)
+
+pub stayed : Again (showing Same 0 1 1) (history (final start calls) later) × (final (final start calls) later ≡ final start calls)
+stayed = claimed .stays (showing Same 1 1 1) (computed .ended) (inl refl) later
 
 pub limits : Limits
 unfolding termAt read items item takeTerm takeTerms takeBranches readLam readApp readCon readCase readBranch oneTerm accepted? everywhere? tagged? both₃ isTag? startsAbove? rising? Dec·and decLe decLt bind
@@ -212,6 +232,12 @@ pub again : (showing Different 1 1 1 ≡ inAll (pair 16) in-two (showing Differe
 again =
     claimed-apart .on-first-terms (showing Different 1 1 1) (apart .in-two-ended) (inr refl) 20 (pair 20) (call 20 4 1 1) (omega arith)
     (contracting-holds 20 refl) (other-holds 20 refl) (omega (arith, apart .in-two-spent)) (showing Different 1 1 1) (apart .on-first-terms)
+
+pub again-with-more : (showing Different 1 1 1 ≡ inAll (pair 16) in-two (showing Different 1 1 1))
+    × SameTerms (showing Different 1 1 1) (press (pair 20) (call 20 4 1 1000000) .memory) (final (pair 16) in-two)
+again-with-more =
+    claimed-apart .on-first-terms (showing Different 1 1 1) (apart .in-two-ended) (inr refl) 20 (pair 20) (call 20 4 1 1000000) (omega arith)
+    (contracting-holds 20 refl) (other-holds 20 refl) (omega (arith, apart .in-two-spent)) (showing Different 1 1 1) (apart .on-first-terms-with-more)
 
 pub not-joined : Joined contracting other → ⊥
 not-joined = claimed-apart .different (showing Different 1 1 1) (apart .in-two-ended) refl
