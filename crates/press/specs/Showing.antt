@@ -1,5 +1,5 @@
 -- Showing ("A press", "Numbers for refused calls"): the shorter current form, a part of the workspace that holds it, and the left one at equal
--- lengths; the empty start of the left workspace where a press would be refused with 7 or 10.
+-- lengths; the empty start of the left workspace where refusal 7 or 10 is met.
 use Prim.Native.Nat.{ℕ}
 use mathlib.Core.Bool.{cond}
 use mathlib.Core.List.{List, [], _∷_}

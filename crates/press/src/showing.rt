@@ -3,8 +3,8 @@ ghost use mathlib.Core.Path.{_≡_};
 ghost use Rattle.press.specs.Showing.{show, partOf};
 use words::workspace::sized;
 
-// The shorter current form, a part of the workspace that holds it, the left one at equal lengths; the empty start of the left one where a press
-// would be refused with 7 or 10.
+// The shorter current form, a part of the workspace that holds it, the left one at equal lengths; the empty start of the left one where refusal 7 or
+// 10 is met.
 pub fn show<'a>(
     left: &'a [u32],
     right: &'a [u32],

@@ -1,7 +1,8 @@
 -- The plan of a contraction: its rule and positions in the workspace, found once by the search and tied to the next term by one law (`rest`).
 --
 -- The next term's words are those before the redex, those that stand for the words of the rule's body before `stop`, and the words of the workspace
--- from `end` on. Where the body ends with its argument's index, under no binder, the argument is among the last and `stop` is before that index.
+-- from `end` on. Where the body of a beta redex ends with its argument's index, under no binder, the argument stands first among them and `stop` is before
+-- that index.
 use Prim.Native.Nat.{ℕ, _+_, _-_, _*_, _≤_, _<_}
 use mathlib.Core.Path.{_≡_}
 use mathlib.Core.List.{List, [], _∷_, _++_}
@@ -99,7 +100,7 @@ pub record Selected (ws : List ℕ) (n at left body after count : ℕ) (room : L
   pub after-is : after ≡ at + 2 + span count (drop (at + 2) ws)
   pub few : left ≤ payloadBound
 
--- The next term fits the workspace, what stands before its last words the scratch, and the room the scopes of a walk.
+-- The next term fits the workspace and the scratch, and the scopes of a walk fit the room.
 pub record HasRoom (ws : List ℕ) (n : ℕ) (r : Redex) (scratch room : List ℕ) : Type 0 where
   pub plan : Plans ws n r
   pub fits : r .length ≤ length ws

@@ -22,7 +22,7 @@ pub enum Rule {
 }
 
 // A redex found once: its rule, where it starts, the rule's body and the word that its rewriting stops at, the arguments up to `after` (which means nothing
-// where none is put for a word before that) and their number, where the words start that stay behind the contractum, and the length of the next term.
+// where none is put for a word before `stop`) and their number, where the words start that stay behind the contractum, and the length of the next term.
 pub struct Redex {
     pub rule: Rule,
     pub at: usize,
