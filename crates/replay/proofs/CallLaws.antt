@@ -1,5 +1,5 @@
 -- What the calls leave, as what the operations were to do.
-use Prim.Native.Nat.{ℕ, _-_, _≤_, _<_}
+use Prim.Native.Nat.{ℕ, _+_, _-_, _≤_}
 use mathlib.Core.Path.{_≡_, refl, sym, _∙_, ap}
 use mathlib.Core.List.{List, _++_}
 use native.Mathlib.Omega.{arith}
@@ -12,11 +12,11 @@ use Rattle.tables.specs.declared.Answer.{Answer}
 use Rattle.tables.specs.Types.{writtenOf, answerOf as tableAnswerOf}
 use Rattle.tables.specs.Write.{write}
 use Rattle.words.proofs.PlacedLaws.{sets-whole}
-use Rattle.text.specs.Decode.{wordsFrom}
 use Rattle.replay.specs.declared.script.Call.{Call}
 use Rattle.replay.specs.declared.calls.Kept.{Kept}
 use Rattle.replay.specs.declared.calls.Report.the-variants as report
 use Rattle.replay.specs.declared.script.Side.{Side}
+use Rattle.replay.specs.Script.{tableLimit, roomMost}
 use Rattle.replay.specs.Replay.{filler, afterPress, afterWrite, ofLoad, ofWrite, performLoad, performPress, performWrite, performStore, chosen, changed, replaced, stateOf, Does, Loads}
 
 -- What fits a limit fits a list of that length, and its first words are so many.
@@ -26,6 +26,10 @@ module _ {n limit : ℕ} (xs : List ℕ) (fits : n ≤ limit) (full : length xs 
 
   pub take-full : length (take n xs) ≡ n
   take-full = length-take-le n xs fits-full
+
+-- The room has the words of a table.
+pub within-room : {n : ℕ} → n ≤ tableLimit → n ≤ roomMost
+within-room h = omega arith
 
 -- Words at the start of the room.
 at-front : {n : ℕ} {slice front : List ℕ} (room : List ℕ) → length slice ≡ n → slice ≡ front → slice ++ drop n room ≡ front ++ drop (length front) room
@@ -51,17 +55,17 @@ module _ (call : Call) (kept : Kept) (l r s l′ r′ s′ room : List ℕ) (p :
 
 -- The other calls change neither the scratch nor what is kept.
 module _ (kept : Kept) (l r s : List ℕ) (side : Side) where
-  -- A table by way of the first words of the room.
-  pub load-does : (l′ r′ slice bytes : List ℕ) (at : ℕ) {n limit : ℕ} (room : List ℕ) → n ≤ limit → length room ≡ limit → length slice ≡ length (take n room) → {a : Answer}
-      → Loads side (wordsFrom (length (take n room)) bytes at) l r l′ r′ slice a
-      → Does (performLoad (stateOf l r s kept) side (wordsFrom n bytes at)) s room l′ r′ s (slice ++ drop n room) (record { kept = kept; report = report.Loaded a })
-  load-does l′ r′ slice bytes at {n} room fits full same {a} loads =
-      let is : Loads side (wordsFrom n bytes at) l r l′ r′ slice a = rw (take-full room fits full) at loads in
+  -- A table that stands in the room.
+  pub load-does : (l′ r′ room : List ℕ) (at n : ℕ) {a : Answer} → Loads side (take (at + n - at) (drop at room)) l r l′ r′ a
+      → Does (performLoad (stateOf l r s kept) side (take n (drop at room))) s room l′ r′ s room (record { kept = kept; report = report.Loaded a })
+  load-does l′ r′ room at n {a} loads =
+      let e : at + n - at ≡ n = omega arith in
+      let is : Loads side (take n (drop at room)) l r l′ r′ a = rw e at loads in
       record {
         state = ap (λ ws. record { memory = replaced (memoryOf l r (kept .session)) ws; scratch = take (kept .scratch) s }) (is .workspaces);
         told = ap ofLoad (is .answer);
         behind = refl;
-        placed = at-front room (same ∙ take-full room fits full) (is .slice);
+        placed = refl;
       }
 
   pub write-does : (len : ℕ) {n limit : ℕ} (room : List ℕ) → n ≤ limit → length room ≡ limit → (t : List ℕ) → length t ≡ length (take n room) → (a : Answer)
@@ -96,13 +100,3 @@ filled-all l =
 -- A call on the first words of an array keeps the array's length.
 pub part-kept : {n limit : ℕ} (xs new : List ℕ) → n ≤ limit → length xs ≡ limit → length new ≡ length (take n xs) → length (new ++ drop n xs) ≡ limit
 part-kept {n} xs new fits full same = rw (length-append, same, take-full xs fits full, length-drop) (omega arith)
-
-pub part-again : {n limit : ℕ} (xs new : List ℕ) → n ≤ limit → length xs ≡ limit → length new ≡ length (take n xs)
-    → (n ≤ length (new ++ drop n xs)) × (n ≡ length (take n (new ++ drop n xs)))
-part-again {n} xs new fits full same =
-    let kept = part-kept xs new fits full same in
-    (fits-full (new ++ drop n xs) fits kept, sym (take-full (new ++ drop n xs) fits kept))
-
--- Each operation ends after it starts.
-pub falls : {at next n : ℕ} → at < next → next ≤ n → n - next < n - at
-falls h g = omega arith

@@ -1,5 +1,5 @@
 pub mod ScriptLaws
 pub mod ShowLaws
 pub mod CallLaws
-pub mod WholeLaws
+pub mod StepLaws
 pub mod Examples

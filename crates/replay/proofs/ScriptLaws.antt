@@ -1,20 +1,19 @@
--- What is read of an operation, by its tests in their order.
-use Prim.Native.Nat.{ℕ, zero, suc, _+_, _*_, _≤_, _<_}
+-- What words come to, by the tests in their order.
+use Prim.Native.Nat.{ℕ, zero, suc, _+_, _≤_, _<_}
 use mathlib.Core.Path.{_≡_, refl, _∙_, sym, ap, subst}
-use mathlib.Core.Bool.{Bool, true, false, cond, _&&_, and-false}
+use mathlib.Core.Bool.{Bool, true, false, cond, _&&_}
 use mathlib.Core.List.{List}
 use native.Mathlib.Decide.{decLt}
 use native.Mathlib.Omega.{arith}
 use lib.Dec.{leb, eqb}
-use lib.ListN.{length}
+use lib.ListN.{length, getD}
 use borrow.Author.Tests.{le-leb, lt-leb, leb-true, eqb-true}
 use Rattle.words.proofs.Scan.{both}
-use Rattle.text.specs.Bytes.{wordBytes}
 use Rattle.replay.specs.declared.script.Operands.{Operands}
 use Rattle.replay.specs.declared.script.Operation.{Operation}
 use Rattle.replay.specs.declared.script.Read.{Read}
 use Rattle.replay.specs.declared.script.Read.the-variants as read
-use Rattle.replay.specs.Script.{ahead, nth, operations, wordsOf, mostOf, within, operandsAt, following, operationOf, operationWith, operationAt, Fits, Reads}
+use Rattle.replay.specs.Script.{tableLimit, operations, operandsMost, wordsOf, mostOf, within, operandsIn, following, operationOf, operationWith, operationIn, Fits, Standing, Reads}
 
 -- Only the numbers of the table have words.
 pub number-unknown : (n : ℕ) → operations ≤ n → wordsOf n ≡ 0
@@ -35,8 +34,20 @@ number-known n h = go (decLt n operations)
     go (yes l) = l
     go (no g) = absurd (omega (arith, number-unknown n (omega arith)))
 
+-- No operation has more words of its own.
+pub words-most : (n : ℕ) → wordsOf n ≤ suc operandsMost
+words-most zero = omega arith
+words-most (suc zero) = omega arith
+words-most (suc (suc zero)) = omega arith
+words-most (suc (suc (suc zero))) = omega arith
+words-most (suc (suc (suc (suc zero)))) = omega arith
+words-most (suc (suc (suc (suc (suc zero))))) = omega arith
+words-most (suc (suc (suc (suc (suc (suc zero)))))) = omega arith
+words-most (suc (suc (suc (suc (suc (suc (suc zero))))))) = omega arith
+words-most (suc (suc (suc (suc (suc (suc (suc (suc n)))))))) = omega arith
+
 -- What the operations need of their operands: the length of a scratch and of a table within their limits.
-module _ (bytes : List ℕ) (o : Operands) (from : ℕ) where
+module _ (words : List ℕ) (o : Operands) (from : ℕ) where
   by-number : (P : Operation → Type 0) (n k : ℕ) {a b : Operation} → (n ≡ k → P a) → P b → P (cond (eqb n k) a b)
   by-number P n k {a} {b} here other = go (eqb n k) refl
     where
@@ -54,65 +65,69 @@ module _ (bytes : List ℕ) (o : Operands) (from : ℕ) where
       let two = both (first && second) third three .0 in
       (leb-true _ _ (both first second two .0), leb-true _ _ (both first second two .1), leb-true _ _ (both (first && second) third three .1))
 
-  operation-fits : (n : ℕ) → within n o ≡ true → from + wordBytes * following n o ≤ length bytes → Fits bytes (operationOf n o from)
+  operation-fits : (n : ℕ) → within n o ≡ true → from + following n o ≤ length words → Fits words (operationOf n o from)
   operation-fits n h inside =
       let at : (k : ℕ) → n ≡ k → within k o ≡ true = λ k e. subst (λ j. within j o ≡ true) e h in
-      by-number (Fits bytes) n 1 (λ e. (operands-within 1 (at 1 e) .1, subst (λ j. from + wordBytes * following j o ≤ length bytes) e inside))
-      (by-number (Fits bytes) n 2 (λ e. operands-within 2 (at 2 e) .0)
-      (by-number (Fits bytes) n 3 (λ e. tt)
-      (by-number (Fits bytes) n 4 (λ e. operands-within 4 (at 4 e) .2)
-      (by-number (Fits bytes) n 5 (λ e. tt)
-      (by-number (Fits bytes) n 6 (λ e. tt) tt)))))
+      by-number (Fits words) n 1 (λ e. subst (λ j. from + following j o ≤ length words) e inside)
+      (by-number (Fits words) n 2 (λ e. operands-within 2 (at 2 e) .0)
+      (by-number (Fits words) n 3 (λ e. tt)
+      (by-number (Fits words) n 4 (λ e. operands-within 4 (at 4 e) .2)
+      (by-number (Fits words) n 5 (λ e. tt)
+      (by-number (Fits words) n 6 (λ e. tt) tt)))))
 
-module _ (bytes : List ℕ) (at : ℕ) where
-  pub none-ahead : ahead bytes at < 1 → Reads bytes at (operationAt bytes at) read.Broken
-  unfolding operationAt
-  none-ahead h = record { meaning = rw (lt-leb 1 (ahead bytes at) h); standing = tt }
+  -- What follows an operation's own words is a table's at most.
+  following-most : (n : ℕ) → within n o ≡ true → following n o ≤ tableLimit
+  following-most n h = go (eqb n 1) refl
+    where
+      go : (t : Bool) → eqb n 1 ≡ t → cond t (o .second) 0 ≤ tableLimit
+      go true e = operands-within 1 (subst (λ j. within j o ≡ true) (eqb-true n 1 e) h) .1
+      go false e = omega arith
 
-  module _ {n count : ℕ} (n-is : n ≡ nth bytes at 0) (count-is : count ≡ wordsOf n) where
-    counted : count ≡ wordsOf (nth bytes at 0)
-    counted = count-is ∙ ap wordsOf n-is
+module _ (words : List ℕ) {n count : ℕ} (n-is : n ≡ getD words 0 0) (count-is : count ≡ wordsOf n) where
+  counted : count ≡ wordsOf (getD words 0 0)
+  counted = count-is ∙ ap wordsOf n-is
 
-    pub no-words : count < 1 → Reads bytes at (operationAt bytes at) read.Broken
-    unfolding operationAt
-    no-words h = record { meaning = rw (lt-leb 1 (wordsOf (nth bytes at 0)) (omega (arith, counted)), and-false); standing = tt }
+  pub no-words : count < 1 → Reads words (operationIn words) read.Broken
+  unfolding operationIn
+  no-words h = record { meaning = rw (lt-leb 1 (wordsOf (getD words 0 0)) (omega (arith, counted))); standing = tt }
 
-    pub words-missing : ahead bytes at < count → Reads bytes at (operationAt bytes at) read.Broken
-    unfolding operationAt
-    words-missing h = record { meaning = rw (lt-leb (wordsOf (nth bytes at 0)) (ahead bytes at) (omega (arith, counted)), and-false, and-false); standing = tt }
+  module _ (some : 1 ≤ count) where
+    pub own-open : length words < count → Reads words (operationIn words) read.Open
+    unfolding operationIn
+    own-open h =
+        record {
+          meaning = rw (le-leb 1 (wordsOf (getD words 0 0)) (omega (arith, counted)), lt-leb (wordsOf (getD words 0 0)) (length words) (omega (arith, counted)));
+          standing = omega (arith, count-is, words-most n);
+        }
 
-    module _ {o : Operands} (o-is : o ≡ operandsAt bytes at count) (some : 1 ≤ count) (enough : count ≤ ahead bytes at) where
-      as-counted : operationAt bytes at ≡ operationWith bytes at (nth bytes at 0) (wordsOf (nth bytes at 0)) (operandsAt bytes at (wordsOf (nth bytes at 0)))
-      unfolding operationAt
-      as-counted =
-          rw (le-leb 1 (ahead bytes at) (omega arith), le-leb 1 (wordsOf (nth bytes at 0)) (omega (arith, counted)), le-leb (wordsOf (nth bytes at 0)) (ahead bytes at) (omega (arith, counted)))
+    module _ {o : Operands} (o-is : o ≡ operandsIn words count) (enough : count ≤ length words) where
+      as-counted : operationIn words
+          ≡ operationWith (length words) (getD words 0 0) (wordsOf (getD words 0 0)) (operandsIn words (wordsOf (getD words 0 0)))
+      unfolding operationIn
+      as-counted = rw (le-leb 1 (wordsOf (getD words 0 0)) (omega (arith, counted)), le-leb (wordsOf (getD words 0 0)) (length words) (omega (arith, counted)))
 
-      with-operands : operationAt bytes at ≡ operationWith bytes at n count o
+      with-operands : operationIn words ≡ operationWith (length words) n count o
       with-operands = rw (o-is, counted, n-is) as-counted
 
-      reads : {r : Read} → Reads bytes at (operationWith bytes at n count o) r → Reads bytes at (operationAt bytes at) r
-      reads is = record { meaning = is .meaning ∙ sym with-operands; standing = is .standing }
+      reads : {r : Read} → r ≡ operationWith (length words) n count o → Standing words r → Reads words (operationIn words) r
+      reads is standing = record { meaning = is ∙ sym with-operands; standing = standing }
 
-      pub not-within : within n o ≡ false → Reads bytes at (operationAt bytes at) read.Broken
+      pub not-within : within n o ≡ false → Reads words (operationIn words) read.Broken
       unfolding operationWith
-      not-within e = reads (record { meaning = rw e; standing = tt })
+      not-within e = reads (rw e) tt
 
-      module _ {more : ℕ} (more-is : more ≡ following n o) where
-        pub missing-behind : ahead bytes at < count + more → Reads bytes at (operationAt bytes at) read.Broken
+      module _ (inside : within n o ≡ true) {more : ℕ} (more-is : more ≡ following n o) where
+        pub still-open : length words < count + more → Reads words (operationIn words) read.Open
         unfolding operationWith
-        missing-behind h = reads (record { meaning = rw (lt-leb (count + following n o) (ahead bytes at) (omega (arith, more-is)), and-false); standing = tt })
-
-        pub whole : count + more ≤ ahead bytes at → within n o ≡ true → at ≤ length bytes → {operation : Operation}
-            → operation ≡ operationOf n o (at + wordBytes * count)
-            → Reads bytes at (operationAt bytes at) (read.Whole operation (at + wordBytes * (count + more)))
-        unfolding operationWith
-        whole all e inside is =
+        still-open h =
             reads
-            (record {
-              meaning = rw (is, more-is, e, le-leb (count + following n o) (ahead bytes at) (omega (arith, more-is)));
-              standing = (
-                omega arith,
-                omega arith,
-                rw is (operation-fits bytes o (at + wordBytes * count) n e (omega (arith, more-is))),
-              );
-            })
+            (rw (inside, lt-leb (count + following n o) (length words) (omega (arith, more-is))))
+            (omega (arith, more-is, following-most words o count n inside, count-is, words-most n))
+
+        pub whole : count + more ≤ length words → {operation : Operation} → operation ≡ operationOf n o count
+            → Reads words (operationIn words) (read.Whole operation)
+        unfolding operationWith
+        whole all is =
+            reads
+            (rw (is, inside, le-leb (count + following n o) (length words) (omega (arith, more-is))))
+            (rw is (operation-fits words o count n inside (omega (arith, more-is))))

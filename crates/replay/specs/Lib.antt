@@ -1,4 +1,5 @@
--- What a script asks, and what its operations do and tell.
+-- What a script asks, what its operations do and tell, and a script word by word.
 pub mod Script
 pub mod Replay
+pub mod Steps
 pub mod Examples

@@ -17,7 +17,6 @@ use Rattle.tables.specs.Write.{write}
 use Rattle.tables.specs.Write as written
 use Rattle.tables.specs.declared.Answer as codeAnswer
 use Rattle.tables.specs.Types.{answerOf as tableAnswerOf}
-use Rattle.text.specs.Decode.{wordsFrom}
 use Rattle.replay.specs.declared.script.Side.{Side}
 use Rattle.replay.specs.declared.script.Side.the-variants as side
 use Rattle.replay.specs.declared.script.Call.{Call}
@@ -28,7 +27,7 @@ use Rattle.replay.specs.declared.calls.Part.{Part}
 use Rattle.replay.specs.declared.calls.Report.{Report}
 use Rattle.replay.specs.declared.calls.Report.the-variants as report
 use Rattle.replay.specs.declared.calls.Done.{Done}
-use Rattle.replay.specs.Script.{tableLimit}
+use Rattle.replay.specs.Script.{tableLimit, roomMost}
 
 -- What is kept from operation to operation: both workspaces and the session, and the last press's scratch at exit.
 pub record State : Type 0 where
@@ -79,7 +78,7 @@ performLoad s side table =
             scratch = s .scratch;
           };
       told = ofLoad (loaded .answer);
-      front = table;
+      front = [];
     }
 
 abbrev pub afterPress : press.Pressed → Performed
@@ -110,13 +109,13 @@ performStore s side at word =
       front = [];
     }
 
--- What an operation of a script does and tells.
-abbrev pub performed : (bytes : List ℕ) → Operation → State → Performed
-performed bytes (operation.Load side at table) s = performLoad s side (wordsFrom table bytes at)
-performed bytes (operation.Press call) s = performPress s call
-performed bytes (operation.Show l r) s = performShow s l r
-performed bytes (operation.Write side len table) s = performWrite s side len table
-performed bytes (operation.Set session) s =
+-- What an operation that stands in words does and tells.
+abbrev pub performed : (words : List ℕ) → Operation → State → Performed
+performed words (operation.Load side at table) s = performLoad s side (take table (drop at words))
+performed words (operation.Press call) s = performPress s call
+performed words (operation.Show l r) s = performShow s l r
+performed words (operation.Write side len table) s = performWrite s side len table
+performed words (operation.Set session) s =
     record {
       state =
           record {
@@ -126,8 +125,8 @@ performed bytes (operation.Set session) s =
       told = ofSet;
       front = [];
     }
-performed bytes (operation.Store side at word) s = performStore s side at word
-performed bytes operation.Print s = record { state = s; told = ofPrint; front = [] }
+performed words (operation.Store side at word) s = performStore s side at word
+performed words operation.Print s = record { state = s; told = ofPrint; front = [] }
 
 -- The state in lent slices: the scratch is the first words of a longer slice.
 abbrev pub stateOf : (left right scratch : List ℕ) → Kept → State
@@ -158,13 +157,12 @@ pub record Does (due : Performed) (scratch room left′ right′ scratch′ room
   pub behind : drop (r .kept .scratch) scratch′ ≡ drop (r .kept .scratch) scratch
   pub placed : room′ ≡ due .front ++ drop (length (due .front)) room
 
--- Loading by itself, by way of a slice that holds the table afterwards: both workspaces, and the answer.
-pub record Loads (side : Side) (table left right left′ right′ slice′ : List ℕ) (r : codeAnswer.Answer) : Type 0 where
+-- Loading by itself: both workspaces, and the answer.
+pub record Loads (side : Side) (table left right left′ right′ : List ℕ) (r : codeAnswer.Answer) : Type 0 where
   pub workspaces : (left′, right′) ≡ changed side left right (load table (chosen side left right) .workspace)
-  pub slice : slice′ ≡ table
   pub answer : tableAnswerOf r ≡ load table (chosen side left right) .answer
 
 -- The slices are as long as the operations need.
 pub record Lent (scratch room : List ℕ) : Type 0 where
   pub scratch-full : length scratch ≡ tableLimit
-  pub room-full : length room ≡ tableLimit
+  pub room-full : length room ≡ roomMost

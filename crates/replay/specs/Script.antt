@@ -1,15 +1,13 @@
--- What a script asks: operations of little-endian words, one after the other. Each starts with its number and has its operands behind it.
-use Prim.Native.Nat.{ℕ, zero, suc, _+_, _*_, _-_, _/_, _≤_, _<_}
+-- What a script asks: operations of words, one after the other. Each starts with its number and has its operands behind it.
+use Prim.Native.Nat.{ℕ, suc, _+_, _*_, _≤_, _<_}
 use mathlib.Core.Path.{_≡_}
-use mathlib.Core.Bool.{Bool, true, false, cond, _&&_}
+use mathlib.Core.Bool.{Bool, cond, _&&_}
 use mathlib.Core.List.{List, [], _∷_}
 use lib.Dec.{leb, ltb, eqb}
 use lib.ListN.{length, getD}
 use Rattle.calculus.specs.Words.{workspaceMost}
 use Rattle.rounds.specs.declared.Verdict.{Verdict}
 use Rattle.rounds.specs.declared.Verdict.the-variants as verdict
-use Rattle.text.specs.Bytes.{wordBytes}
-use Rattle.text.specs.Decode.{wordAt}
 use Rattle.records.specs.Records.{form1}
 use Rattle.replay.specs.declared.script.Side.{Side}
 use Rattle.replay.specs.declared.script.Side.the-variants as side
@@ -18,17 +16,6 @@ use Rattle.replay.specs.declared.script.Operation.{Operation}
 use Rattle.replay.specs.declared.script.Operation.the-variants as operation
 use Rattle.replay.specs.declared.script.Read.{Read}
 use Rattle.replay.specs.declared.script.Read.the-variants as read
-
--- The whole words from a position on, and the k-th of them.
-abbrev pub ahead : List ℕ → (at : ℕ) → ℕ
-ahead bytes at = (length bytes - at) / wordBytes
-
-abbrev pub nth : List ℕ → (at k : ℕ) → ℕ
-nth bytes at k = wordAt bytes (at + wordBytes * k)
-
--- The most bytes of a script: 32,768 words.
-abbrev pub scriptMost : ℕ
-scriptMost = wordBytes * 32768
 
 -- The sides' numbers: 0 left, 1 right.
 abbrev pub sideMost : ℕ
@@ -103,16 +90,16 @@ within n o =
     ((leb (o .first) (mostOf n 0) && leb (o .second) (mostOf n 1)) && leb (o .third) (mostOf n 2)) && leb (o .fourth) (mostOf n 3)
 
 -- The operands that stand behind the number; 0 for those that the operation does not have.
-abbrev pub operandAt : List ℕ → (at count k : ℕ) → ℕ
-operandAt bytes at count k = cond (ltb k count) (nth bytes at k) 0
+abbrev pub operandAt : List ℕ → (count k : ℕ) → ℕ
+operandAt words count k = cond (ltb k count) (getD words k 0) 0
 
-unfoldable pub operandsAt : List ℕ → (at count : ℕ) → Operands
-operandsAt bytes at count =
+unfoldable pub operandsIn : List ℕ → (count : ℕ) → Operands
+operandsIn words count =
     record {
-      first = operandAt bytes at count 1;
-      second = operandAt bytes at count 2;
-      third = operandAt bytes at count 3;
-      fourth = operandAt bytes at count 4;
+      first = operandAt words count 1;
+      second = operandAt words count 2;
+      third = operandAt words count 3;
+      fourth = operandAt words count 4;
     }
 
 -- How many words follow the operation's own: those of a load's table.
@@ -131,55 +118,42 @@ operationOf n o from =
     (record { total = o .first; left = o .second; right = o .third; verdict = verdictNumbered (o .fourth) }))
     (cond (eqb n 6) (operation.Store (sideOf (o .first)) (o .second) (o .third)) operation.Print)))))
 
--- The operation of a number with these operands and so many words that stands at a position, if all its words are there and its operands are within
--- their limits.
-unfoldable pub operationWith : List ℕ → (at number count : ℕ) → Operands → Read
-operationWith bytes at n count o =
-    cond (within n o && leb (count + following n o) (ahead bytes at))
-    (read.Whole (operationOf n o (at + wordBytes * count)) (at + wordBytes * (count + following n o)))
-    read.Broken
+-- What so many words come to that start with a number of so many words and these operands: an operand may be beyond its limit, and words that follow
+-- may be still to come.
+unfoldable pub operationWith : (words number count : ℕ) → Operands → Read
+operationWith words n count o =
+    cond (within n o) (cond (leb (count + following n o) words) (read.Whole (operationOf n o count)) read.Open) read.Broken
 
--- The operation that stands at a position.
-unfoldable pub operationAt : List ℕ → (at : ℕ) → Read
-operationAt bytes at =
-    let n = nth bytes at 0 in
+-- What words come to, one at least: a whole operation, the start of one, or neither.
+unfoldable pub operationIn : List ℕ → Read
+operationIn words =
+    let n = getD words 0 0 in
     let count = wordsOf n in
-    cond (leb 1 (ahead bytes at) && (leb 1 count && leb count (ahead bytes at)))
-    (operationWith bytes at n count (operandsAt bytes at count))
+    cond (leb 1 count)
+    (cond (leb count (length words)) (operationWith (length words) n count (operandsIn words count)) read.Open)
     read.Broken
 
--- What an operation needs lies within the bytes, a table's and a scratch's length within their limit.
-abbrev pub Fits : List ℕ → Operation → Type 0
-Fits bytes (operation.Load side at table) = (table ≤ tableLimit) × (at + wordBytes * table ≤ length bytes)
-Fits bytes (operation.Press call) = call .scratch ≤ tableLimit
-Fits bytes (operation.Show left right) = Unit {0}
-Fits bytes (operation.Write side len table) = table ≤ tableLimit
-Fits bytes (operation.Set session) = Unit {0}
-Fits bytes (operation.Store side at word) = Unit {0}
-Fits bytes operation.Print = Unit {0}
+-- Room for the words of every operation: its own, and a table's.
+abbrev pub roomMost : ℕ
+roomMost = suc operandsMost + tableLimit
 
--- An operation that was read goes on from there, and stays within the bytes.
-abbrev pub Standing : List ℕ → (at : ℕ) → Read → Type 0
-Standing bytes at (read.Whole o next) = (at < next) × (next ≤ length bytes) × Fits bytes o
-Standing bytes at read.Broken = Unit {0}
+-- What an operation needs lies within the words, a table's and a scratch's length within their limit.
+abbrev pub Fits : (words : List ℕ) → Operation → Type 0
+Fits words (operation.Load side at table) = at + table ≤ length words
+Fits words (operation.Press call) = call .scratch ≤ tableLimit
+Fits words (operation.Show left right) = Unit {0}
+Fits words (operation.Write side len table) = table ≤ tableLimit
+Fits words (operation.Set session) = Unit {0}
+Fits words (operation.Store side at word) = Unit {0}
+Fits words operation.Print = Unit {0}
 
--- What was read at a position is what was to be read there.
-pub record Reads (bytes : List ℕ) (at : ℕ) (due r : Read) : Type 0 where
+-- Words that are a whole operation have all that it needs, and there is room for a further one where one is to come.
+abbrev pub Standing : (words : List ℕ) → Read → Type 0
+Standing words (read.Whole o) = Fits words o
+Standing words read.Open = length words < roomMost
+Standing words read.Broken = Unit {0}
+
+-- What was read is what was to be read in the words.
+pub record Reads (words : List ℕ) (due r : Read) : Type 0 where
   pub meaning : r ≡ due
-  pub standing : Standing bytes at r
-
--- Whether operations stand one after the other from a position to the end of the bytes, at most `bound` of them.
-abbrev pub wholeAfter : (rec : ℕ → Bool) → Read → Bool
-wholeAfter rec (read.Whole o next) = rec next
-wholeAfter rec read.Broken = false
-
-unfoldable pub wholeFrom : (bound : ℕ) → List ℕ → (at : ℕ) → Bool
-wholeFrom zero bytes at = true
-wholeFrom (suc k) bytes at = cond (ltb at (length bytes)) (wholeAfter (wholeFrom k bytes) (operationAt bytes at)) true
-
--- A script has at most 32,768 words: both workspaces' C, then operations to the end. There are fewer operations than bytes.
-abbrev pub firstAt : ℕ
-firstAt = 2 * wordBytes
-
-unfoldable pub isScript : List ℕ → Bool
-isScript bytes = leb (length bytes) scriptMost && (leb firstAt (length bytes) && wholeFrom (length bytes) bytes firstAt)
+  pub standing : Standing words r

@@ -6,10 +6,9 @@ use press::answer::Answer;
 use press::answer::Pressed;
 use press::state::Session;
 use session::press_owned;
-use text::bytes::words_from;
 use words::slices::fill;
 ghost use mathlib.Core.Path.{_≡_};
-ghost use Prim.Native.Nat.{_≤_, _+_, _*_};
+ghost use Prim.Native.Nat.{_≤_};
 ghost use lib.ListN.{length, replicate, set};
 ghost use lib.ListN.{length as List·length};
 ghost use Rattle.press.specs.Press.{press};
@@ -18,8 +17,6 @@ ghost use Rattle.press.specs.Types.{memoryOf, callOf, pressedOf};
 ghost use Rattle.tables.specs.Load.{load};
 ghost use Rattle.tables.specs.Write.{write};
 ghost use Rattle.tables.specs.Types.{writtenOf};
-ghost use Rattle.text.specs.Bytes.{wordBytes};
-ghost use Rattle.text.specs.Decode.{wordsFrom};
 ghost use Rattle.replay.specs.Script.{Fits};
 ghost use Rattle.replay.specs.Replay.{filler, chosen, changed, sideShown, partOf};
 ghost use Rattle.replay.specs.Replay.{performPress, performed, stateOf, Does, Loads, Lent};
@@ -136,19 +133,10 @@ fn show<'a>(left: &'a [u32], right: &'a [u32], left_length: usize, right_length:
     }
 }
 
-// Loads the table whose bytes stand at a position, by way of a slice of its length.
-fn load(
-    bytes: &[u8],
-    at: usize,
-    side: Side,
-    left: &mut [u32],
-    right: &mut [u32],
-    table: &mut [u32],
-) -> tables::Answer
-    requires { ⌜ at + wordBytes * length (now table) ≤ length (now bytes) ⌝ }
-    ensures { λ r. ⌜ Loads side (wordsFrom (length (now (table .entry))) (now (bytes .entry)) at) (now (left .entry)) (now (right .entry)) (now (left .exit)) (now (right .exit)) (now (table .exit)) r ⌝ }
+// Loads a table into the workspace of a side.
+fn load(side: Side, left: &mut [u32], right: &mut [u32], table: &[u32]) -> tables::Answer
+    ensures { λ r. ⌜ Loads side (now (table .entry)) (now (left .entry)) (now (right .entry)) (now (left .exit)) (now (right .exit)) r ⌝ }
 {
-    words_from(bytes, at, table);
     match side {
         Side::Left => tables::load(table, left),
         Side::Right => tables::load(table, right),
@@ -197,23 +185,24 @@ fn store(side: Side, at: usize, word: u32, left: &mut [u32], right: &mut [u32])
     }
 }
 
-// Performs an operation: the slices and what is kept are then the state that it leaves, and the report is what it tells.
+// Performs an operation whose words stand at the start of the room: the slices and what is kept are then the state that it leaves, and the report is what
+// it tells.
 pub fn perform(
     operation: Operation,
-    bytes: &[u8],
     left: &mut [u32],
     right: &mut [u32],
     scratch: &mut [u32],
     room: &mut [u32],
     kept: Kept,
 ) -> Done
-    requires { ⌜ Fits (now bytes) operation ⌝ }
+    requires { ⌜ Fits (now room) operation ⌝ }
     requires { ⌜ Lent (now scratch) (now room) ⌝ }
-    ensures { λ r. ⌜ Does (performed (now (bytes .entry)) operation (stateOf (now (left .entry)) (now (right .entry)) (now (scratch .entry)) kept)) (now (scratch .entry)) (now (room .entry)) (now (left .exit)) (now (right .exit)) (now (scratch .exit)) (now (room .exit)) r ⌝ }
+    ensures { λ r. ⌜ Does (performed (now (room .entry)) operation (stateOf (now (left .entry)) (now (right .entry)) (now (scratch .entry)) kept)) (now (scratch .entry)) (now (room .entry)) (now (left .exit)) (now (right .exit)) (now (scratch .exit)) (now (room .exit)) r ⌝ }
 {
     match operation {
         Operation::Load { side, at, words } => {
-            let answer = load(bytes, at, side, left, right, &mut room[..words]);
+            let end = at + words;
+            let answer = load(side, left, right, &room[at..end]);
             let report = Report::Loaded(answer);
             Done { kept, report }
         }

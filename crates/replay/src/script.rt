@@ -1,15 +1,13 @@
-// What a script asks: operations of little-endian words, one after the other. The first word of an operation is its number; one table tells how many
+// What a script asks: operations of words, one after the other. The first word of an operation is its number; one table tells how many
 // words each has, and one the largest number that each of its operands may be.
 use press::state::Session;
 use rounds::Verdict;
-use text::bytes::WORD_BYTES;
-use text::bytes::word_at;
 use words::Word;
 ghost use mathlib.Core.Path.{_≡_};
 ghost use Prim.Native.Nat.{_≤_, _<_};
 ghost use lib.ListN.{length};
-ghost use Rattle.replay.specs.Script.{ahead, nth, sideOf, verdictNumbered, operations, operandsMost, wordsOf, mostOf};
-ghost use Rattle.replay.specs.Script.{operandAt, operandsAt, within, following, operationOf, operationAt, Reads};
+ghost use Rattle.replay.specs.Script.{sideOf, verdictNumbered, operations, operandsMost, wordsOf, mostOf};
+ghost use Rattle.replay.specs.Script.{operandAt, operandsIn, within, following, operationOf, operationIn, Reads};
 
 // The operations' numbers. 7 is a print, and 0 is none.
 const LOAD: u32 = 1;
@@ -45,6 +43,9 @@ const ANY: u32 = 4294967295;
 
 // No operation has more operands.
 const OPERANDS: usize = 4;
+
+// Room for the words of every operation: its own, and a table's.
+pub const ROOM_MOST: usize = 1 + OPERANDS + TABLE_MOST;
 
 // A line for each operation: the largest numbers of its operands.
 const MOST: [u32; OPERATIONS * OPERANDS] = [
@@ -103,7 +104,7 @@ pub struct Call {
     pub budget: u32,
 }
 
-// A table is told by the position of its first byte, and its words.
+// A table is told by the position of its first word among the operation's, and its words.
 pub enum Operation {
     Load {
         side: Side,
@@ -129,27 +130,11 @@ pub enum Operation {
     Print,
 }
 
-// The operation that stands at a position and the position after it, if one does.
+// What words come to: the start of an operation, a whole one, or neither.
 pub enum Read {
-    Whole { operation: Operation, next: usize },
+    Open,
+    Whole(Operation),
     Broken,
-}
-
-// The whole words from a position on.
-fn ahead(bytes: &[u8], at: usize) -> usize
-    requires { ⌜ at ≤ length (now bytes) ⌝ }
-    ensures { λ r. ⌜ r ≡ ahead (now (bytes .entry)) at ⌝ }
-{
-    (bytes.len() - at) / WORD_BYTES
-}
-
-// The k-th of them.
-fn nth(bytes: &[u8], at: usize, k: usize) -> u32
-    requires { ⌜ at ≤ length (now bytes) ⌝ }
-    requires { ⌜ k < ahead (now bytes) at ⌝ }
-    ensures { λ r. ⌜ r ≡ nth (now (bytes .entry)) at k ⌝ }
-{
-    word_at(bytes, at + WORD_BYTES * k)
 }
 
 fn side_of(number: u32) -> Side
@@ -203,25 +188,25 @@ fn within(number: u32, o: Operands) -> bool
 }
 
 // The k-th word of an operation of so many words.
-fn operand_at(bytes: &[u8], at: usize, words: usize, k: usize) -> u32
-    requires { ⌜ (at ≤ length (now bytes)) × (words ≤ ahead (now bytes) at) ⌝ }
-    ensures { λ r. ⌜ r ≡ operandAt (now (bytes .entry)) at words k ⌝ }
+fn operand_at(words: &[u32], count: usize, k: usize) -> u32
+    requires { ⌜ count ≤ length (now words) ⌝ }
+    ensures { λ r. ⌜ r ≡ operandAt (now (words .entry)) count k ⌝ }
 {
-    if k < words {
-        return nth(bytes, at, k);
+    if k < count {
+        return words[k];
     }
     0
 }
 
-fn operands_at(bytes: &[u8], at: usize, words: usize) -> Operands
-    requires { ⌜ (at ≤ length (now bytes)) × (words ≤ ahead (now bytes) at) ⌝ }
-    ensures { λ r. ⌜ r ≡ operandsAt (now (bytes .entry)) at words ⌝ }
+fn operands_in(words: &[u32], count: usize) -> Operands
+    requires { ⌜ count ≤ length (now words) ⌝ }
+    ensures { λ r. ⌜ r ≡ operandsIn (now (words .entry)) count ⌝ }
 {
     Operands {
-        first: operand_at(bytes, at, words, 1),
-        second: operand_at(bytes, at, words, 2),
-        third: operand_at(bytes, at, words, 3),
-        fourth: operand_at(bytes, at, words, 4),
+        first: operand_at(words, count, 1),
+        second: operand_at(words, count, 2),
+        third: operand_at(words, count, 3),
+        fourth: operand_at(words, count, 4),
     }
 }
 
@@ -275,35 +260,26 @@ fn operation_of(number: u32, o: Operands, from: usize) -> Operation
     }
 }
 
-// The operation that stands at a position.
-pub fn operation_at(bytes: &[u8], at: usize) -> Read
-    requires { ⌜ at ≤ length (now bytes) ⌝ }
-    ensures { λ r. ⌜ Reads (now (bytes .entry)) at (operationAt (now (bytes .entry)) at) r ⌝ }
+// What words come to.
+pub fn operation_in(words: &[u32]) -> Read
+    requires { ⌜ 1 ≤ length (now words) ⌝ }
+    ensures { λ r. ⌜ Reads (now (words .entry)) (operationIn (now (words .entry))) r ⌝ }
 {
-    let ahead = ahead(bytes, at);
-    if ahead < 1 {
+    let number = words[0];
+    let count = words_of(number);
+    if count < 1 {
         return Read::Broken;
     }
-    let number = nth(bytes, at, 0);
-    let words = words_of(number);
-    if words < 1 {
-        return Read::Broken;
+    if words.len() < count {
+        return Read::Open;
     }
-    if ahead < words {
-        return Read::Broken;
-    }
-    let operands = operands_at(bytes, at, words);
+    let operands = operands_in(words, count);
     if !within(number, operands) {
         return Read::Broken;
     }
     let more = following(number, operands);
-    if ahead - words < more {
-        return Read::Broken;
+    if words.len() - count < more {
+        return Read::Open;
     }
-    let from = at + WORD_BYTES * words;
-    let next = at + WORD_BYTES * (words + more);
-    Read::Whole {
-        operation: operation_of(number, operands, from),
-        next,
-    }
+    Read::Whole(operation_of(number, operands, count))
 }

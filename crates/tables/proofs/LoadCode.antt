@@ -34,7 +34,7 @@ module _ (S : Stored) (workspace : List ℕ) (h : firstMet (checks S (length wor
   unmet : NoneMet (checks S (length workspace))
   unmet = none-first (checks S (length workspace)) h
 
-  pub passed : Passes S (length workspace)
+  passed : Passes S (length workspace)
   passed = passes S (length workspace) unmet
 
   meant : Meant (view S)

@@ -15,13 +15,19 @@ use records::header::wrong_workspace;
 use records::links::wrong_links;
 use records::root;
 use records::values::wrong_values;
+use words::Word;
 use words::clear;
 use words::is_term;
 use words::refusal::Refusal;
+use words::slices::copy;
 use writing::put_records;
 ghost use mathlib.Core.Path.{_≡_};
 ghost use mathlib.Core.Bool.{false};
+ghost use Prim.Native.Nat.{_≤_};
+ghost use lib.ListN.{length};
+ghost use Rattle.words.specs.Placed.{Placed};
 ghost use Rattle.records.specs.Header.{wrongLength, wrongHeader};
+ghost use Rattle.tables.specs.Reading.{termWords, Readable};
 ghost use Rattle.tables.specs.Load.{recordChecks, checks, firstMet, load};
 ghost use Rattle.tables.specs.Write.{write};
 ghost use Rattle.records.specs.Types.{stored, viewed};
@@ -77,6 +83,18 @@ fn record_met(table: &[u32], form: Form) -> Check
     Check::Passed
 }
 
+// Puts the words of the term that a table means at the start of a workspace, and returns how many they are.
+fn put_term(table: &[u32], form: Form, workspace: &mut [u32]) -> usize
+    requires { ⌜ Readable (stored form (now table)) (viewed form (now table) .root) × (1 ≤ viewed form (now table) .root) ⌝ }
+    requires { ⌜ length (termWords (viewed form (now table)) (viewed form (now table) .root)) ≤ length (now workspace) ⌝ }
+    ensures { λ r. ⌜ Placed (now (workspace .entry)) 0 (termWords (viewed form (now (table .entry))) (viewed form (now (table .entry)) .root)) (now (workspace .exit)) r ⌝ }
+{
+    let mut words = [0u32; Word::WORKSPACE_MOST];
+    let end = read_term(table, form, root(table), &mut words, 0);
+    copy(&words, 0, end, workspace, 0);
+    end
+}
+
 // Puts the term that a table means into a workspace, with zeros after it. A refusal changes nothing.
 pub fn load(table: &[u32], workspace: &mut [u32]) -> Answer
     ensures { λ r. ⌜ loadedOf r (now (workspace .exit)) ≡ load (now (table .entry)) (now (workspace .entry)) ⌝ }
@@ -85,7 +103,7 @@ pub fn load(table: &[u32], workspace: &mut [u32]) -> Answer
     match first_met(table, form, workspace.len()) {
         Check::Met(refusal) => Answer::Refused(refusal),
         Check::Passed => {
-            let end = read_term(table, form, root(table), workspace, 0);
+            let end = put_term(table, form, workspace);
             clear(workspace, end);
             Answer::Returned(end)
         }

@@ -6,10 +6,14 @@ use words::Word;
 ghost use mathlib.Core.Path.{_≡_};
 ghost use Prim.Native.Nat.{_+_, _≤_};
 ghost use lib.ListN.{length};
-ghost use Rattle.calculus.specs.Words.{word};
+ghost use Rattle.calculus.specs.Words.{word, workspaceMost};
 ghost use Rattle.words.specs.Placed.{Placed};
 ghost use Rattle.records.specs.Types.{stored, viewed};
 ghost use Rattle.tables.specs.Reading.{payload, Wordable, chainWords, termWords, Readable};
+
+// Room for the words of every term that a workspace holds. The readers are lent an array and no slice: a reference to an array is one machine word, so each
+// level of a table takes less machine stack.
+pub type Words = [u32; Word::WORKSPACE_MOST];
 
 // The payload of a record of this kind and value with so many children, and its word.
 fn payload(kind: u32, value: u32, children: usize) -> u32
@@ -31,33 +35,27 @@ fn word(kind: u32, value: u32, children: usize) -> Word
 }
 
 // Writes the words of record `at` with its children from position `out` on, and returns the position after them.
-pub fn read_term(table: &[u32], form: Form, at: usize, workspace: &mut [u32], out: usize) -> usize
+pub fn read_term(table: &[u32], form: Form, at: usize, words: &mut Words, out: usize) -> usize
     requires { ⌜ Readable (stored form (now table)) at × (1 ≤ at) ⌝ }
-    requires { ⌜ out + length (termWords (viewed form (now table)) at) ≤ length (now workspace) ⌝ }
-    ensures { λ r. ⌜ Placed (now (workspace .entry)) out (termWords (viewed form (now (table .entry))) at) (now (workspace .exit)) r ⌝ }
+    requires { ⌜ out + length (termWords (viewed form (now table)) at) ≤ workspaceMost ⌝ }
+    ensures { λ r. ⌜ Placed (now (words .entry)) out (termWords (viewed form (now (table .entry))) at) (now (words .exit)) r ⌝ }
 {
     let record = Record::at(table, form, at);
     let first = record.first;
     let children = chain_length(table, form, first);
-    workspace[out] = word(record.kind, record.value, children).0;
-    read_chain(table, form, first, workspace, out + 1)
+    words[out] = word(record.kind, record.value, children).0;
+    read_chain(table, form, first, words, out + 1)
 }
 
 // The same of the chain from a link.
-fn read_chain(table: &[u32], form: Form, link: usize, workspace: &mut [u32], out: usize) -> usize
+fn read_chain(table: &[u32], form: Form, link: usize, words: &mut Words, out: usize) -> usize
     requires { ⌜ Readable (stored form (now table)) link ⌝ }
-    requires { ⌜ out + length (chainWords (viewed form (now table)) link) ≤ length (now workspace) ⌝ }
-    ensures { λ r. ⌜ Placed (now (workspace .entry)) out (chainWords (viewed form (now (table .entry))) link) (now (workspace .exit)) r ⌝ }
+    requires { ⌜ out + length (chainWords (viewed form (now table)) link) ≤ workspaceMost ⌝ }
+    ensures { λ r. ⌜ Placed (now (words .entry)) out (chainWords (viewed form (now (table .entry))) link) (now (words .exit)) r ⌝ }
 {
     if link == 0 {
         return out;
     }
-    let end = read_term(table, form, link, workspace, out);
-    read_chain(
-        table,
-        form,
-        Record::at(table, form, link).next,
-        workspace,
-        end,
-    )
+    let end = read_term(table, form, link, words, out);
+    read_chain(table, form, Record::at(table, form, link).next, words, end)
 }

@@ -5,8 +5,6 @@ use crate::press::{press, show, Answer, Session, Side, Verdict};
 use crate::refusal::Refusal;
 use crate::table::{load, write};
 
-/// The most words of a script.
-pub const LONGEST_SCRIPT: usize = 32_768;
 /// Every word of a scratch or of a table to be written, before the call.
 const FILLING: u32 = 7;
 /// The verdicts in the order of their numbers in a script.
@@ -83,11 +81,8 @@ pub fn run(input: &[u8]) -> Transcript {
 }
 
 /// The machine that a script starts with and the script's operations, unless
-/// the script is too long or too short to be started.
+/// the script is too short to be started.
 pub fn start(input: &[u8]) -> Option<(Machine, Script<'_>)> {
-    if input.len() > LONGEST_SCRIPT * size_of::<u32>() {
-        return None;
-    }
     let mut words = Words { ahead: input };
     let machine = Machine::new(words.word()?, words.word()?);
     Some((machine, Script { words }))

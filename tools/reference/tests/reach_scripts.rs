@@ -461,10 +461,10 @@ fn broken(bytes: &[u8]) -> String {
     })
 }
 
-/// Ways in which a script breaks off, and lengths at their limit.
+/// Ways in which a script breaks off, and long scripts.
 const BREAKS: [&str; 27] = [
-    "32,768 words",
-    "32,769 words",
+    "long",
+    "long and broken",
     "no start",
     "some bytes",
     "operation 0",
@@ -502,13 +502,14 @@ fn broken_scripts_are_broken_in_every_way() {
                 continue;
             }
             let input = scripts::script(43, case);
-            census.meet_if(input.len() == 4 * 32_768, "32,768 words");
-            census.meet_if(input.len() == 4 * 32_769, "32,769 words");
+            let long = input.len() >= 4 * scripts::LONG;
             census.meet_if(input.len() < 8, "no start");
             let transcript = replay::run(&input);
             if transcript.events.last() != Some(&Event::Script) {
+                census.meet_if(long, "long");
                 continue;
             }
+            census.meet_if(long, "long and broken");
             if let Some(unread) = each_call(&input, |_, _, _| {}) {
                 let unread = unread.min(input.len() - 8);
                 census.meet(broken(&input[input.len() - unread..]));

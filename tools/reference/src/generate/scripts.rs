@@ -8,7 +8,7 @@ use crate::generate::terms::{term, Style};
 use crate::input::bytes;
 use crate::press::{Session, Side, LARGEST_BUDGET, LARGEST_TOTAL};
 use crate::random::Random;
-use crate::replay::{Event, Machine, Operation, LONGEST_SCRIPT, VERDICTS};
+use crate::replay::{Event, Machine, Operation, VERDICTS};
 use crate::table::{LONGEST_TABLE, RECORD};
 use crate::term::{var, Term, WORKSPACE};
 use crate::words::kind;
@@ -40,6 +40,10 @@ pub fn script(seed: u64, case: u64) -> Vec<u8> {
 /// A budget that is soon spent on any terms.
 const FEW_ROUNDS: u32 = 100;
 
+/// The words of a long script, at least: a program that keeps whole scripts
+/// needs much room for it.
+pub const LONG: usize = 40_000;
+
 /// A script in the making, with the state that its operations lead to.
 struct Composer {
     words: Vec<u32>,
@@ -60,13 +64,8 @@ impl Composer {
         }
     }
 
-    /// Adds an operation, unless the script would become too long by it.
     fn add(&mut self, operation: Operation) {
-        let words = encoded(&operation);
-        if self.words.len() + words.len() > LONGEST_SCRIPT {
-            return;
-        }
-        self.words.extend(words);
+        self.words.extend(encoded(&operation));
         match (
             self.machine.apply(&operation, &mut String::new()),
             operation,
@@ -473,27 +472,24 @@ fn cut_operation(random: &mut Random) -> Vec<u32> {
     operation[..random.between(1, operation.len() - 1)].to_vec()
 }
 
-/// A script of exactly the greatest length, or one word longer.
+/// A long script, whose operations have many lengths; half of them break off.
 fn long_script(random: &mut Random, mut composer: Composer) -> Vec<u8> {
-    let fillers = [
-        Operation::Store {
-            side: Side::Left,
-            at: u32::MAX,
-            word: 1,
-        },
-        Operation::Show { lengths: (0, 0) },
-    ];
-    for filler in fillers {
-        let step = encoded(&filler).len();
-        while composer.words.len() + step < LONGEST_SCRIPT {
-            composer.add(filler.clone());
-        }
+    while composer.words.len() < LONG {
+        let (side, at) = (any_side(random), u32::MAX);
+        let operation = match random.below(8) {
+            0 => Operation::Load {
+                side,
+                table: vec![2; random.below(LONGEST_TABLE + 1)],
+            },
+            1 => Operation::Show { lengths: (0, 0) },
+            2 => Operation::SetSession(any_session(random)),
+            _ => Operation::Store { side, at, word: 1 },
+        };
+        composer.add(operation);
     }
-    while composer.words.len() < LONGEST_SCRIPT {
-        composer.print();
+    composer.print();
+    match random.percent(50) {
+        true => broken_script(random, composer),
+        false => bytes(&composer.words),
     }
-    if random.percent(50) {
-        composer.words.push(7);
-    }
-    bytes(&composer.words)
 }

@@ -1,8 +1,15 @@
 -- `perform` meets its contract, operation by operation.
-use mathlib.Core.Path.{refl, sym, ap, subst}
+use Prim.Native.Nat.{ℕ, _+_, _≤_}
+use mathlib.Core.Path.{_≡_, refl, sym, ap, subst}
+use mathlib.Core.List.{List}
+use native.Mathlib.Omega.{arith}
+use lib.ListN.{length}
+use Rattle.replay.specs.declared.script.Side.{Side}
+use Rattle.replay.specs.declared.script.Operation.{Operation}
+use Rattle.replay.specs.declared.script.Operation.the-variants as operation
 use Rattle.replay.specs.Script.{Fits}
 use Rattle.replay.specs.Replay.{ofShow}
-use Rattle.replay.proofs.CallLaws.{fits-full, take-full, load-does, store-does, write-does}
+use Rattle.replay.proofs.CallLaws.{fits-full, take-full, within-room, load-does, store-does, write-does}
 use borrow.Author.Needs.{needs}
 use Rattle.replay.proofs.calls.perform.Statement.{statement}
 use Rattle.replay.proofs.calls.perform.Tie as tie
@@ -10,20 +17,33 @@ use Rattle.replay.proofs.calls.perform.Tie as tie
 enum-known-operation : tie.Need-enum-known-operation
 enum-known-operation c = search needs
 
-slice-relend-prefix-load : tie.Need-slice-relend-prefix-load
-slice-relend-prefix-load c = fits-full (c .before .before .before .before .before .before .before .before .before .before .args .room .now) (subst (Fits _) (c .before .before .before .operation .given .1) (c .before .before .before .before .before .before .before .before .before .before .pre .0) .0) (c .before .before .before .before .before .before .before .before .before .before .pre .1 .room-full)
+-- The table lies within the room.
+load-fits : (room : List ℕ) {o : Operation} {side : Side} {at words : ℕ} → o ≡ operation.Load side at words → Fits room o → at + words ≤ length room
+load-fits room e fits = subst (Fits room) e fits
 
-slice-aggregate-load : tie.Need-slice-aggregate-load
-slice-aggregate-load c = sym (take-full (c .before .before .before .before .before .before .before .before .before .before .before .args .room .now) (subst (Fits _) (c .before .before .before .before .operation .given .1) (c .before .before .before .before .before .before .before .before .before .before .before .pre .0) .0) (c .before .before .before .before .before .before .before .before .before .before .before .pre .1 .room-full))
+add-end : tie.Need-add-end
+add-end c = omega (arith, load-fits _ (c .before .operation .given .1) (c .before .before .before .before .before .before .before .pre .0), c .before .before .before .before .before .before .before .pre .1 .room-full)
+
+mul-load : tie.Need-mul-load
+mul-load c = omega (arith, load-fits _ (c .before .before .before .operation .given .1) (c .before .before .before .before .before .before .before .before .before .pre .0), c .before .before .before .before .before .before .before .before .before .pre .1 .room-full)
+
+sub-load : tie.Need-sub-load
+sub-load c = search needs
+
+part-load-start : tie.Need-part-load-start
+part-load-start c = search needs
+
+part-load-end : tie.Need-part-load-end
+part-load-end c = load-fits _ (c .before .before .before .before .operation .given .1) (c .before .before .before .before .before .before .before .before .before .before .pre .0)
 
 load-requires : tie.Need-load-requires
-load-requires c κs = let f = subst (Fits _) (c .before .before .before .before .operation .given .1) (c .before .before .before .before .before .before .before .before .before .before .before .pre .0) in rw (take-full (c .before .before .before .before .before .before .before .before .before .before .before .args .room .now) (f .0) (c .before .before .before .before .before .before .before .before .before .before .before .pre .1 .room-full)) (f .1)
+load-requires c κs = search needs
 
 enum-known-operation-2 : tie.Need-enum-known-operation-2
 enum-known-operation-2 c = search needs
 
 press-requires : tie.Need-press-requires
-press-requires c κs = fits-full (c .before .before .before .before .before .before .before .before .before .before .before .before .args .scratch .now) (subst (Fits _) (c .before .before .before .before .before .operation2 .given .1) (c .before .before .before .before .before .before .before .before .before .before .before .before .pre .0)) (c .before .before .before .before .before .before .before .before .before .before .before .before .pre .1 .scratch-full)
+press-requires c κs = let start = c .before .before .before .before .before .before .before .before .before .before .before in fits-full (start .args .scratch .now) (subst (Fits _) (c .before .before .before .before .before .operation2 .given .1) (start .pre .0)) (start .pre .1 .scratch-full)
 
 enum-known-operation-3 : tie.Need-enum-known-operation-3
 enum-known-operation-3 c = search needs
@@ -35,10 +55,10 @@ enum-known-operation-4 : tie.Need-enum-known-operation-4
 enum-known-operation-4 c = search needs
 
 slice-relend-prefix-write : tie.Need-slice-relend-prefix-write
-slice-relend-prefix-write c = fits-full (c .before .before .before .before .before .before .before .before .before .before .args .room .now) (subst (Fits _) (c .before .before .before .operation4 .given .1) (c .before .before .before .before .before .before .before .before .before .before .pre .0)) (c .before .before .before .before .before .before .before .before .before .before .pre .1 .room-full)
+slice-relend-prefix-write c = let start = c .before .before .before .before .before .before .before .before .before in fits-full (start .args .room .now) (within-room (subst (Fits _) (c .before .before .before .operation4 .given .1) (start .pre .0))) (start .pre .1 .room-full)
 
 slice-aggregate-write : tie.Need-slice-aggregate-write
-slice-aggregate-write c = sym (take-full (c .before .before .before .before .before .before .before .before .before .before .before .args .room .now) (subst (Fits _) (c .before .before .before .before .operation4 .given .1) (c .before .before .before .before .before .before .before .before .before .before .before .pre .0)) (c .before .before .before .before .before .before .before .before .before .before .before .pre .1 .room-full))
+slice-aggregate-write c = let start = c .before .before .before .before .before .before .before .before .before .before in sym (take-full (start .args .room .now) (within-room (subst (Fits _) (c .before .before .before .before .operation4 .given .1) (start .pre .0))) (start .pre .1 .room-full))
 
 write-requires : tie.Need-write-requires
 write-requires c κs = search needs
@@ -66,10 +86,9 @@ same-length-3 c = search needs
 
 returns : tie.Need-returns
 returns c =
-    let start = c .before .before .before .before .before .before .before .before .before .before .before .before .before .before .before .before .before .before in
-    let loaded = c .before .before .before .before .before .before .load in
-    let f = subst (Fits _) (c .before .before .before .before .before .before .before .before .before .before .before .operation .given .1) (c .before .before .before .before .before .before .before .before .before .before .before .before .before .before .before .before .before .before .pre .0) in
-    rw (c .before .before .before .before .before .before .before .before .before .before .before .operation .given .1) (load-does (start .args .kept) _ _ _ _ _ _ (loaded .last .1 .1 .1 .1 .1 .0) (start .args .bytes .now) _ (start .args .room .now) (f .0) (start .pre .1 .room-full) (loaded .kept .1 .1 .1 .1 .1 .0) (loaded .ensures))
+    let start = c .before .before .before .before .before .before .before .before .before .before .before .before .before .before .before .before in
+    let call = c .before .before .before .before .before .before .before .before .before .before .operation .given in
+    rw (call .1) (load-does (start .args .kept) _ _ _ _ _ _ (start .args .room .now) (call .0 .1 .0) (call .0 .1 .1 .0) (c .before .before .before .before .load .ensures))
 
 same-length-4 : tie.Need-same-length-4
 same-length-4 c = search needs
@@ -106,11 +125,11 @@ same-length-12 c = search needs
 
 returns-4 : tie.Need-returns-4
 returns-4 c =
-    let start = c .before .before .before .before .before .before .before .before .before .before .before .before .before .before in
+    let start = c .before .before .before .before .before .before .before .before .before .before .before .before .before in
     let call = c .before .before .before .before .before .before .before .operation4 .given in
     let wrote = c .before .before .write in
     rw (call .1)
-    (write-does (start .args .kept) (start .args .left .now) (start .args .right .now) _ (call .0 .0) (call .0 .1 .0) (start .args .room .now) (subst (Fits _) (call .1) (start .pre .0)) (start .pre .1 .room-full) (wrote .last .1 .1 .1 .1 .0) (wrote .kept .1 .1 .1 .1 .0) (wrote .result) (wrote .ensures))
+    (write-does (start .args .kept) (start .args .left .now) (start .args .right .now) _ (call .0 .0) (call .0 .1 .0) (start .args .room .now) (within-room (subst (Fits _) (call .1) (start .pre .0))) (start .pre .1 .room-full) (wrote .last .1 .1 .1 .1 .0) (wrote .kept .1 .1 .1 .1 .0) (wrote .result) (wrote .ensures))
 
 returns-5 : tie.Need-returns-5
 returns-5 c = rw (c .before .operation5 .given .1) (record { state = refl; told = refl; behind = refl; placed = refl })
@@ -123,7 +142,7 @@ same-length-14 c = search needs
 
 returns-6 : tie.Need-returns-6
 returns-6 c =
-    let start = c .before .before .before .before .before .before .before .before .before .before .before .before .before .before .before in
+    let start = c .before .before .before .before .before .before .before .before .before .before .before .before .before .before in
     let call = c .before .before .before .before .before .before .before .before .operation6 .given in
     rw (call .1)
     (store-does (start .args .kept) (start .args .left .now) (start .args .right .now) _ (call .0 .0) _ _ _ (call .0 .1 .0) (call .0 .1 .1 .0) (c .before .before .before .before .store .ensures))
@@ -136,8 +155,11 @@ perform-spec =
     tie.close
     (tie.spec
     enum-known-operation
-    slice-relend-prefix-load
-    slice-aggregate-load
+    add-end
+    mul-load
+    sub-load
+    part-load-start
+    part-load-end
     load-requires
     enum-known-operation-2
     press-requires

@@ -4,14 +4,11 @@ use borrow.Author.Needs.{needs}
 use Rattle.replay.proofs.script.operand_at.Statement.{statement}
 use Rattle.replay.proofs.script.operand_at.Tie as tie
 
-nth-requires : tie.Need-nth-requires
-nth-requires c κs = search needs
-
 returns : tie.Need-returns
-returns c = rw (lt-ltb _ _ (c .before .if1 .taken)) (c .nth .ensures)
+returns c = rw (lt-ltb _ _ (c .before .if1 .taken))
 
 returns-2 : tie.Need-returns-2
 returns-2 c = rw (le-ltb _ _ (c .if1 .left))
 
 pub operand-at-spec : {M : Type 1} → statement M
-operand-at-spec = tie.close (tie.spec nth-requires returns returns-2)
+operand-at-spec = tie.close (tie.spec (λ c. search needs) (λ c. search needs) returns returns-2)

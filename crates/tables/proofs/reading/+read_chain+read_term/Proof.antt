@@ -1,9 +1,9 @@
 -- The readers meet their contracts, as one cycle of calls.
 use Prim.Native.Nat.{ℕ, _+_, _*_, _<_}
-use mathlib.Core.Path.{refl, ap, _∙_}
+use mathlib.Core.Path.{refl, ap}
 use native.Mathlib.Nat.{pos-of-ne-zero}
 use native.Mathlib.Omega.{arith}
-use lib.ListN.{length, length-set}
+use lib.ListN.{length}
 use borrow.Fn.Kinds.{In}
 use borrow.Fn.PlainCycle.{Measures, is, falls, and}
 use Rattle.records.specs.Types.{stored, viewed, recordOf}
@@ -11,7 +11,7 @@ use Rattle.tables.specs.Reading.{ahead, chainWords}
 use Rattle.records.proofs.RecordLaws.{parts}
 use Rattle.records.proofs.Walks.{walk-inside}
 use Rattle.tables.proofs.Meaning.ReadingLaws.{chainWords-end, ReadOn, read-on, term-read}
-use Rattle.words.proofs.PlacedLaws.{placed-none, placed-cons, placed-append, placed-length}
+use Rattle.words.proofs.PlacedLaws.{placed-none, placed-cons, placed-append}
 use Rattle.tables.proofs.reading.read_chain.Reads as read-chain
 use Rattle.tables.proofs.reading.read_chain.Kinds as read-chain-kinds
 use Rattle.tables.proofs.reading.+read_chain+read_term.Lts-read_chain as read-chain-lts
@@ -61,54 +61,44 @@ term-claims t = (
 )
 
 read-chain-returns : (t : ℕ) → read-chain-lts.Need-returns (chain-claims t) (read-chain-at t) read-chain.Post
-read-chain-returns t c = rw (chainWords-end (viewed (c .before .before .before .args .form) (c .before .before .before .args .table .now)) _ (c .if1 .taken)) (placed-none _ _)
+read-chain-returns t c = rw (chainWords-end (viewed (c .before .before .args .form) (c .before .before .args .table .now)) _ (c .if1 .taken)) (placed-none _ _)
 
 read-chain-read-term-requires : (t : ℕ) → read-chain-lts.Need-read-term-requires (chain-claims t) (read-chain-at t) read-chain.Post
 read-chain-read-term-requires t c κs =
-    let start = c .before .before .before .before in
+    let start = c .before .before .before in
     let p = start .pre .1 in
     let positive = pos-of-ne-zero (c .before .if1 .left) in
     (omega (arith, start .pre .0), ((p .0, positive), omega (arith, p .1, read-on _ _ _ (p .0) positive refl .words-length)))
 
 read-chain-at-requires : (t : ℕ) → read-chain-lts.Need-at-requires (chain-claims t) (read-chain-at t) read-chain.Post
-read-chain-at-requires t c κs = walk-inside _ _ (c .before .before .before .before .before .before .before .pre .1 .0 .walkable)
+read-chain-at-requires t c κs = walk-inside _ _ (c .before .before .before .before .pre .1 .0 .walkable)
 
 read-chain-read-chain-requires : (t : ℕ) → read-chain-lts.Need-read-chain-requires (chain-claims t) (read-chain-at t) read-chain.Post
 read-chain-read-chain-requires t c κs =
-    let start = c .before .before .before .before .before .before .before .before .before in
+    let start = c .before .before .before .before .before .before in
     let p = start .pre .1 in
-    let positive = pos-of-ne-zero (c .before .before .before .before .before .before .if1 .left) in
-    let read = c .before .before .before .before .read-term in
-    let r = c .before .at in
-    let on = read-on _ _ _ (p .0) positive (r .ensures) in (
+    let positive = pos-of-ne-zero (c .before .before .before .before .if1 .left) in
+    let read = c .before .before .read-term in
+    let on = read-on _ _ _ (p .0) positive (c .before .at .ensures) in (
       omega (arith, start .pre .0, on .fewer-after),
-      (
-        on .after,
-        omega (arith, p .1, on .words-length, read .ensures .position, placed-length (read .ensures)),
-      ),
+      (on .after, omega (arith, p .1, on .words-length, read .ensures .position)),
     )
-
-read-chain-same-length : (t : ℕ) → read-chain-lts.Need-same-length (chain-claims t) (read-chain-at t) read-chain.Post
-read-chain-same-length t c =
-    let read = c .before .before .before .before .before .before .before .read-term in
-    placed-length (c .before .before .read-chain .ensures) ∙ placed-length (read .ensures)
 
 read-chain-returns-2 : (t : ℕ) → read-chain-lts.Need-returns-2 (chain-claims t) (read-chain-at t) read-chain.Post
 read-chain-returns-2 t c =
-    let start = c .before .before .before .before .before .before .before .before .before .before .before .before in
+    let start = c .before .before .before .before .before .before .before in
     let p = start .pre .1 in
-    let positive = pos-of-ne-zero (c .before .before .before .before .before .before .before .before .before .if1 .left) in
-    let read = c .before .before .before .before .before .before .before .read-term in
-    let rest = c .before .before .read-chain in
-    rw (read-on _ _ _ (p .0) positive (c .before .before .before .before .at .ensures) .words) (placed-append (read .ensures) (rest .ensures))
+    let positive = pos-of-ne-zero (c .before .before .before .before .before .if1 .left) in
+    let read = c .before .before .before .read-term in
+    rw (read-on _ _ _ (p .0) positive (c .before .before .at .ensures) .words) (placed-append (read .ensures) (c .read-chain .ensures))
 
 read-term-at-requires : (t : ℕ) → read-term-lts.Need-at-requires (term-claims t) (read-term-at t) read-term.Post
-read-term-at-requires t c κs = walk-inside _ _ (c .before .before .pre .1 .0 .0 .walkable)
+read-term-at-requires t c κs = walk-inside _ _ (c .before .pre .1 .0 .0 .walkable)
 
 -- Reading on from the record that was read.
 here : (t : ℕ) (c : read-term-lts.After-at (term-claims t) (read-term-at t) read-term.Post)
-    → ReadOn (stored (c .before .before .before .args .form) (c .before .before .before .args .table .now)) (c .before .before .before .args .at) (recordOf (c .at .result))
-here t c = let p = c .before .before .before .pre .1 .0 in read-on _ _ _ (p .0) (p .1) (c .at .ensures)
+    → ReadOn (stored (c .before .before .args .form) (c .before .before .args .table .now)) (c .before .before .args .at) (recordOf (c .at .result))
+here t c = let p = c .before .before .pre .1 .0 in read-on _ _ _ (p .0) (p .1) (c .at .ensures)
 
 read-term-chain-length-requires : (t : ℕ) → read-term-lts.Need-chain-length-requires (term-claims t) (read-term-at t) read-term.Post
 read-term-chain-length-requires t c κs = here t c .below .walkable
@@ -119,27 +109,19 @@ read-term-word-requires t c κs =
 
 read-term-read-chain-requires : (t : ℕ) → read-term-lts.Need-read-chain-requires (term-claims t) (read-term-at t) read-term.Post
 read-term-read-chain-requires t c κs =
-    let start = c .before .before .before .before .before .before in
+    let start = c .before .before .before .before .before in
     let on = here t (c .before .before .before) in
-    let first = ap (λ l. length (chainWords (viewed (start .args .form) (start .args .table .now)) l)) (parts (c .before .before .before .at .ensures) .first) in (
-      omega (arith, start .pre .0, on .fewer-below),
-      (on .below, omega (arith, start .pre .1 .1, first, length-set (start .args .workspace .now) (start .args .out) (c .before .word .result .0))),
-    )
-
-read-term-same-length : (t : ℕ) → read-term-lts.Need-same-length (term-claims t) (read-term-at t) read-term.Post
-read-term-same-length t c =
-    let start = c .before .before .before .before .before .before .before .before .before .args in
-    placed-length (c .before .before .read-chain .ensures)
-    ∙ length-set (start .workspace .now) (start .out) (c .before .before .before .before .word .result .0)
+    let first = ap (λ l. length (chainWords (viewed (start .args .form) (start .args .table .now)) l)) (parts (c .before .before .before .at .ensures) .first) in
+    (omega (arith, start .pre .0, on .fewer-below), (on .below, omega (arith, start .pre .1 .1, first)))
 
 read-term-returns : (t : ℕ) → read-term-lts.Need-returns (term-claims t) (read-term-at t) read-term.Post
 read-term-returns t c =
-    let w = c .before .before .before .before in
+    let w = c .before .before in
     let m = w .before .chain-length in
     let r = w .before .before in
-    let start = r .before .before .before .args in
+    let start = r .before .before .args in
     let words = term-read (stored (start .form) (start .table .now)) (start .at) (m .result) (w .word .result .0) (recordOf (r .at .result)) (r .at .ensures) (m .ensures) (w .word .ensures) in
-    rw words (placed-cons _ _ (c .before .before .read-chain .ensures))
+    rw words (placed-cons _ _ (c .read-chain .ensures))
 
 pub +read-chain+read-term-spec : {M : Type 1} → statement M
 +read-chain+read-term-spec =
@@ -150,16 +132,14 @@ pub +read-chain+read-term-spec : {M : Type 1} → statement M
     (read-chain-read-term-requires t)
     (read-chain-at-requires t)
     (read-chain-read-chain-requires t)
-    (read-chain-same-length t)
     (read-chain-returns-2 t))
     (λ t.
     read-term-lts.spec (term-claims t) (read-term-at t) read-term.Post
     (read-term-at-requires t)
     (read-term-chain-length-requires t)
     (read-term-word-requires t)
+    (λ c. omega (arith, c .before .before .before .before .pre .1 .1))
+    (λ c. omega (arith, c .before .before .before .before .pre .1 .1))
     (λ c. omega (arith, c .before .before .before .before .before .pre .1 .1))
-    (λ c. omega (arith, c .before .before .before .before .before .pre .1 .1))
-    (λ c. omega (arith, c .before .before .before .before .before .before .pre .1 .1))
     (read-term-read-chain-requires t)
-    (read-term-same-length t)
     (read-term-returns t))

@@ -1,8 +1,8 @@
--- `operands_at` meets its contract.
-use Rattle.replay.specs.Script.{operandsAt}
+-- `operands_in` meets its contract.
+use Rattle.replay.specs.Script.{operandsIn}
 use borrow.Author.Needs.{needs}
-use Rattle.replay.proofs.script.operands_at.Statement.{statement}
-use Rattle.replay.proofs.script.operands_at.Tie as tie
+use Rattle.replay.proofs.script.operands_in.Statement.{statement}
+use Rattle.replay.proofs.script.operands_in.Tie as tie
 
 operand-at-requires : tie.Need-operand-at-requires
 operand-at-requires c κs = search needs
@@ -17,11 +17,11 @@ operand-at-requires-4 : tie.Need-operand-at-requires-4
 operand-at-requires-4 c κs = search needs
 
 returns : tie.Need-returns
-unfolding operandsAt
+unfolding operandsIn
 returns c = rw (c .before .before .before .operand-at .ensures, c .before .before .operand-at2 .ensures, c .before .operand-at3 .ensures, c .operand-at4 .ensures)
 
-pub operands-at-spec : {M : Type 1} → statement M
-operands-at-spec =
+pub operands-in-spec : {M : Type 1} → statement M
+operands-in-spec =
     tie.close
     (tie.spec
     operand-at-requires
