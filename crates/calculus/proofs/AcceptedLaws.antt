@@ -14,7 +14,7 @@ use Rattle.calculus.specs.Term.{Sort, Exp, nil, cons, end, branch, Term,
 use Rattle.calculus.specs.Accepted.{freeLimit, InScope, acceptance, Accepted}
 use Rattle.calculus.specs.Shift.{moving, shift}
 use Rattle.calculus.specs.Substitution.{argument, replaced, replacing, subst}
-use Rattle.calculus.specs.Contraction.{Rule, select, Contracts, at-beta, at-case, in-body, in-function, in-argument}
+use Rattle.calculus.specs.Contraction.{Rule, select, Contracts, at-beta, at-case, at-numeral, in-body, in-function, in-argument}
 use Rattle.calculus.specs.Contraction.{in-arguments, in-subject, in-branches, in-first, in-later, in-branch, in-later-branch}
 use Rattle.calculus.specs.Leftmost.{leftmost}
 use Rattle.calculus.specs.Theorems.{Contraction-keeps-accepted}
@@ -22,6 +22,7 @@ use Rattle.calculus.proofs.All.{All, nothing, holds, all-eqb, all-some}
 use Rattle.calculus.proofs.Move.{move-down}
 use Rattle.calculus.proofs.Spine.{spine-contraction, count-kept, rising-kept}
 use Rattle.calculus.proofs.EverywhereLaws.{Implies, everywhere-traverse}
+use Rattle.calculus.proofs.NumeralLaws.{numeral-accepted}
 use Rattle.calculus.proofs.LeftmostLaws.{leftmost-contracts}
 
 -- What a test chooses has a property that both choices have; the first may use that the test holds.
@@ -29,13 +30,14 @@ chosen : {A : Type 0} (P : A → Type 0) (b : Bool) {x y : A} → (b ≡ true �
 chosen P true f k = f refl
 chosen P false f k = k
 
--- Of other words than variables acceptance asks what stays: tags and counts.
+-- Of other words than variables acceptance asks what stays: tags, counts and numerals.
 acceptance-kept : Implies acceptance acceptance
 acceptance-kept =
     record {
       constructors = λ t n h. h;
       cases = λ bs cs same h. (count-kept bs cs same (h .0), rising-kept bs cs same (h .1));
       branches = λ t n h. h;
+      numerals = λ n h. h;
     }
 
 -- Shifted up by k, an expression is accepted under k binders more.
@@ -79,6 +81,7 @@ pub contraction-accepted : {s : Sort} {p : ℕ} {r : Rule} {e g : Exp s} (d : �
 contraction-accepted d (at-beta {b = b} {a = a}) h =
     accepted-subst (cons a nil) d (h .1, tt) 0 (suc d) d (omega arith) (omega arith) b (h .0)
 contraction-accepted d (at-case {t = t} {xs = xs} {bs = bs} c) h = all-some (rw c at (accepted-select d t xs (h .1 .1) bs (h .2)))
+contraction-accepted d (at-numeral {n = n}) h = numeral-accepted d n
 contraction-accepted d (in-body c) h = contraction-accepted (suc d) c h
 contraction-accepted d (in-function c) h = (contraction-accepted d c (h .0), h .1)
 contraction-accepted d (in-argument c) h = (h .0, contraction-accepted d c (h .1))

@@ -3,6 +3,7 @@ use mathlib.Core.Path.{refl}
 use mathlib.Core.Logic.{Dec·and}
 use mathlib.Core.Option.{bind, orElse}
 use native.Mathlib.Decide.{ℕ-discrete, decLe, decLt}
+use native.Mathlib.Omega.{arith}
 use Rattle.calculus.specs.Decide.{both₃, isTag?, startsAbove?, rising?, everywhere?, tagged?, accepted?}
 use Rattle.calculus.specs.Read.{takeTerm, takeTerms, takeBranches, readLam, readApp, readCon, readCase, readBranch, item, items, oneTerm, read}
 use Rattle.calculus.specs.Step.{firstStep}
@@ -75,4 +76,23 @@ boundaries =
       redex-in-later-argument = refl;
       redex-in-subject = refl;
       redex-in-later-branch = refl;
+      numeral-0 = refl;
+      numeral-2 = refl;
+      numeral-31 = refl;
+      numeral-32 = refl;
+      no-kind-7 = refl;
+      numeral-applied = refl;
+      numeral-as-subject = refl;
+      numeral-in-later-branch = refl;
+      numeral-thrown-away = refl;
+      numeral-behind-a-redex = refl;
+      numeral-under-a-binder = refl;
+      numeral-put-under-a-binder = refl;
+      numeral-against-its-term = refl;
+      numeral-against-itself = refl;
+      numeral-is-not-normal = refl;
+      numeral-of-C-words = refl;
+      numeral-too-long = refl;
+      closed-under-two = omega arith;
+      open-under-two = λ h. omega (arith, h);
     }

@@ -1,19 +1,20 @@
 -- Contraction has the Church-Rosser property: parallel reduction lies between one contraction and any number of them, and has complete
 -- developments.
 use Prim.Native.Nat.{ℕ, suc, _+_}
-use Rattle.calculus.specs.Term.{Sort, term, branches, Exp, lam, app, con, case, cons, branch, Term, Branches}
+use Rattle.calculus.specs.Term.{Sort, term, branches, Exp, lam, app, con, case, num, cons, branch, Term, Branches}
 use Rattle.calculus.specs.Words.{size}
-use Rattle.calculus.specs.Contraction.{Rule, by-beta, by-case, Contracts, at-beta, at-case, in-body, in-function, in-argument, in-arguments, in-subject, in-branches, in-first, in-later, in-branch, in-later-branch}
+use Rattle.calculus.specs.Contraction.{Rule, by-beta, by-case, by-numeral, Contracts, at-beta, at-case, at-numeral, in-body, in-function, in-argument, in-arguments, in-subject, in-branches, in-first, in-later, in-branch, in-later-branch}
 use Rattle.calculus.specs.Relation.{Star, stop, step}
 use Rattle.calculus.specs.Conversion.{Contraction, Contracts₁}
 use Rattle.calculus.specs.Theorems.{Church-Rosser, Joined-normal-equal, Reaches-exact, Joined-exact, Contraction-reaches, Reaching-joins, Normal-reaches-itself}
 use Rattle.calculus.proofs.Rewriting.{star-append, star-map, chain-of-star, star-along, along-star, chain-along, along-chain, normal-stays, meet-joined, meeting-normal-equal, joined-meet}
-use Rattle.calculus.proofs.Parallel.{Par, par-var, par-lam, par-app, par-beta, par-con, par-case, par-inspect, par-nil, par-cons, par-end, par-branch, par-refl, develop, triangle}
+use Rattle.calculus.proofs.Parallel.{Par, par-var, par-lam, par-app, par-beta, par-con, par-case, par-inspect, par-num, par-numeral, par-nil, par-cons, par-end, par-branch, par-refl, develop, triangle}
 
 -- A contraction is a parallel reduction.
 pub parallel : {s : Sort} {p : ℕ} {r : Rule} {e g : Exp s} → Contracts s p r e g → Par s e g
 parallel (at-beta {b = b} {a = a}) = par-beta (par-refl (lam b)) (par-refl a)
 parallel (at-case {t = t} {xs = xs} {bs = bs} h) = par-inspect (par-refl (con t xs)) (par-refl bs) h
+parallel at-numeral = par-numeral
 parallel (in-body c) = par-lam (parallel c)
 parallel (in-function {a = a} c) = par-app (parallel c) (par-refl a)
 parallel (in-argument {f = f} c) = par-app (par-refl f) (parallel c)
@@ -51,6 +52,8 @@ sequential (par-beta p q) = star-append (app-contractions (sequential p) (sequen
 sequential (par-con {t = t} p) = star-map (con t) (λ _ _ (p, r, c). (suc p, r, in-arguments c)) (sequential p)
 sequential (par-case p q) = case-contractions (sequential p) (sequential q)
 sequential (par-inspect p q h) = star-append (case-contractions (sequential p) (sequential q)) (step (0, by-case, at-case h) stop)
+sequential par-num = stop
+sequential par-numeral = step (0, by-numeral, at-numeral) stop
 sequential par-nil = stop
 sequential (par-cons {a′ = a} {xs = xs} p q) =
     star-append

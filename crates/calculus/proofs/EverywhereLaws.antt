@@ -2,7 +2,7 @@
 -- `everywhere-implies`), whatever is asked.
 use Prim.Native.Nat.{ℕ, suc, _+_}
 use mathlib.Core.Path.{_≡_, refl, subst}
-use Rattle.calculus.specs.Term.{Sort, Exp, var, lam, app, con, case, nil, cons, end, branch, Term, Branches}
+use Rattle.calculus.specs.Term.{Sort, Exp, var, lam, app, con, case, num, nil, cons, end, branch, Term, Branches}
 use Rattle.calculus.specs.Traverse.{traverse}
 use Rattle.calculus.specs.Everywhere.{Asked, Everywhere}
 use Rattle.calculus.proofs.Spine.{spine, spine-traverse, count-traverse}
@@ -13,6 +13,7 @@ pub record Implies {D E : Type 0} (P : Asked D) (Q : Asked E) : Type 0 where
   pub constructors : (t n : ℕ) → P .of-constructor t n → Q .of-constructor t n
   pub cases : (bs cs : Branches) → spine bs ≡ spine cs → P .of-case bs → Q .of-case cs
   pub branches : (t n : ℕ) → P .of-branch t n → Q .of-branch t n
+  pub numerals : (n : ℕ) → P .of-numeral n → Q .of-numeral n
 
 -- R relates the places before and after and the binders crossed, also under a binder.
 pub record Related {D E : Type 0} (P : Asked D) (Q : Asked E) (R : D → E → ℕ → Type 0) : Type 0 where
@@ -41,6 +42,7 @@ module _
       everywhere-traverse d e c r x (h .1),
       everywhere-traverse d e c r bs (h .2),
     )
+    everywhere-traverse d e c r (num n) h = implies .numerals n h
     everywhere-traverse d e c r nil h = tt
     everywhere-traverse d e c r (cons a xs) h = (everywhere-traverse d e c r a (h .0), everywhere-traverse d e c r xs (h .1))
     everywhere-traverse d e c r end h = tt

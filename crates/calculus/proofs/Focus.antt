@@ -1,8 +1,7 @@
--- A contraction of a term that can be packed and whose indices are bounded, in its words: the redex is such a term too, and contracts at its own
--- first word.
+-- A contraction of a term that can be packed, whose indices are bounded and whose numerals have an entry, in its words: the redex is such a term too,
+-- and contracts at its own first word.
 use Prim.Native.Nat.{ℕ}
 use mathlib.Core.Path.{_≡_}
-use mathlib.Core.Bool.{Bool, true, false}
 use mathlib.Core.List.{List, _++_}
 use mathlib.Core.Option.{some}
 use lib.ListN.{length}
@@ -12,6 +11,7 @@ use Rattle.calculus.specs.Everywhere.{Asked}
 use Rattle.calculus.specs.Contraction.{Rule, Contracts}
 use Rattle.calculus.specs.Position.{contractAt}
 use Rattle.calculus.specs.Theorems.{counted, Packable, within, IndicesWithin}
+use Rattle.calculus.proofs.WordLaws.{listed, Listed}
 use Rattle.calculus.proofs.Site.{site}
 use Rattle.calculus.proofs.PositionLaws.{contracts-contractAt}
 
@@ -26,16 +26,20 @@ pub record Focus (limit : ℕ) (ws vs : List ℕ) (p : ℕ) : Type 0 where
   pub contracts : contractAt 0 redex ≡ some contractum
   pub packable : Packable redex
   pub indices : IndicesWithin limit redex
+  pub numerals : Listed redex
 
--- Both questions.
-abbrev bounds : ℕ → Bool → Asked (Unit {0})
-bounds limit true = counted
-bounds limit false = within limit
+data Question : Type 0 where
+  of-counts of-indices of-numerals : Question
 
-pub focus : {s : Sort} {p : ℕ} {r : Rule} {e g : Exp s} (limit : ℕ) → Contracts s p r e g → Packable e → IndicesWithin limit e
+abbrev asks : ℕ → Question → Asked (Unit {0})
+asks limit of-counts = counted
+asks limit of-indices = within limit
+asks limit of-numerals = listed
+
+pub focus : {s : Sort} {p : ℕ} {r : Rule} {e g : Exp s} (limit : ℕ) → Contracts s p r e g → Packable e → IndicesWithin limit e → Listed e
     → Focus limit (words e) (words g) p
-focus limit c h i =
-    let f = site (bounds limit) c in
+focus limit c h i l =
+    let f = site (asks limit) c in
     record {
       redex = f .redex;
       contractum = f .contractum;
@@ -45,6 +49,7 @@ focus limit c h i =
       to = f .to;
       position = f .position;
       contracts = contracts-contractAt (f .contracts);
-      packable = f .asked true h;
-      indices = f .asked false i;
+      packable = f .asked of-counts h;
+      indices = f .asked of-indices i;
+      numerals = f .asked of-numerals l;
     }

@@ -2,7 +2,7 @@
 use Prim.Native.Nat.{ℕ, suc, _+_, _*_, _≤_}
 use native.Mathlib.Omega.{arith}
 use lib.ListN.{length-append}
-use Rattle.calculus.specs.Term.{Sort, Exp, var, lam, app, con, case, nil, cons, end, branch}
+use Rattle.calculus.specs.Term.{Sort, Exp, var, lam, app, con, case, num, nil, cons, end, branch}
 use Rattle.calculus.specs.Words.{words, size}
 use Rattle.calculus.specs.Accepted.{argumentLimit, freeLimit, Accepted, indexLimit}
 use Rattle.calculus.specs.Theorems.{IndicesWithin, Indices-bounded}
@@ -17,6 +17,7 @@ indices-within d limit (con t xs) h m = (tt, indices-within d limit xs (h .1) (o
 indices-within d limit (case e bs) h m =
     let l = length-append (words e) (words bs) in
     (tt, indices-within d limit e (h .1) (omega arith), indices-within d limit bs (h .2) (omega arith))
+indices-within d limit (num n) h m = tt
 indices-within d limit nil h m = tt
 indices-within d limit (cons a xs) h m =
     let l = length-append (words a) (words xs) in

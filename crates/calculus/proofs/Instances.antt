@@ -9,7 +9,7 @@ use Rattle.calculus.specs.Decide.{both₃, isTag?, startsAbove?, rising?
 use Rattle.calculus.specs.Read.{takeTerm, takeTerms, takeBranches, readLam, readApp, readCon, readCase, readBranch, item, items, oneTerm, read}
 use Rattle.calculus.specs.Step.{firstStep}
 use Rattle.calculus.specs.Leftmost.{leftmost}
-use Rattle.calculus.specs.Contraction.{by-beta, at-beta, at-case, in-body, in-argument}
+use Rattle.calculus.specs.Contraction.{by-beta, at-beta, at-case, at-numeral, in-body, in-argument}
 use Rattle.calculus.specs.Relation.{stop, step, alone, link}
 use Rattle.calculus.specs.Instances.{Instances, inner-redex}
 use Rattle.calculus.specs.Accepted.{Accepted}
@@ -30,13 +30,16 @@ pub instances : Instances
 instances =
     record {
       packable = (omega arith, (tt, tt));
+      packable-numeral = tt;
       starts-alike = refl;
       moves-up = refl;
       moves-down = refl;
       moves-to-0 = refl;
       contracts-by-beta = at-beta;
       contracts-by-case = at-case refl;
+      contracts-by-numeral = at-numeral;
       contracts-inside = in-body (in-argument at-beta);
+      contracts-by-numeral-32 = at-numeral;
       lies-before = omega arith;
       accepted = inner-accepted;
       accepted-short = omega arith;

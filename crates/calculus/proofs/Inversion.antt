@@ -4,9 +4,9 @@ use Prim.Native.Nat.{ℕ}
 use mathlib.Core.Path.{_≡_, refl, _∙_, ap, ap₂}
 use mathlib.Core.Logic.{_⊎_, inl, inr, _↔_}
 use mathlib.Core.Option.{Option, some, none, Option·map, orElse, map-eq-none-iff, Option·some-ne-none}
-use Rattle.calculus.specs.Term.{Sort, term, terms, branches, Exp, var, lam, app, con, case, nil, cons, end, branch, Term, Terms, Branches}
+use Rattle.calculus.specs.Term.{Sort, term, terms, branches, Exp, var, lam, app, con, case, num, nil, cons, end, branch, Term, Terms, Branches}
 use Rattle.calculus.specs.Words.{size}
-use Rattle.calculus.specs.Contraction.{Rule, Contracts, at-beta, at-case, in-body, in-function, in-argument, in-arguments, in-subject, in-branches, in-first, in-later, in-branch, in-later-branch}
+use Rattle.calculus.specs.Contraction.{Rule, Contracts, at-beta, at-case, at-numeral, in-body, in-function, in-argument, in-arguments, in-subject, in-branches, in-first, in-later, in-branch, in-later-branch}
 use Rattle.calculus.specs.Conversion.{Contraction}
 use Rattle.calculus.specs.Step.{contractum, Step, in-whole, at-first, first-of, firstStep}
 use Rattle.calculus.specs.Leftmost.{leftmost}
@@ -22,6 +22,7 @@ Inverted (con t xs) g = (xs′ : Terms) × Contraction terms xs xs′ × (con t 
 Inverted (case e bs) g =
     ((r : Rule) × (contractum (case e bs) ≡ some (r, g)))
     ⊎ (((e′ : Term) × Contraction term e e′ × (case e′ bs ≡ g)) ⊎ ((bs′ : Branches) × Contraction branches bs bs′ × (case e bs′ ≡ g)))
+Inverted (num n) g = (r : Rule) × (contractum (num n) ≡ some (r, g))
 Inverted nil g = ⊥
 Inverted (cons a xs) g = ((a′ : Term) × Contraction term a a′ × (cons a′ xs ≡ g)) ⊎ ((xs′ : Terms) × Contraction terms xs xs′ × (cons a xs′ ≡ g))
 Inverted end g = ⊥
@@ -31,6 +32,7 @@ Inverted (branch t n b bs) g =
 pub invert : {s : Sort} {p : ℕ} {r : Rule} {e g : Exp s} → Contracts s p r e g → Inverted e g
 invert {r = r} at-beta = inl (r, refl)
 invert {r = r} (at-case h) = inl (r, ap (Option·map _) h)
+invert {r = r} at-numeral = (r, refl)
 invert {r = r} (in-body {p = p} {b′ = b} c) = (b, (p, r, c), refl)
 invert {r = r} (in-function {p = p} {f′ = f} c) = inr (inl (f, (p, r, c), refl))
 invert {r = r} (in-argument {p = p} {a′ = a} c) = inr (inr (a, (p, r, c), refl))
@@ -86,6 +88,7 @@ fromParts (lam b) = Option·map lam (leftmost b)
 fromParts (app f a) = orElse (result (contractum (app f a))) (orElse (Option·map (λ f′. app f′ a) (leftmost f)) (Option·map (app f) (leftmost a)))
 fromParts (con t xs) = Option·map (con t) (leftmost xs)
 fromParts (case e bs) = orElse (result (contractum (case e bs))) (orElse (Option·map (λ e′. case e′ bs) (leftmost e)) (Option·map (case e) (leftmost bs)))
+fromParts (num n) = result (contractum (num n))
 fromParts nil = none
 fromParts (cons a xs) = orElse (Option·map (λ a′. cons a′ xs) (leftmost a)) (Option·map (cons a) (leftmost xs))
 fromParts end = none
@@ -106,6 +109,7 @@ leftmost-from-parts (lam b) = word-results lam (firstStep b)
 leftmost-from-parts (app f a) = root-two-results (app f a) (size f) (λ f′. app f′ a) (firstStep f) (app f) (firstStep a)
 leftmost-from-parts (con t xs) = word-results (con t) (firstStep xs)
 leftmost-from-parts (case e bs) = root-two-results (case e bs) (size e) (λ e′. case e′ bs) (firstStep e) (case e) (firstStep bs)
+leftmost-from-parts (num n) = refl
 leftmost-from-parts nil = refl
 leftmost-from-parts (cons a xs) = two-results (size a) (λ a′. cons a′ xs) (firstStep a) (cons a) (firstStep xs)
 leftmost-from-parts end = refl

@@ -21,6 +21,7 @@ pub mod AcceptedLaws
 pub mod Rewriting
 pub mod Substitution
 pub mod Members
+pub mod NumeralLaws
 pub mod Parallel
 pub mod ChurchRosser
 pub mod Instances

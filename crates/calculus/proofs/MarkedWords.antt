@@ -6,8 +6,8 @@ use mathlib.Core.List.{List, [], _∷_, _++_, append-assoc, append-nil}
 use native.Mathlib.Nat.{suc-mul}
 use native.Mathlib.Omega.{arith}
 use lib.ListN.{length, length-append}
-use Rattle.calculus.specs.Term.{Sort, Exp, var, lam, app, con, case, nil, cons, end, branch, Term, count}
-use Rattle.calculus.specs.Words.{variableKind, abstractionKind, applicationKind, constructorKind, caseKind, branchKind, kindBase, word, kindOf, payloadOf, pack, words}
+use Rattle.calculus.specs.Term.{Sort, Exp, var, lam, app, con, case, num, nil, cons, end, branch, Term, count}
+use Rattle.calculus.specs.Words.{variableKind, abstractionKind, applicationKind, constructorKind, caseKind, branchKind, numeralKind, kindBase, word, kindOf, payloadOf, pack, words}
 use Rattle.calculus.specs.Traverse.{traverse}
 use Rattle.calculus.specs.Everywhere.{binders, variables, Everywhere}
 use Rattle.calculus.proofs.WordLaws.{payloadOf-word}
@@ -20,6 +20,7 @@ inside d (lam b) = (d, word abstractionKind 0) ∷ inside (suc d) b
 inside d (app f a) = (d, word applicationKind 0) ∷ (inside d f ++ inside d a)
 inside d (con t xs) = (d, word constructorKind (pack t (count xs))) ∷ inside d xs
 inside d (case e bs) = (d, word caseKind (count bs)) ∷ (inside d e ++ inside d bs)
+inside d (num n) = (d, word numeralKind n) ∷ []
 inside d nil = []
 inside d (cons a xs) = inside d a ++ inside d xs
 inside d end = []
@@ -66,6 +67,7 @@ module _
           words-traverse d bs,
           count-traverse f d bs,
         )
+    words-traverse d (num n) = rw (other d numeralKind n (omega arith) (omega arith))
     words-traverse d nil = refl
     words-traverse d (cons a xs) = flat-append r (inside d a) (inside d xs) ∙ ap₂ _++_ (words-traverse d a) (words-traverse d xs)
     words-traverse d end = refl
@@ -112,6 +114,7 @@ module _ (P : ℕ → ℕ → Type 0) where
       each (other-word d constructorKind (pack t (count xs)) (omega arith) (omega arith)) (everywhere-inside d xs (h .1))
   everywhere-inside d (case e bs) h =
       each (other-word d caseKind (count bs) (omega arith) (omega arith)) (every-append (everywhere-inside d e (h .1)) (everywhere-inside d bs (h .2)))
+  everywhere-inside d (num n) h = each (other-word d numeralKind n (omega arith) (omega arith)) none
   everywhere-inside d nil h = none
   everywhere-inside d (cons a xs) h = every-append (everywhere-inside d a (h .0)) (everywhere-inside d xs (h .1))
   everywhere-inside d end h = none

@@ -1,5 +1,5 @@
 -- Parallel reduction: any of the redexes of an expression contracted at once. Its rules contract an application whose function reduces to an
--- abstraction, and a case whose subject reduces to a constructor, so some redexes that arise on the way may be contracted too. It is closed under
+-- abstraction, a case whose subject reduces to a constructor, and a numeral, so some redexes that arise on the way may be contracted too. It is closed under
 -- substitution (`par-subst`), and every reduct of an expression reduces on to the complete development of that expression (`triangle`).
 use Prim.Native.Nat.{ℕ, suc, _+_}
 use mathlib.Core.Path.{_≡_, refl, sym, _∙_, ap}
@@ -9,15 +9,17 @@ use native.Mathlib.Numerals.{add-one}
 use lib.Dec.{eqb}
 use lib.IntN.{pos}
 use borrow.Author.Tests.{eqb-true}
-use Rattle.calculus.specs.Term.{Sort, term, terms, branches, Exp, var, lam, app, con, case, nil, cons, end, branch, Term, Terms, Branches, count}
+use Rattle.calculus.specs.Term.{Sort, term, terms, branches, Exp, var, lam, app, con, case, num, nil, cons, end, branch, Term, Terms, Branches, count}
 use Rattle.calculus.specs.Shift.{shift}
 use Rattle.calculus.specs.Substitution.{subst}
+use Rattle.calculus.specs.Numeral.{numeral}
 use Rattle.calculus.specs.Contraction.{by-case, select}
 use Rattle.calculus.specs.Step.{contractum}
 use Rattle.calculus.proofs.All.{Both, neither, each}
 use Rattle.calculus.proofs.Inversion.{result}
 use Rattle.calculus.proofs.Spine.{count-traverse}
 use Rattle.calculus.proofs.Substitution.{lift, sub, shift-is-sub, put, subst-is-sub, sub-subst}
+use Rattle.calculus.proofs.NumeralLaws.{numeral-sub}
 use Rattle.calculus.proofs.Members.{Members, no-terms, a-term, no-branches, a-branch, members-put, members-select, lift-related}
 
 pub data Par : (s : Sort) → Exp s → Exp s → Type 0 where
@@ -29,6 +31,8 @@ pub data Par : (s : Sort) → Exp s → Exp s → Type 0 where
   par-case : {e e′ : Term} {bs bs′ : Branches} → Par term e e′ → Par branches bs bs′ → Par term (case e bs) (case e′ bs′)
   par-inspect : {e u : Term} {t : ℕ} {xs : Terms} {bs bs′ : Branches} → Par term e (con t xs) → Par branches bs bs′ → select t xs bs′ ≡ some u
       → Par term (case e bs) u
+  par-num : {n : ℕ} → Par term (num n) (num n)
+  par-numeral : {n : ℕ} → Par term (num n) (numeral n)
   par-nil : Par terms nil nil
   par-cons : {a a′ : Term} {xs xs′ : Terms} → Par term a a′ → Par terms xs xs′ → Par terms (cons a xs) (cons a′ xs′)
   par-end : Par branches end end
@@ -40,6 +44,7 @@ par-refl (lam b) = par-lam (par-refl b)
 par-refl (app f a) = par-app (par-refl f) (par-refl a)
 par-refl (con t xs) = par-con (par-refl xs)
 par-refl (case e bs) = par-case (par-refl e) (par-refl bs)
+par-refl (num n) = par-num
 par-refl nil = par-nil
 par-refl (cons a xs) = par-cons (par-refl a) (par-refl xs)
 par-refl end = par-end
@@ -68,6 +73,8 @@ module _ (σ τ : ℕ → Term) (variable : (d i : ℕ) → Par term (lift σ d 
   par-traverse d (par-case p q) = par-case (par-traverse d p) (par-traverse d q)
   par-traverse d (par-inspect {t = t} {xs = xs} {bs′ = bs} p q h) =
       par-inspect (par-traverse d p) (par-traverse d q) (select-sub τ d t xs bs ∙ ap (Option·map (sub τ d)) h)
+  par-traverse d par-num = par-num
+  par-traverse d (par-numeral {n = n}) = rw (numeral-sub τ d n) par-numeral
   par-traverse d par-nil = par-nil
   par-traverse d (par-cons p q) = par-cons (par-traverse d p) (par-traverse d q)
   par-traverse d par-end = par-end
@@ -122,6 +129,7 @@ develop (lam b) = lam (develop b)
 develop (app f a) = fired (app (develop f) (develop a))
 develop (con t xs) = con t (develop xs)
 develop (case e bs) = fired (case (develop e) (develop bs))
+develop (num n) = fired (num n)
 develop nil = nil
 develop (cons a xs) = cons (develop a) (develop xs)
 develop end = end
@@ -133,6 +141,7 @@ app-to-fired {f′ = lam b} p q = par-beta p q
 app-to-fired {f′ = app g c} p q = par-app p q
 app-to-fired {f′ = con t xs} p q = par-app p q
 app-to-fired {f′ = case e bs} p q = par-app p q
+app-to-fired {f′ = num n} p q = par-app p q
 
 par-fired-app : {f f′ a a′ : Term} → Par term f f′ → Par term a a′ → Par term (fired (app f a)) (fired (app f′ a′))
 par-fired-app par-var r = app-to-fired par-var r
@@ -142,6 +151,8 @@ par-fired-app (par-beta p q) r = app-to-fired (par-beta p q) r
 par-fired-app (par-con p) r = app-to-fired (par-con p) r
 par-fired-app (par-case p q) r = app-to-fired (par-case p q) r
 par-fired-app (par-inspect p q h) r = app-to-fired (par-inspect p q h) r
+par-fired-app par-num r = app-to-fired par-num r
+par-fired-app par-numeral r = app-to-fired par-numeral r
 
 case-to-fired : {e e′ : Term} {bs bs′ : Branches} → Par term e e′ → Par branches bs bs′ → Par term (case e bs) (fired (case e′ bs′))
 case-to-fired {e′ = var i} p q = par-case p q
@@ -153,6 +164,7 @@ case-to-fired {e} {e′ = con t xs} {bs} {bs′} p q = by (select t xs bs′) re
     by none h = par-case p q
     by (some u) h = par-inspect p q h
 case-to-fired {e′ = case e cs} p q = par-case p q
+case-to-fired {e′ = num n} p q = par-case p q
 
 par-fired-case : {e e′ : Term} {bs bs′ : Branches} → Par term e e′ → Par branches bs bs′ → Par term (fired (case e bs)) (fired (case e′ bs′))
 par-fired-case par-var r = case-to-fired par-var r
@@ -163,6 +175,8 @@ par-fired-case {bs = bs} {bs′ = bs′} (par-con {t = t} {xs = xs} {xs′ = xs�
     par-selected (par-select t p r) (par-case (par-con p) r)
 par-fired-case (par-case p q) r = case-to-fired (par-case p q) r
 par-fired-case (par-inspect p q h) r = case-to-fired (par-inspect p q h) r
+par-fired-case par-num r = case-to-fired par-num r
+par-fired-case par-numeral r = case-to-fired par-numeral r
 
 -- Whatever is contracted at once, the rest of the development can follow at once.
 pub triangle : {s : Sort} {e g : Exp s} → Par s e g → Par s g (develop e)
@@ -174,6 +188,8 @@ triangle (par-beta p q) = par-fired-app (triangle p) (triangle q)
 triangle (par-con p) = par-con (triangle p)
 triangle (par-case p q) = case-to-fired (triangle p) (triangle q)
 triangle (par-inspect p q h) = rw h at (par-fired-case (triangle p) (triangle q))
+triangle par-num = par-numeral
+triangle (par-numeral {n = n}) = par-refl (numeral n)
 triangle par-nil = par-nil
 triangle (par-cons p q) = par-cons (triangle p) (triangle q)
 triangle par-end = par-end

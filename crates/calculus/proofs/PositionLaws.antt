@@ -5,9 +5,9 @@ use mathlib.Core.Path.{_≡_, refl, sym, _∙_, ap, subst}
 use mathlib.Core.Logic.{_↔_}
 use mathlib.Core.Option.{Option, some, none, Option·map, orElse, bind, map-eq-some-iff, map-eq-none-iff, Option·some-injective, Option·none-ne-some, Option·some-ne-none}
 use native.Mathlib.Omega.{arith}
-use Rattle.calculus.specs.Term.{Sort, Exp, var, lam, app, con, case, nil, cons, end, branch, Term}
+use Rattle.calculus.specs.Term.{Sort, Exp, var, lam, app, con, case, num, nil, cons, end, branch, Term}
 use Rattle.calculus.specs.Words.{size}
-use Rattle.calculus.specs.Contraction.{Rule, by-case, select, Contracts, at-beta, at-case, in-body, in-function, in-argument, in-arguments, in-subject, in-branches, in-first, in-later, in-branch, in-later-branch}
+use Rattle.calculus.specs.Contraction.{Rule, by-case, select, Contracts, at-beta, at-case, at-numeral, in-body, in-function, in-argument, in-arguments, in-subject, in-branches, in-first, in-later, in-branch, in-later-branch}
 use Rattle.calculus.specs.Step.{contractum, Step, firstStep}
 use Rattle.calculus.specs.Leftmost.{leftmost}
 use Rattle.calculus.specs.Position.{through, stepAt, contractAt, redexAt}
@@ -32,12 +32,15 @@ contractum-contracts (app (lam b) a) = holds at-beta
 contractum-contracts (app (app f g) a) = nothing
 contractum-contracts (app (con t xs) a) = nothing
 contractum-contracts (app (case e bs) a) = nothing
+contractum-contracts (app (num n) a) = nothing
 contractum-contracts (con t xs) = nothing
 contractum-contracts (case (var i) bs) = nothing
 contractum-contracts (case (lam b) bs) = nothing
 contractum-contracts (case (app f a) bs) = nothing
 contractum-contracts (case (con t xs) bs) = all-map _ (all-itself (select t xs bs)) (λ u h. at-case h)
 contractum-contracts (case (case e cs) bs) = nothing
+contractum-contracts (case (num n) bs) = nothing
+contractum-contracts (num n) = holds at-numeral
 
 stepAt-contracts : {s : Sort} (p : ℕ) (e : Exp s) → All (Contracts-to p e) (stepAt p e)
 unfolding stepAt
@@ -56,6 +59,8 @@ stepAt-contracts (suc p) (case e bs) =
     all-ltb p (size e)
     (λ h. all-map _ (stepAt-contracts p e) (λ c k. in-subject k))
     (λ h. all-map _ (stepAt-contracts (p - size e) bs) (λ c k. moved (omega arith) (in-branches k)))
+stepAt-contracts zero (num n) = contractum-contracts (num n)
+stepAt-contracts (suc p) (num n) = nothing
 stepAt-contracts p nil = nothing
 stepAt-contracts p (cons a xs) =
     all-ltb p (size a)
@@ -72,6 +77,7 @@ pub contracts-stepAt : {s : Sort} {p : ℕ} {r : Rule} {e g : Exp s} → Contrac
 unfolding stepAt
 contracts-stepAt at-beta = refl
 contracts-stepAt (at-case h) = ap (Option·map (λ u. (by-case, u))) h
+contracts-stepAt at-numeral = refl
 contracts-stepAt (in-body c) = ap (Option·map (through lam)) (contracts-stepAt c)
 contracts-stepAt (in-function c) = choose-part _ _ (contraction-within c) ∙ ap (Option·map _) (contracts-stepAt c)
 contracts-stepAt (in-argument {p = p} {f = f} {a = a} c) =
@@ -140,6 +146,7 @@ earliest-step (con t xs) = earliest-word _ (λ p. refl) (earliest-through (con t
 earliest-step (case e bs) =
     earliest-word _ (λ p. refl)
     (earliest-append (size e) (through-within e (λ e′. case e′ bs)) (earliest-through (λ e′. case e′ bs) (earliest-step e)) (earliest-through (case e) (earliest-step bs)))
+earliest-step (num n) = first refl (λ q (l : q < 0). absurd (omega arith))
 earliest-step nil = never (λ q. refl)
 earliest-step (cons a xs) =
     earliest-append (size a) (through-within a (λ a′. cons a′ xs)) (earliest-through (λ a′. cons a′ xs) (earliest-step a)) (earliest-through (cons a) (earliest-step xs))

@@ -6,8 +6,8 @@ use mathlib.Core.List.{List, [], _∷_, _++_, append-assoc, append-nil}
 use mathlib.Core.Logic.{if-pos}
 use mathlib.Core.Option.{some, none, bind}
 use native.Mathlib.Omega.{arith}
-use Rattle.calculus.specs.Term.{Sort, term, terms, branches, Exp, Term, Terms, Branches, var, lam, app, con, case, nil, cons, end, branch, count}
-use Rattle.calculus.specs.Words.{variableKind, abstractionKind, applicationKind, constructorKind, caseKind, branchKind, kindBase, word, kindOf, payloadOf, pack, countOf, words}
+use Rattle.calculus.specs.Term.{Sort, term, terms, branches, Exp, Term, Terms, Branches, var, lam, app, con, case, num, nil, cons, end, branch, count}
+use Rattle.calculus.specs.Words.{variableKind, abstractionKind, applicationKind, constructorKind, caseKind, branchKind, numeralKind, kindBase, word, kindOf, payloadOf, pack, countOf, words}
 use Rattle.calculus.specs.Accepted.{Accepted}
 use Rattle.calculus.specs.Decide.{accepted?}
 use Rattle.calculus.specs.Read.{Item, whole, arm, takeTerm, takeTerms, takeBranches, readLam, readApp, readCon, readCase, readBranch, item, items, oneTerm, read}
@@ -48,6 +48,7 @@ items-words (con t xs) ws {is} h q =
     (rw (tagOf-pack t (count xs) (h .0), countOf-pack t (count xs) (h .0), takeTerms-onto xs is))
 items-words (case e bs) ws {is} h q =
     rw append-assoc (items-word caseKind (count bs) _ (omega arith) (items-words e _ (h .1) (items-words bs ws (h .2) q)) (rw (takeBranches-onto bs is)))
+items-words (num n) ws h q = items-word numeralKind n ws (omega arith) q refl
 items-words nil ws h q = q
 items-words (cons a xs) ws h q = rw append-assoc (items-words a _ (h .0) (items-words xs ws (h .1) q))
 items-words end ws h q = q
@@ -132,7 +133,8 @@ item-onto k p is =
     (all-eqb k constructorKind (λ e. rw e (readCon-onto p is))
     (all-eqb k caseKind (λ e. rw e (readCase-onto p is))
     (all-eqb k branchKind (λ e. rw e (readBranch-onto p is))
-    nothing)))))
+    (all-eqb k numeralKind (λ e. rw e (holds refl))
+    nothing))))))
 
 items-sound : (ws : List ℕ) → All (λ is. itemsWords is ≡ ws) (items ws)
 unfolding items

@@ -8,10 +8,10 @@ use mathlib.Core.Option.{Option, some, none, Option·map}
 use lib.Dec.{ltb, eqb}
 use borrow.Author.Tests.{lt-ltb, ltb-false}
 use native.Mathlib.Omega.{arith}
-use Rattle.calculus.specs.Term.{Sort, term, branches, Exp, var, lam, app, con, case, nil, cons, end, branch, Term, Terms, Branches, count}
+use Rattle.calculus.specs.Term.{Sort, term, branches, Exp, var, lam, app, con, case, num, nil, cons, end, branch, Term, Terms, Branches, count}
 use Rattle.calculus.specs.Words.{size}
 use Rattle.calculus.specs.Substitution.{subst}
-use Rattle.calculus.specs.Contraction.{Rule, select, Contracts, at-beta, at-case, in-body, in-function, in-argument}
+use Rattle.calculus.specs.Contraction.{Rule, select, Contracts, at-beta, at-case, at-numeral, in-body, in-function, in-argument}
 use Rattle.calculus.specs.Contraction.{in-arguments, in-subject, in-branches, in-first, in-later, in-branch, in-later-branch}
 use Rattle.calculus.specs.Step.{contractum}
 use Rattle.calculus.specs.Position.{through, stepAt, contractAt, redexAt}
@@ -50,6 +50,7 @@ alike-behind q m x y x′ y′ a b = go (ltb q m) refl
 pub function-kept : {p : ℕ} {r : Rule} {f f′ : Term} (a : Term) → Contracts term p r f f′ → 1 ≤ p → Alike (contractum (app f a)) (contractum (app f′ a))
 function-kept a at-beta h = absurd (omega arith)
 function-kept a (at-case k) h = absurd (omega arith)
+function-kept a at-numeral h = absurd (omega arith)
 function-kept a (in-body c) h = each tt
 function-kept a (in-function c) h = neither
 function-kept a (in-argument c) h = neither
@@ -63,6 +64,7 @@ argument-kept (lam b) a a′ = each tt
 argument-kept (app f g) a a′ = neither
 argument-kept (con t xs) a a′ = neither
 argument-kept (case e bs) a a′ = neither
+argument-kept (num n) a a′ = neither
 
 alike-found : {A : Type 0} (t : Bool) (x y : A) → Alike (cond t (some x) none) (cond t (some y) none)
 alike-found true x y = each tt
@@ -80,6 +82,7 @@ select-branches t xs (in-later-branch {t = u} {n = n} c) = both-cond (eqb t u) (
 pub subject-kept : {p : ℕ} {r : Rule} {e e′ : Term} (bs : Branches) → Contracts term p r e e′ → 1 ≤ p → Alike (contractum (case e bs)) (contractum (case e′ bs))
 subject-kept bs at-beta h = absurd (omega arith)
 subject-kept bs (at-case k) h = absurd (omega arith)
+subject-kept bs at-numeral h = absurd (omega arith)
 subject-kept bs (in-body c) h = neither
 subject-kept bs (in-function c) h = neither
 subject-kept bs (in-argument c) h = neither
@@ -93,6 +96,7 @@ branches-kept (lam b) c = neither
 branches-kept (app f a) c = neither
 branches-kept (con t xs) c = alike-map _ _ (select-branches t xs c)
 branches-kept (case e cs) c = neither
+branches-kept (num n) c = neither
 
 module _ {s t : Sort} {p : ℕ} {r : Rule} {e g : Exp s} (c : Contracts s p r e g) (q : ℕ) (before : q + 1 < p) (f f′ : Exp s → Exp t) (y y′ : Option (Rule × Exp t)) where
   in-part : Alike (stepAt q e) (stepAt q g)
@@ -104,6 +108,7 @@ starts-alike : {s : Sort} {p : ℕ} {r : Rule} {e g : Exp s} → Contracts s p r
 unfolding stepAt
 starts-alike at-beta q h = absurd (omega arith)
 starts-alike (at-case k) q h = absurd (omega arith)
+starts-alike at-numeral q h = absurd (omega arith)
 starts-alike (in-body c) zero h = neither
 starts-alike (in-body c) (suc q) h = alike-map (through lam) (through lam) (starts-alike c q (omega arith))
 starts-alike (in-function {a = a} c) zero h = function-kept a c (omega arith)

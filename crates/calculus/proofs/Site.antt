@@ -11,7 +11,7 @@ use lib.Seq.{getD-append-add}
 use Rattle.calculus.specs.Term.{Sort, term, Exp, Term}
 use Rattle.calculus.specs.Words.{constructorKind, caseKind, word, kindOf, pack, words, size}
 use Rattle.calculus.specs.Everywhere.{Asked, Everywhere}
-use Rattle.calculus.specs.Contraction.{Rule, Contracts, at-beta, at-case, in-body, in-function, in-argument, in-arguments, in-subject, in-branches, in-first, in-later, in-branch, in-later-branch}
+use Rattle.calculus.specs.Contraction.{Rule, Contracts, at-beta, at-case, at-numeral, in-body, in-function, in-argument, in-arguments, in-subject, in-branches, in-first, in-later, in-branch, in-later-branch}
 use Rattle.calculus.specs.Theorems.{redexKind, Contraction-position}
 use Rattle.calculus.proofs.WordLaws.{size-positive}
 use Rattle.calculus.proofs.Spine.{count-contraction}
@@ -90,6 +90,7 @@ pub site : {I : Type 0} (P : I → Asked (Unit {0})) {s : Sort} {p : ℕ} {r : R
     → Site P (λ i. Everywhere (P i) tt e) (words e) (words g) p r
 site P (at-beta {b = b} {a = a}) = site-root P (at-beta {b = b} {a = a}) refl
 site P (at-case {t = t} {xs = xs} {bs = bs} c) = site-root P (at-case {xs = xs} {bs = bs} c) (omega arith)
+site P (at-numeral {n = n}) = site-root P (at-numeral {n = n}) (omega arith)
 site P (in-body c) = site-under _ (site P c)
 site P (in-function {a = a} c) = site-under _ (site-behind (λ i h. h .0) (words a) (site P c))
 site P (in-argument {f = f} c) = site-under _ (site-before (λ i h. h .1) (words f) refl (site P c))

@@ -7,8 +7,8 @@ use native.Mathlib.Nat.{zero-add, suc-add, add-assoc}
 use native.Mathlib.Omega.{arith}
 use lib.ListN.{length, drop, length-append}
 use lib.Seq.{drop-append-add}
-use Rattle.calculus.specs.Term.{Sort, term, terms, branches, Exp, var, lam, app, con, case, nil, cons, end, branch, count}
-use Rattle.calculus.specs.Words.{variableKind, constructorKind, caseKind, branchKind, kindBase, word, countBase, pack, words, size}
+use Rattle.calculus.specs.Term.{Sort, term, terms, branches, Exp, var, lam, app, con, case, num, nil, cons, end, branch, count}
+use Rattle.calculus.specs.Words.{variableKind, constructorKind, caseKind, branchKind, numeralKind, kindBase, word, countBase, pack, words, size}
 use Rattle.calculus.specs.Skip.{following, arity, skip, span}
 use Rattle.calculus.specs.Theorems.{Packable}
 use Rattle.calculus.proofs.WordLaws.{kindOf-word, payloadOf-word, countOf-pack}
@@ -20,6 +20,10 @@ arity-word k p h = rw (kindOf-word k p h, payloadOf-word k p h)
 pub arity-variable : (i : ℕ) → arity (word variableKind i) ≡ 0
 unfolding following
 arity-variable i = arity-word variableKind i (omega arith)
+
+pub arity-numeral : (n : ℕ) → arity (word numeralKind n) ≡ 0
+unfolding following
+arity-numeral n = arity-word numeralKind n (omega arith)
 
 pub arity-constructor : (t n : ℕ) → n < countBase → arity (word constructorKind (pack t n)) ≡ n
 unfolding following
@@ -65,6 +69,7 @@ passes-words (app f a) k h = passes-word (omega arith) (passes-append (passes-wo
 passes-words (con t xs) k h = passes-word (omega (arith, arity-constructor t (count xs) (h .0))) (passes-words xs k (h .1))
 passes-words (case e bs) k h =
     passes-word (omega (arith, arity-case (count bs))) (passes-append (passes-words e (count bs + k) (h .1)) (passes-words bs k (h .2)))
+passes-words (num n) k h = passes-word (omega (arith, arity-numeral n)) (passes-none refl)
 passes-words nil k h = passes-none (zero-add k)
 passes-words (cons a xs) k h =
     passes-from (suc-add (count xs) k) (passes-append (passes-words a (count xs + k) (h .0)) (passes-words xs k (h .1)))

@@ -6,7 +6,7 @@ use mathlib.Core.Bool.{Bool, true, false}
 use native.Mathlib.Omega.{arith}
 use lib.Dec.{ltb}
 use borrow.Author.Tests.{ltb-true, ltb-false}
-use Rattle.calculus.specs.Term.{Sort, Exp, var, lam, app, con, case, nil, cons, end, branch, Term}
+use Rattle.calculus.specs.Term.{Sort, Exp, var, lam, app, con, case, num, nil, cons, end, branch, Term}
 use Rattle.calculus.specs.Traverse.{traverse}
 
 -- A traversal after another is one traversal if it is so at variables. The later one starts c binders further in.
@@ -17,6 +17,7 @@ module _ (f g h : ℕ → ℕ → Term) (c : ℕ) (variable : (d d′ i : ℕ) �
   traverse-after d d′ (app u a) q = ap₂ app (traverse-after d d′ u q) (traverse-after d d′ a q)
   traverse-after d d′ (con t xs) q = ap (con t) (traverse-after d d′ xs q)
   traverse-after d d′ (case e bs) q = ap₂ case (traverse-after d d′ e q) (traverse-after d d′ bs q)
+  traverse-after d d′ (num n) q = refl
   traverse-after d d′ nil q = refl
   traverse-after d d′ (cons a xs) q = ap₂ cons (traverse-after d d′ a q) (traverse-after d d′ xs q)
   traverse-after d d′ end q = refl
@@ -36,6 +37,7 @@ module _ (f : ℕ → ℕ → Term) (variable : (d i : ℕ) → f d i ≡ var i)
   traverse-identity d (app u a) = ap₂ app (traverse-identity d u) (traverse-identity d a)
   traverse-identity d (con t xs) = ap (con t) (traverse-identity d xs)
   traverse-identity d (case e bs) = ap₂ case (traverse-identity d e) (traverse-identity d bs)
+  traverse-identity d (num n) = refl
   traverse-identity d nil = refl
   traverse-identity d (cons a xs) = ap₂ cons (traverse-identity d a) (traverse-identity d xs)
   traverse-identity d end = refl

@@ -1,11 +1,12 @@
 -- Laws of words: a word holds its kind and its payload, a payload its tag and its count, and each is made of its two parts. Every term has a
--- word, and every accepted expression can be packed.
+-- word, and every accepted expression can be packed and has only numerals with an entry.
 use Prim.Native.Nat.{ℕ, suc, _+_, _≤_, _<_}
 use mathlib.Core.Path.{_≡_, refl, ap}
 use native.Mathlib.Omega.{arith}
-use Rattle.calculus.specs.Term.{Sort, Exp, Term, var, lam, app, con, case}
+use Rattle.calculus.specs.Term.{Sort, Exp, Term, var, lam, app, con, case, num}
 use Rattle.calculus.specs.Words.{kindBase, word, kindOf, payloadOf, countBase, pack, tagOf, countOf, size}
-use Rattle.calculus.specs.Accepted.{scope, Scoped, acceptance, Accepted}
+use Rattle.calculus.specs.Everywhere.{anywhere, Asked, Everywhere}
+use Rattle.calculus.specs.Accepted.{numeralLimit, scope, Scoped, acceptance, Accepted}
 use Rattle.calculus.specs.Theorems.{counted, Packable}
 use Rattle.calculus.proofs.EverywhereLaws.{everywhere-implies}
 
@@ -33,19 +34,43 @@ size-positive (lam b) = omega arith
 size-positive (app f a) = omega arith
 size-positive (con t xs) = omega arith
 size-positive (case e bs) = omega arith
+size-positive (num n) = omega arith
 
 pub accepted-scoped : {s : Sort} (d : ℕ) (e : Exp s) → Accepted d e → Scoped d e
 accepted-scoped d e h =
     everywhere-implies {P = acceptance} {Q = scope} {R = λ d d′ c. d ≡ d′}
-    (record { constructors = λ t n h. tt; cases = λ bs cs same h. tt; branches = λ t n h. tt })
+    (record { constructors = λ t n h. tt; cases = λ bs cs same h. tt; branches = λ t n h. tt; numerals = λ n h. tt })
     (record { abstractions = λ d d′ c r. ap suc r; bodies = λ d d′ c n r. ap (λ d. d + n) r })
     (λ d d′ c i r h. omega arith)
     d d refl e h
 
+-- Every numeral has an entry.
+abbrev pub listed : Asked (Unit {0})
+listed =
+    record {
+      places = anywhere;
+      of-variable = λ d i. Unit {0};
+      of-constructor = λ t n. Unit {0};
+      of-case = λ bs. Unit {0};
+      of-branch = λ t n. Unit {0};
+      of-numeral = λ n. n ≤ numeralLimit;
+    }
+
+abbrev pub Listed : {s : Sort} → Exp s → Type 0
+Listed e = Everywhere listed tt e
+
+pub accepted-listed : {s : Sort} (d : ℕ) (e : Exp s) → Accepted d e → Listed e
+accepted-listed d e h =
+    everywhere-implies {P = acceptance} {Q = listed} {R = λ d p c. Unit {0}}
+    (record { constructors = λ t n h. tt; cases = λ bs cs same h. tt; branches = λ t n h. tt; numerals = λ n h. h })
+    (record { abstractions = λ d p c r. tt; bodies = λ d p c n r. tt })
+    (λ d p c i r h. tt)
+    d tt tt e h
+
 pub accepted-packable : {s : Sort} (d : ℕ) (e : Exp s) → Accepted d e → Packable e
 accepted-packable d e h =
     everywhere-implies {P = acceptance} {Q = counted} {R = λ d p c. Unit {0}}
-    (record { constructors = λ t n h. omega arith; cases = λ bs cs same h. tt; branches = λ t n h. omega arith })
+    (record { constructors = λ t n h. omega arith; cases = λ bs cs same h. tt; branches = λ t n h. omega arith; numerals = λ n h. tt })
     (record { abstractions = λ d p c r. tt; bodies = λ d p c n r. tt })
     (λ d p c i r h. tt)
     d tt tt e h

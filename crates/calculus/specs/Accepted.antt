@@ -1,5 +1,5 @@
 -- Which terms a workspace may hold ("Terms and words"): tags run from 1 to 255, arguments, branches and bound counts from 0 to 15, branch tags
--- rise strictly within a case, and free numbers (indices of free variables) run from 0 to 255. Each limit stands once.
+-- rise strictly within a case, free numbers (indices of free variables) run from 0 to 255, and numerals from 0 to 31. Each limit stands once.
 --
 -- `Accepted d e` says it of e under d binders: an index below d is bound; any other has the free number index minus d.
 use Prim.Native.Nat.{ℕ, _+_, _≤_, _<_}
@@ -21,6 +21,10 @@ branchLimit = 15
 -- The largest free number.
 abbrev pub freeLimit : ℕ
 freeLimit = 255
+
+-- The largest numeral.
+abbrev pub numeralLimit : ℕ
+numeralLimit = 31
 
 -- The largest index of a variable in a stored table. No accepted term in a workspace has a larger one (`Indices-bounded`).
 abbrev pub indexLimit : ℕ
@@ -62,6 +66,7 @@ acceptance =
       of-constructor = Tagged;
       of-case = λ bs. (count bs ≤ branchLimit) × Rising bs;
       of-branch = Tagged;
+      of-numeral = λ n. n ≤ numeralLimit;
     }
 
 abbrev pub Accepted : {s : Sort} → ℕ → Exp s → Type 0

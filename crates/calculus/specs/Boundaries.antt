@@ -1,11 +1,13 @@
--- The edges of the rounds and of the word rules, each with the neighbour that just passes: what the starred bench pairs do not touch.
+-- The edges of the rounds, of the word rules and of closed terms, each with the neighbour that just passes: what the starred bench pairs do not touch.
 use mathlib.Core.Path.{_≡_}
 use Prim.Native.Nat.{ℕ}
 use mathlib.Core.List.{List, [], _∷_}
 use mathlib.Core.Option.{some, none, Option·map}
+use Rattle.calculus.specs.Term.{var, lam}
 use Rattle.calculus.specs.Words.{words}
 use Rattle.calculus.specs.Read.{read}
-use Rattle.calculus.specs.Rounds.{Different, Budget, Full}
+use Rattle.calculus.specs.Rounds.{Same, Different, Budget, Full}
+use Rattle.calculus.specs.Theorems.{Closed}
 use Rattle.calculus.specs.Bench.{contracted, judged, shown}
 
 -- W W ("Bench pairs"): 13 words, whose contractum has 20.
@@ -52,3 +54,22 @@ pub record Boundaries : Type 0 where
   pub redex-in-later-argument : contracted (147 ∷ 8 ∷ 2 ∷ 1 ∷ 0 ∷ 0 ∷ []) ≡ some (some (147 ∷ 8 ∷ 0 ∷ []))
   pub redex-in-subject : contracted (12 ∷ 2 ∷ 1 ∷ 0 ∷ 0 ∷ 133 ∷ 8 ∷ []) ≡ some (some (12 ∷ 0 ∷ 133 ∷ 8 ∷ []))
   pub redex-in-later-branch : contracted (20 ∷ 0 ∷ 133 ∷ 8 ∷ 261 ∷ 2 ∷ 1 ∷ 0 ∷ 0 ∷ []) ≡ some (some (20 ∷ 0 ∷ 133 ∷ 8 ∷ 261 ∷ 0 ∷ []))
+  pub numeral-0 : contracted (6 ∷ []) ≡ some (some (1 ∷ 1 ∷ 0 ∷ []))
+  pub numeral-2 : contracted (22 ∷ []) ≡ some (some (1 ∷ 1 ∷ 2 ∷ 8 ∷ 2 ∷ 8 ∷ 0 ∷ []))
+  pub numeral-31 : Option·map words (read (254 ∷ [])) ≡ some (254 ∷ [])
+  pub numeral-32 : read (262 ∷ []) ≡ none
+  pub no-kind-7 : read (7 ∷ []) ≡ none
+  pub numeral-applied : contracted (2 ∷ 14 ∷ 0 ∷ []) ≡ some (some (2 ∷ 1 ∷ 1 ∷ 2 ∷ 8 ∷ 0 ∷ 0 ∷ []))
+  pub numeral-as-subject : contracted (12 ∷ 6 ∷ 133 ∷ 0 ∷ []) ≡ some (some (12 ∷ 1 ∷ 1 ∷ 0 ∷ 133 ∷ 0 ∷ []))
+  pub numeral-in-later-branch : contracted (20 ∷ 0 ∷ 133 ∷ 8 ∷ 261 ∷ 6 ∷ []) ≡ some (some (20 ∷ 0 ∷ 133 ∷ 8 ∷ 261 ∷ 1 ∷ 1 ∷ 0 ∷ []))
+  pub numeral-thrown-away : contracted (2 ∷ 1 ∷ 8 ∷ 14 ∷ []) ≡ some (some (0 ∷ []))
+  pub numeral-behind-a-redex : contracted (2 ∷ 1 ∷ 14 ∷ 0 ∷ []) ≡ some (some (14 ∷ []))
+  pub numeral-under-a-binder : contracted (2 ∷ 1 ∷ 1 ∷ 14 ∷ 0 ∷ []) ≡ some (some (1 ∷ 14 ∷ []))
+  pub numeral-put-under-a-binder : contracted (2 ∷ 1 ∷ 1 ∷ 8 ∷ 14 ∷ []) ≡ some (some (1 ∷ 14 ∷ []))
+  pub numeral-against-its-term : judged (14 ∷ []) (1 ∷ 1 ∷ 2 ∷ 8 ∷ 0 ∷ []) 16 1 ≡ some (shown Same 1 5 5)
+  pub numeral-against-itself : judged (14 ∷ []) (14 ∷ []) 16 0 ≡ some (shown Same 0 1 1)
+  pub numeral-is-not-normal : judged (14 ∷ []) (6 ∷ []) 16 0 ≡ some (shown Budget 0 1 1)
+  pub numeral-of-C-words : judged (1 ∷ 54 ∷ []) (0 ∷ []) 16 1 ≡ some (shown Different 1 16 1)
+  pub numeral-too-long : judged (62 ∷ []) (0 ∷ []) 16 1 ≡ some (shown Full 0 1 1)
+  pub closed-under-two : Closed (lam (lam (var 1)))
+  pub open-under-two : Closed (lam (lam (var 2))) → ⊥

@@ -1,4 +1,4 @@
--- Contraction at a place ("Contraction"): the beta and the case rule, legal at every redex, under binders, in arguments and in branches.
+-- Contraction at a place ("Contraction"): the beta, the case and the numeral rule, legal at every redex, under binders, in arguments and in branches.
 --
 -- `Contracts s p r e g` says that e, of sort s, becomes g by one contraction with rule r of the redex whose first word stands at position p of
 -- e's words. A case whose branch of the tag binds another number than the constructor's arguments is stuck, and so is an application of a
@@ -8,12 +8,13 @@ use mathlib.Core.Path.{_≡_}
 use mathlib.Core.Bool.{cond}
 use mathlib.Core.Option.{Option, some, none}
 use lib.Dec.{eqb}
-use Rattle.calculus.specs.Term.{Sort, term, terms, branches, Exp, lam, app, con, case, nil, cons, end, branch, Term, Terms, Branches, count}
+use Rattle.calculus.specs.Term.{Sort, term, terms, branches, Exp, lam, app, con, case, num, nil, cons, end, branch, Term, Terms, Branches, count}
 use Rattle.calculus.specs.Words.{size}
+use Rattle.calculus.specs.Numeral.{numeral}
 use Rattle.calculus.specs.Substitution.{subst}
 
 pub data Rule : Type 0 where
-  by-beta by-case : Rule
+  by-beta by-case by-numeral : Rule
 
 -- What the case rule makes of a constructor's tag and arguments and the branches: the body of the branch of that tag, with the arguments for
 -- the bound indices, if the branch binds as many as there are arguments.
@@ -24,6 +25,7 @@ select t xs (branch u n b bs) = cond (eqb t u) (cond (eqb (count xs) n) (some (s
 pub data Contracts : (s : Sort) → ℕ → Rule → Exp s → Exp s → Type 0 where
   at-beta : {b a : Term} → Contracts term 0 by-beta (app (lam b) a) (subst (cons a nil) 0 b)
   at-case : {t : ℕ} {xs : Terms} {bs : Branches} {u : Term} → select t xs bs ≡ some u → Contracts term 0 by-case (case (con t xs) bs) u
+  at-numeral : {n : ℕ} → Contracts term 0 by-numeral (num n) (numeral n)
   in-body : {p : ℕ} {r : Rule} {b b′ : Term} → Contracts term p r b b′ → Contracts term (suc p) r (lam b) (lam b′)
   in-function : {p : ℕ} {r : Rule} {f f′ a : Term} → Contracts term p r f f′ → Contracts term (suc p) r (app f a) (app f′ a)
   in-argument : {p : ℕ} {r : Rule} {f a a′ : Term} → Contracts term p r a a′ → Contracts term (suc (size f + p)) r (app f a) (app f a′)

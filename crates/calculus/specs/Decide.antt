@@ -3,9 +3,9 @@
 use Prim.Native.Nat.{ℕ, _+_}
 use mathlib.Core.Logic.{Dec·and}
 use native.Mathlib.Decide.{decLe, decLt}
-use Rattle.calculus.specs.Term.{Sort, Exp, var, lam, app, con, case, nil, cons, end, branch, Branches, count}
+use Rattle.calculus.specs.Term.{Sort, Exp, var, lam, app, con, case, num, nil, cons, end, branch, Branches, count}
 use Rattle.calculus.specs.Everywhere.{Asked, Everywhere}
-use Rattle.calculus.specs.Accepted.{tagLimit, argumentLimit, branchLimit, freeLimit, IsTag, StartsAbove, Rising, Tagged, scope, Scoped, acceptance, Accepted}
+use Rattle.calculus.specs.Accepted.{tagLimit, argumentLimit, branchLimit, freeLimit, numeralLimit, IsTag, StartsAbove, Rising, Tagged, scope, Scoped, acceptance, Accepted}
 
 unfoldable pub both₃ : {A B C : Type 0} → Dec A → Dec B → Dec C → Dec (A × B × C)
 both₃ (yes a) (yes b) (yes c) = yes (a, b, c)
@@ -31,6 +31,7 @@ pub record Deciders {Place : Type 0} (P : Asked Place) : Type 0 where
   pub of-constructor? : (t n : ℕ) → Dec (P .of-constructor t n)
   pub of-case? : (bs : Branches) → Dec (P .of-case bs)
   pub of-branch? : (t n : ℕ) → Dec (P .of-branch t n)
+  pub of-numeral? : (n : ℕ) → Dec (P .of-numeral n)
 
 unfoldable pub everywhere? : {Place : Type 0} {P : Asked Place} {s : Sort} → Deciders P → (d : Place) (e : Exp s) → Dec (Everywhere P d e)
 everywhere? D d (var i) = D .of-variable? d i
@@ -38,6 +39,7 @@ everywhere? {P = P} D d (lam b) = everywhere? D (P .places .under-abstraction d)
 everywhere? D d (app f a) = Dec·and (everywhere? D d f) (everywhere? D d a)
 everywhere? D d (con t xs) = Dec·and (D .of-constructor? t (count xs)) (everywhere? D d xs)
 everywhere? D d (case e bs) = both₃ (D .of-case? bs) (everywhere? D d e) (everywhere? D d bs)
+everywhere? D d (num n) = D .of-numeral? n
 everywhere? D d nil = yes tt
 everywhere? D d (cons a xs) = Dec·and (everywhere? D d a) (everywhere? D d xs)
 everywhere? D d end = yes tt
@@ -54,6 +56,7 @@ scoped? d e =
       of-constructor? = λ t n. yes tt;
       of-case? = λ bs. yes tt;
       of-branch? = λ t n. yes tt;
+      of-numeral? = λ n. yes tt;
     })
     d e
 
@@ -65,5 +68,6 @@ accepted? d e =
       of-constructor? = tagged?;
       of-case? = λ bs. Dec·and (decLe (count bs) branchLimit) (rising? bs);
       of-branch? = tagged?;
+      of-numeral? = λ n. decLe n numeralLimit;
     })
     d e

@@ -2,7 +2,7 @@
 use Prim.Native.Nat.{ℕ}
 use mathlib.Core.Path.{_≡_, refl, sym, _∙_, ap, ap₂}
 use native.Mathlib.Decide.{ℕ-discrete}
-use Rattle.calculus.specs.Term.{Sort, term, terms, branches, Exp, var, lam, app, con, case, nil, cons, end, branch, Term, Terms, Branches}
+use Rattle.calculus.specs.Term.{Sort, term, terms, branches, Exp, var, lam, app, con, case, num, nil, cons, end, branch, Term, Terms, Branches}
 
 -- Expressions of all sorts as trees of one plain type, whose equality is derived.
 pub data Tree : Type 0 where
@@ -11,6 +11,7 @@ pub data Tree : Type 0 where
   app′ : Tree → Tree → Tree
   con′ : ℕ → Tree → Tree
   case′ : Tree → Tree → Tree
+  num′ : ℕ → Tree
   nil′ : Tree
   cons′ : Tree → Tree → Tree
   end′ : Tree
@@ -23,6 +24,7 @@ tree (lam b) = lam′ (tree b)
 tree (app f a) = app′ (tree f) (tree a)
 tree (con t xs) = con′ t (tree xs)
 tree (case e bs) = case′ (tree e) (tree bs)
+tree (num n) = num′ n
 tree nil = nil′
 tree (cons a xs) = cons′ (tree a) (tree xs)
 tree end = end′
@@ -38,6 +40,7 @@ back (lam′ b) = (lam (back b .0), nil, end)
 back (app′ f a) = (app (back f .0) (back a .0), nil, end)
 back (con′ t xs) = (con t (back xs .1), nil, end)
 back (case′ e bs) = (case (back e .0) (back bs .2), nil, end)
+back (num′ n) = (num n, nil, end)
 back nil′ = (var 0, nil, end)
 back (cons′ a xs) = (var 0, cons (back a .0) (back xs .1), end)
 back end′ = (var 0, nil, end)
@@ -55,6 +58,7 @@ back-tree (lam b) = ap lam (back-tree b)
 back-tree (app f a) = ap₂ app (back-tree f) (back-tree a)
 back-tree (con t xs) = ap (con t) (back-tree xs)
 back-tree (case e bs) = ap₂ case (back-tree e) (back-tree bs)
+back-tree (num n) = refl
 back-tree nil = refl
 back-tree (cons a xs) = ap₂ cons (back-tree a) (back-tree xs)
 back-tree end = refl

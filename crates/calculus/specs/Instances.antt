@@ -3,10 +3,11 @@ use Prim.Native.Nat.{ℕ, _+_, _≤_, _<_}
 use mathlib.Core.Path.{_≡_}
 use mathlib.Core.List.{[], _∷_, _++_}
 use lib.IntN.{pos, negsuc, _+ℤ_}
-use Rattle.calculus.specs.Term.{term, var, lam, app, con, case, nil, cons, end, branch, Term}
+use Rattle.calculus.specs.Term.{term, var, lam, app, con, case, num, nil, cons, end, branch, Term}
 use Rattle.calculus.specs.Words.{words, size, workspaceMost}
 use Rattle.calculus.specs.Accepted.{Accepted}
-use Rattle.calculus.specs.Contraction.{by-beta, by-case, Contracts}
+use Rattle.calculus.specs.Numeral.{numeral}
+use Rattle.calculus.specs.Contraction.{by-beta, by-case, by-numeral, Contracts}
 use Rattle.calculus.specs.Conversion.{Contracts₁, Reaches, Joined, Normal}
 use Rattle.calculus.specs.Theorems.{Packable}
 
@@ -29,17 +30,21 @@ abbrev pub inner-contracted : Term
 inner-contracted = lam (app (var 0) (var 1))
 
 pub record Instances : Type 0 where
-  -- Words-prefix-free: the terms are equal, and different words follow both.
+  -- Words-prefix-free: the terms are equal, and different words follow both. It asks nothing of numerals.
   pub packable : Packable (con 1 (cons (var 0) nil))
+  pub packable-numeral : Packable (num 32)
   pub starts-alike : words (con 1 (cons (var 0) nil)) ++ (8 ∷ []) ≡ 139 ∷ 0 ∷ 8 ∷ []
   -- Move-exact: up, down, and down to 0.
   pub moves-up : pos 1 +ℤ pos 2 ≡ pos 3
   pub moves-down : pos 3 +ℤ negsuc 1 ≡ pos 1
   pub moves-to-0 : pos 1 +ℤ negsuc 0 ≡ pos 0
-  -- The types about a contraction, by either rule and inside a term.
+  -- The types about a contraction, by each rule and inside a term.
   pub contracts-by-beta : Contracts term 0 by-beta identity-applied (var 1)
   pub contracts-by-case : Contracts term 0 by-case second-branch (var 1)
+  pub contracts-by-numeral : Contracts term 0 by-numeral (num 1) (lam (lam (app (var 1) (var 0))))
   pub contracts-inside : Contracts term 3 by-beta inner-redex inner-contracted
+  -- Any numeral contracts, also one that no workspace holds.
+  pub contracts-by-numeral-32 : Contracts term 0 by-numeral (num 32) (numeral 32)
   -- Redexes-before-kept: position 0 lies more than one word before it.
   pub lies-before : 0 + 1 < 3
   -- Contraction-keeps-accepted and Indices-bounded.

@@ -12,6 +12,7 @@ pub mod Refusal
 pub mod Traverse
 pub mod Shift
 pub mod Substitution
+pub mod Numeral
 pub mod Contraction
 pub mod Relation
 pub mod Conversion

@@ -4,7 +4,7 @@ use Prim.Native.Nat.{ℕ, zero, suc, _-_}
 use mathlib.Core.Bool.{cond}
 use mathlib.Core.Option.{Option, none, Option·map}
 use lib.Dec.{ltb}
-use Rattle.calculus.specs.Term.{Sort, Exp, var, lam, app, con, case, nil, cons, end, branch}
+use Rattle.calculus.specs.Term.{Sort, Exp, var, lam, app, con, case, num, nil, cons, end, branch}
 use Rattle.calculus.specs.Words.{size}
 use Rattle.calculus.specs.Contraction.{Rule}
 use Rattle.calculus.specs.Step.{contractum, firstStep}
@@ -26,6 +26,8 @@ stepAt (suc p) (con t xs) = Option·map (through (con t)) (stepAt p xs)
 stepAt zero (case e bs) = contractum (case e bs)
 stepAt (suc p) (case e bs) =
     cond (ltb p (size e)) (Option·map (through (λ e′. case e′ bs)) (stepAt p e)) (Option·map (through (case e)) (stepAt (p - size e) bs))
+stepAt zero (num n) = contractum (num n)
+stepAt (suc p) (num n) = none
 stepAt p nil = none
 stepAt p (cons a xs) =
     cond (ltb p (size a)) (Option·map (through (λ a′. cons a′ xs)) (stepAt p a)) (Option·map (through (cons a)) (stepAt (p - size a) xs))

@@ -2,7 +2,7 @@
 --
 -- A list of words is read from its end. What has been read is a list of items, each a term or a branch; a word takes from the front of that
 -- list what has to follow it, and the item that it begins stands there instead. The whole list is one term if one item is left in the end and
--- it is an accepted term. So a missing word, a surplus word, a kind above 5, a payload that should be 0 and is not, a branch outside a case and
+-- it is an accepted term. So a missing word, a surplus word, a kind above 6, a payload that should be 0 and is not, a branch outside a case and
 -- anything but a branch where a branch must stand give none, and every broken limit does. `Read-exact` states that a term is read exactly from its
 -- words.
 use Prim.Native.Nat.{ℕ, zero, suc}
@@ -11,8 +11,8 @@ use mathlib.Core.List.{List, [], _∷_}
 use mathlib.Core.Logic.{ite}
 use mathlib.Core.Option.{Option, some, none, Option·map, bind}
 use lib.Dec.{eqb}
-use Rattle.calculus.specs.Term.{Term, Terms, Branches, var, lam, app, con, case, nil, cons, end, branch}
-use Rattle.calculus.specs.Words.{variableKind, abstractionKind, applicationKind, constructorKind, caseKind, branchKind, kindOf, payloadOf, tagOf, countOf}
+use Rattle.calculus.specs.Term.{Term, Terms, Branches, var, lam, app, con, case, num, nil, cons, end, branch}
+use Rattle.calculus.specs.Words.{variableKind, abstractionKind, applicationKind, constructorKind, caseKind, branchKind, numeralKind, kindOf, payloadOf, tagOf, countOf}
 use Rattle.calculus.specs.Decide.{accepted?}
 
 pub data Item : Type 0 where
@@ -62,7 +62,8 @@ item k p is =
     (cond (eqb k constructorKind) (readCon p is)
     (cond (eqb k caseKind) (readCase p is)
     (cond (eqb k branchKind) (readBranch p is)
-    none)))))
+    (cond (eqb k numeralKind) (some (whole (num p) ∷ is))
+    none))))))
 
 unfoldable pub items : List ℕ → Option (List Item)
 items [] = some []

@@ -2,10 +2,11 @@
 -- `Leftmost-step`, `Leftmost-none`, `Redex-first` and `Redex-none` state that the functions follow it.
 use Prim.Native.Nat.{ℕ, _+_}
 use mathlib.Core.Option.{Option, some, none, Option·map, orElse}
-use Rattle.calculus.specs.Term.{Sort, Exp, var, lam, app, con, case, nil, cons, end, branch, Term}
+use Rattle.calculus.specs.Term.{Sort, Exp, var, lam, app, con, case, num, nil, cons, end, branch, Term}
 use Rattle.calculus.specs.Words.{size}
+use Rattle.calculus.specs.Numeral.{numeral}
 use Rattle.calculus.specs.Substitution.{subst}
-use Rattle.calculus.specs.Contraction.{Rule, by-beta, by-case, select}
+use Rattle.calculus.specs.Contraction.{Rule, by-beta, by-case, by-numeral, select}
 
 -- What a term that is itself a redex becomes, and by which rule; none where no rule applies to the term itself.
 abbrev pub contractum : Term → Option (Rule × Term)
@@ -16,12 +17,15 @@ contractum (app (lam b) a) = some (by-beta, subst (cons a nil) 0 b)
 contractum (app (app f g) a) = none
 contractum (app (con t xs) a) = none
 contractum (app (case e bs) a) = none
+contractum (app (num n) a) = none
 contractum (con t xs) = none
 contractum (case (var i) bs) = none
 contractum (case (lam b) bs) = none
 contractum (case (app f a) bs) = none
 contractum (case (con t xs) bs) = Option·map (λ u. (by-case, u)) (select t xs bs)
 contractum (case (case e cs) bs) = none
+contractum (case (num n) bs) = none
+contractum (num n) = some (by-numeral, numeral n)
 
 -- One contraction: the position at which its redex starts, the rule, and what the whole becomes.
 pub record Step (A : Type 0) : Type 0 where
@@ -55,6 +59,7 @@ firstStep (con t xs) = first-of 1 none (Option·map (in-whole (con t)) (firstSte
 firstStep (case e bs) =
     first-of 1 (at-first (contractum (case e bs)))
     (first-of (size e) (Option·map (in-whole (λ e′. case e′ bs)) (firstStep e)) (Option·map (in-whole (case e)) (firstStep bs)))
+firstStep (num n) = at-first (contractum (num n))
 firstStep nil = none
 firstStep (cons a xs) = first-of (size a) (Option·map (in-whole (λ a′. cons a′ xs)) (firstStep a)) (Option·map (in-whole (cons a)) (firstStep xs))
 firstStep end = none

@@ -1,7 +1,8 @@
--- Terms ("Terms and words"): a variable, an abstraction, an application, a constructor with its arguments, or a case with a subject (its
--- scrutinee) and branches. Variables are de Bruijn indices from 0; a branch has a tag, a bound count and a body under that many binders.
+-- Terms ("Terms and words"): a variable, an abstraction, an application, a constructor with its arguments, a case with a subject (its scrutinee)
+-- and branches, or a numeral. Variables are de Bruijn indices from 0; a branch has a tag, a bound count and a body under that many binders; a
+-- numeral stands for the Church numeral.
 --
--- Indices, tags and counts are any natural numbers here: the terms inside a chain have no limit. Which terms a workspace may hold is said by
+-- Indices, tags, counts and numerals are any natural numbers here: the terms inside a chain have no limit. Which terms a workspace may hold is said by
 -- `Accepted`.
 --
 -- Argument lists and branch lists are further sorts of one family of expressions, so that a definition or a law that goes through a term says
@@ -17,6 +18,7 @@ pub data Exp : Sort → Type 0 where
   app : Exp term → Exp term → Exp term
   con : ℕ → Exp terms → Exp term
   case : Exp term → Exp branches → Exp term
+  num : ℕ → Exp term
   nil : Exp terms
   cons : Exp term → Exp terms → Exp terms
   end : Exp branches

@@ -1,5 +1,5 @@
 -- What is owed about the calculus: each statement is a type with a name, and its proof in proofs/ has that type.
-use Prim.Native.Nat.{ℕ, _+_, _≤_, _<_}
+use Prim.Native.Nat.{ℕ, zero, suc, _+_, _*_, _≤_, _<_}
 use mathlib.Core.Path.{_≡_}
 use mathlib.Core.List.{List, [], _∷_, _++_}
 use mathlib.Core.Logic.{_↔_, _⊎_}
@@ -7,12 +7,13 @@ use mathlib.Core.Option.{some, none, bind}
 use lib.IntN.{ℤ, pos, _+ℤ_}
 use lib.ListN.{getD}
 use Rattle.calculus.specs.Term.{Sort, term, Exp, Term}
-use Rattle.calculus.specs.Words.{applicationKind, caseKind, kindOf, countBase, words, size, workspaceMost}
-use Rattle.calculus.specs.Everywhere.{anywhere, Asked, variables, Everywhere}
+use Rattle.calculus.specs.Words.{applicationKind, caseKind, numeralKind, kindOf, countBase, words, size, workspaceMost}
+use Rattle.calculus.specs.Everywhere.{binders, anywhere, Asked, variables, Everywhere}
 use Rattle.calculus.specs.Accepted.{Accepted, indexLimit}
 use Rattle.calculus.specs.Read.{read}
 use Rattle.calculus.specs.Shift.{move}
-use Rattle.calculus.specs.Contraction.{Rule, by-beta, by-case, Contracts}
+use Rattle.calculus.specs.Numeral.{numeral}
+use Rattle.calculus.specs.Contraction.{Rule, by-beta, by-case, by-numeral, Contracts}
 use Rattle.calculus.specs.Conversion.{Contracts₁, Reaches, Joined, Normal}
 use Rattle.calculus.specs.Leftmost.{Contracts-leftmost, leftmost}
 use Rattle.calculus.specs.Position.{contractAt, redexAt}
@@ -30,6 +31,7 @@ counted =
       of-constructor = λ t n. n < countBase;
       of-case = λ bs. Unit {0};
       of-branch = λ t n. n < countBase;
+      of-numeral = λ n. Unit {0};
     }
 
 abbrev pub Packable : {s : Sort} → Exp s → Type 0
@@ -40,6 +42,24 @@ Packable e = Everywhere counted tt e
 abbrev pub Words-prefix-free : Type 0
 Words-prefix-free =
     (t u : Term) (ws vs : List ℕ) → Packable t → Packable u → words t ++ ws ≡ words u ++ vs → (t ≡ u) × (ws ≡ vs)
+
+-- Every variable is bound.
+abbrev pub closed : Asked ℕ
+closed = variables binders (λ d i. i < d)
+
+abbrev pub Closed : {s : Sort} → Exp s → Type 0
+Closed e = Everywhere closed 0 e
+
+-- A numeral is closed, and its words are 1, 1, then n times 2, 8, then 0: 2 × n + 3 words.
+abbrev pub Numeral-closed : Type 0
+Numeral-closed = (n : ℕ) → Closed (numeral n)
+
+abbrev pub pairs : ℕ → List ℕ
+pairs zero = []
+pairs (suc n) = 2 ∷ 8 ∷ pairs n
+
+abbrev pub Numeral-words : Type 0
+Numeral-words = (n : ℕ) → (words (numeral n) ≡ (1 ∷ 1 ∷ []) ++ (pairs n ++ (0 ∷ []))) × (size (numeral n) ≡ 2 * n + 3)
 
 -- A moved index is the sum of index and distance as integers, wherever that is not negative.
 abbrev pub Move-exact : Type 0
@@ -56,6 +76,7 @@ Leftmost-none = (t : Term) → (leftmost t ≡ none) ↔ Normal t
 abbrev pub redexKind : Rule → ℕ
 redexKind by-beta = applicationKind
 redexKind by-case = caseKind
+redexKind by-numeral = numeralKind
 
 abbrev pub Contraction-position : Type 0
 Contraction-position = (p : ℕ) (r : Rule) (t u : Term) → Contracts term p r t u → kindOf (getD (words t) p 0) ≡ redexKind r

@@ -3,9 +3,9 @@
 use Prim.Native.Nat.{ℕ, _+_, _*_, _/_, _%_}
 use mathlib.Core.List.{List, [], _∷_, _++_}
 use lib.ListN.{length}
-use Rattle.calculus.specs.Term.{Sort, Exp, var, lam, app, con, case, nil, cons, end, branch, count}
+use Rattle.calculus.specs.Term.{Sort, Exp, var, lam, app, con, case, num, nil, cons, end, branch, count}
 
--- The six kinds.
+-- The seven kinds.
 abbrev pub variableKind : ℕ
 variableKind = 0
 
@@ -24,12 +24,19 @@ caseKind = 4
 abbrev pub branchKind : ℕ
 branchKind = 5
 
+abbrev pub numeralKind : ℕ
+numeralKind = 6
+
 -- A workspace has 16 to 2,048 words.
 abbrev pub workspaceLeast : ℕ
 workspaceLeast = 16
 
 abbrev pub workspaceMost : ℕ
 workspaceMost = 2048
+
+-- The library of numerals has this many words.
+abbrev pub libraryWords : ℕ
+libraryWords = 1088
 
 -- A payload stands above the kind.
 abbrev pub kindBase : ℕ
@@ -65,6 +72,7 @@ words (lam b) = word abstractionKind 0 ∷ words b
 words (app f a) = word applicationKind 0 ∷ (words f ++ words a)
 words (con t xs) = word constructorKind (pack t (count xs)) ∷ words xs
 words (case e bs) = word caseKind (count bs) ∷ (words e ++ words bs)
+words (num n) = word numeralKind n ∷ []
 words nil = []
 words (cons a xs) = words a ++ words xs
 words end = []

@@ -5,31 +5,31 @@ use mathlib.Core.Bool.{true, false, not, _&&_, and-eq-true-iff}
 use lib.Dec.{leb, eqb}
 use lib.ListN.{length}
 use borrow.Author.Tests.{leb-true, le-leb, eqb-true, eq-eqb, not-true, not-false}
-use Rattle.calculus.specs.Words.{branchKind}
+use Rattle.calculus.specs.Words.{numeralKind}
 use Rattle.records.specs.Records.{Table, everyOf}
 use Rattle.records.specs.Values.{valueFits, wrongValue}
 use Rattle.records.specs.Children.{children, isBranch, childrenFit, agrees, recordFits, wrongChildren}
 use Rattle.records.proofs.Sums.{every-at, every-of}
 
 pub record Valued (T : Table) : Type 0 where
-  pub known-kind : (i : ℕ) → 1 ≤ i → i ≤ T .n → T .at i .kind ≤ branchKind
+  pub known-kind : (i : ℕ) → 1 ≤ i → i ≤ T .n → T .at i .kind ≤ numeralKind
   pub value-fits : (i : ℕ) → 1 ≤ i → i ≤ T .n → valueFits (T .at i .kind) (T .at i .value) ≡ true
 
 pub valued : (T : Table) → wrongValue T ≡ false → Valued T
 unfolding wrongValue
 valued T h =
     record {
-      known-kind = λ i l u. leb-true (T .at i .kind) branchKind (each i l u .0);
+      known-kind = λ i l u. leb-true (T .at i .kind) numeralKind (each i l u .0);
       value-fits = λ i l u. each i l u .1;
     }
   where
-    each : (i : ℕ) → 1 ≤ i → i ≤ T .n → (leb (T .at i .kind) branchKind ≡ true) × (valueFits (T .at i .kind) (T .at i .value) ≡ true)
+    each : (i : ℕ) → 1 ≤ i → i ≤ T .n → (leb (T .at i .kind) numeralKind ≡ true) × (valueFits (T .at i .kind) (T .at i .value) ≡ true)
     each i l u = and-eq-true-iff _ _ .0 (every-at (T .n) _ (not-false _ h) i l u)
 
 pub valued-passes : (T : Table) → Valued T → wrongValue T ≡ false
 unfolding wrongValue
 valued-passes T F =
-    ap not (every-of (T .n) _ (λ i l u. and-eq-true-iff _ _ .1 (le-leb _ branchKind (F .known-kind i l u), F .value-fits i l u)))
+    ap not (every-of (T .n) _ (λ i l u. and-eq-true-iff _ _ .1 (le-leb _ numeralKind (F .known-kind i l u), F .value-fits i l u)))
 
 pub record Fitted (T : Table) : Type 0 where
   pub declared-agrees : (i : ℕ) → 1 ≤ i → i ≤ T .n → agrees (T .declared i) (length (children T i)) ≡ true

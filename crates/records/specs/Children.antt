@@ -1,12 +1,12 @@
 -- Refusal 5 ("Numbers for refused calls"): the children of every record, and the root.
 use Prim.Native.Nat.{ℕ, zero, suc, _≤_}
 use mathlib.Core.Path.{_≡_}
-use mathlib.Core.Bool.{Bool, true, false, cond, not, _&&_}
+use mathlib.Core.Bool.{Bool, true, false, cond, not, _&&_, _||_}
 use mathlib.Core.List.{List, [], _∷_}
 use mathlib.Core.Option.{Option, some, none}
 use lib.Dec.{leb, ltb, eqb}
 use lib.ListN.{length}
-use Rattle.calculus.specs.Words.{variableKind, applicationKind, constructorKind, caseKind, branchKind, tagOf}
+use Rattle.calculus.specs.Words.{variableKind, applicationKind, constructorKind, caseKind, branchKind, numeralKind, tagOf}
 use Rattle.calculus.specs.Accepted.{argumentLimit, branchLimit}
 use Rattle.records.specs.Records.{Record, Table, everyOf, Stored, view}
 use Rattle.records.specs.Header.{wrongLength}
@@ -42,7 +42,7 @@ chainFits b (r ∷ rs) = mayStand b r rs && chainFits b rs
 -- How many children a kind has; a case has its subject and the branches. The last line is for abstractions and branches.
 abbrev pub numberFits : (kind number : ℕ) → Bool
 numberFits k m =
-    cond (eqb k variableKind) (eqb m 0)
+    cond (eqb k variableKind || eqb k numeralKind) (eqb m 0)
     (cond (eqb k applicationKind) (eqb m 2)
     (cond (eqb k constructorKind) (leb m argumentLimit)
     (cond (eqb k caseKind) (leb 1 m && leb m (suc branchLimit))

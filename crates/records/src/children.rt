@@ -75,7 +75,7 @@ fn number_fits(kind: u32, number: usize) -> bool
     ensures { λ r. ⌜ r ≡ numberFits kind number ⌝ }
 {
     match kind {
-        Word::VARIABLE => number == 0,
+        Word::VARIABLE | Word::NUMERAL => number == 0,
         Word::APPLICATION => number == 2,
         Word::CONSTRUCTOR => number <= Word::ARGUMENTS_MOST as usize,
         Word::CASE => is_case_number(number),

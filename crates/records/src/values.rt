@@ -7,7 +7,7 @@ use words::Word;
 ghost use mathlib.Core.Path.{_≡_};
 ghost use mathlib.Core.Bool.{false, _&&_};
 ghost use lib.Dec.{leb};
-ghost use Rattle.calculus.specs.Words.{branchKind, tagOf, countOf};
+ghost use Rattle.calculus.specs.Words.{numeralKind, tagOf, countOf};
 ghost use Rattle.calculus.specs.Accepted.{argumentLimit};
 ghost use Rattle.records.specs.Records.{Inside};
 ghost use Rattle.records.specs.Types.{stored, viewed};
@@ -35,15 +35,16 @@ fn is_tagged(value: u32) -> bool
 
 // Whether a record of this kind may have this value.
 fn kind_fits(kind: u32, value: u32) -> bool
-    ensures { λ r. ⌜ r ≡ (leb kind branchKind && valueFits kind value) ⌝ }
+    ensures { λ r. ⌜ r ≡ (leb kind numeralKind && valueFits kind value) ⌝ }
 {
-    if Word::BRANCH < kind {
+    if Word::NUMERAL < kind {
         return false;
     }
     match kind {
         Word::VARIABLE => value <= Record::INDEX_MOST,
         Word::CONSTRUCTOR => is_tag(value),
         Word::BRANCH => is_tagged(value),
+        Word::NUMERAL => value <= Word::NUMERAL_MOST,
         _ => value == 0,
     }
 }

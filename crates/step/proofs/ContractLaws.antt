@@ -9,11 +9,24 @@ use Rattle.calculus.specs.Words.{words, size}
 use Rattle.words.specs.Placed.{Placed, Copies}
 use Rattle.words.proofs.PlacedLaws.{sets-append, placed-length, placed-start}
 use Rattle.substitution.specs.Results.{Substitutes}
+use Rattle.step.specs.declared.Body.{Body}
 use Rattle.step.specs.declared.Redex.{Redex}
 use Rattle.step.specs.Next.{next, nextFrom}
-use Rattle.step.specs.Plan.{contractum, HasRoom, Contracted}
+use Rattle.step.specs.Plan.{contractum, Substituting, Puttable, Fits, HasRoom, Contracted}
 use Rattle.step.proofs.NextLaws.{start, next-splits, next-size}
 use Rattle.step.proofs.TailLaws.{set-sets}
+
+-- A body with its arguments may be substituted.
+pub substitutes : {ws put scratch room : List ℕ} {b : Body} → Substituting ws b → Fits put scratch room
+    → Substitutes ws (b .start) (b .stop) (b .args) (b .after) (b .count) room
+substitutes p f =
+    record {
+      substitutable = p .substitutable;
+      from = p .from;
+      to = p .to;
+      after-is = p .after-is;
+      enough = omega (arith, p .small, f .room-fits);
+    }
 
 -- Words put before other words that were put.
 sets-before : (us vs l : List ℕ) (i j : ℕ) → i + length us ≤ j → sets (sets l j vs) i us ≡ sets (sets l i us) j vs
@@ -24,17 +37,6 @@ sets-before (u ∷ us) vs l i j h =
 module _ {ws scratch room : List ℕ} {n : ℕ} {r : Redex} (h : HasRoom ws n r scratch room) where
   abbrev rest : List ℕ
   rest = slice (r .end) n ws
-
-  pub substitutes : Substitutes ws (r .body) (r .stop) (r .args) (r .after) (r .count) room
-  substitutes =
-      let p = h .plan in
-      record {
-        substitutable = p .substitutable;
-        from = p .from;
-        to = p .to;
-        after-is = p .after-is;
-        enough = omega (arith, p .small, h .room-fits);
-      }
 
   -- The next term is as long as its parts.
   pub lengths : size (next ws n (r .at)) ≡ r .at + (length (contractum ws r) + (n - r .end))
@@ -48,8 +50,11 @@ module _ {ws scratch room : List ℕ} {n : ℕ} {r : Redex} (h : HasRoom ws n r 
         length-slice (r .end) n ws (start (p .redex) .within),
       )
 
-  pub contractum-fits : 0 + length (contractum ws r) ≤ length scratch
-  contractum-fits = omega (arith, lengths, h .plan .length-is, h .scratch-fits)
+  pub puttable : Puttable ws (r .rule)
+  puttable = h .plan .puttable
+
+  pub contractum-fits : Fits (contractum ws r) scratch room
+  contractum-fits = record { scratch-fits = omega (arith, lengths, h .plan .length-is, h .scratch-fits); room-fits = h .room-fits }
 
   module _ {scratch′ : List ℕ} {put : ℕ} (gathered : Placed scratch 0 (contractum ws r) scratch′ put) where
     pub tail-fits : Copies ws (r .end) n ws (r .at + put)
@@ -68,7 +73,7 @@ module _ {ws scratch room : List ℕ} {n : ℕ} {r : Redex} (h : HasRoom ws n r 
       back-fits =
           record {
             ordered = omega arith;
-            within = omega (arith, gathered .position, contractum-fits, placed-length gathered);
+            within = omega (arith, gathered .position, contractum-fits .scratch-fits, placed-length gathered);
             fits = omega (arith, lengths, h .plan .length-is, h .fits, gathered .position, same-length);
           }
 
@@ -87,6 +92,6 @@ module _ {ws scratch room : List ℕ} {n : ℕ} {r : Redex} (h : HasRoom ws n r 
       contracted w =
           record {
             returned = h .plan .length-is;
-            workspace = w .slice ∙ ap (sets ws₁ (r .at)) (placed-start (omega (arith, contractum-fits)) gathered) ∙ put-back;
+            workspace = w .slice ∙ ap (sets ws₁ (r .at)) (placed-start (omega (arith, contractum-fits .scratch-fits)) gathered) ∙ put-back;
             written = gathered .slice;
           }

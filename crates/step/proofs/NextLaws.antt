@@ -1,35 +1,36 @@
 -- The contraction of the held term in the words of the workspace: the parts found at the redex's position are those that substitution asks for,
--- and the next term's words are those before the redex, the substituted body's and those behind the redex.
+-- and the next term's words are those before the redex, the substituted body's or the numeral's, and those behind the redex.
 use Prim.Native.Nat.{ℕ, suc, _+_, _-_, _*_, _≤_, _<_}
-use mathlib.Core.Path.{_≡_, refl, sym, _∙_, ap}
+use mathlib.Core.Path.{_≡_, refl, sym, subst, _∙_, ap, ap₂}
 use mathlib.Core.List.{List, _++_, append-assoc}
 use mathlib.Core.Option.{Option, some, Option·map, Option·none-ne-some, Option·some-injective}
 use native.Mathlib.Nat.{add-zero}
 use native.Mathlib.Omega.{arith}
 use lib.ListN.{length, take, drop, length-append, length-drop}
 use lib.Seq.{slice, length-slice, length-take-le, take-at, drop-at}
-use Rattle.calculus.specs.Term.{Sort, Exp, Term, Terms, count}
+use Rattle.calculus.specs.Term.{Sort, Exp, Term, Terms, num, count}
 use Rattle.calculus.specs.Words.{countBase, workspaceMost, words, size}
 use Rattle.calculus.specs.Skip.{span}
-use Rattle.calculus.specs.Substitution.{subst}
+use Rattle.calculus.specs.Substitution.{subst as substitution}
+use Rattle.calculus.specs.Numeral.{numeral}
 use Rattle.calculus.specs.Contraction.{Rule}
 use Rattle.calculus.specs.Position.{contractAt}
 use Rattle.calculus.specs.Theorems.{Packable, IndicesWithin}
-use Rattle.calculus.proofs.WordLaws.{accepted-packable}
+use Rattle.calculus.proofs.WordLaws.{Listed, accepted-listed, accepted-packable}
 use Rattle.calculus.proofs.SizeLaws.{size-subst}
 use Rattle.calculus.proofs.FirstLaws.{span-items}
 use Rattle.calculus.proofs.Indices.{indices-bounded}
 use Rattle.calculus.proofs.PositionLaws.{contract-at-position, contractAt-within}
 use Rattle.calculus.proofs.Focus.{Focus, focus}
-use Rattle.calculus.specs.Accepted.{indexLimit}
+use Rattle.calculus.specs.Accepted.{indexLimit, numeralLimit}
 use Rattle.substitution.specs.Results.{Substitutable, substituted}
 use Rattle.substitution.proofs.ResultLaws.{substituted-at, substitutable-at}
 use Rattle.step.specs.Held.{held}
-use Rattle.step.specs.Rules.{nothing, parted, parts}
+use Rattle.step.specs.Rules.{nothing, parted, numbered, parts}
 use Rattle.step.specs.Next.{next, nextFrom, HoldsRedex}
 use Rattle.step.proofs.HeldLaws.{Start, termAt-start}
 use Rattle.step.proofs.SearchLaws.{no-redex-here}
-use Rattle.step.proofs.RedexLaws.{From, Stands, stands, Root, contracts, root}
+use Rattle.step.proofs.RedexLaws.{From, Stands, stands, Root, contracts, expands, root}
 
 -- The end of the item that starts at a position.
 abbrev pub endAt : List ℕ → ℕ → ℕ
@@ -60,7 +61,7 @@ record Apart (W : List ℕ) (at : ℕ) (t c : Term) (b a m left : ℕ) : Type 0 
   indices : (limit : ℕ) → IndicesWithin limit t → IndicesWithin limit arguments
   smaller : size body + size arguments ≤ size t
   ends-left : b + span (suc left) (drop b W) ≡ at + size t
-  contracted : c ≡ subst arguments 0 body
+  contracted : c ≡ substitution arguments 0 body
 
 apart : {W : List ℕ} {at : ℕ} {t c : Term} {o : Option (Rule × Term)} {rule : Rule} {b a m left : ℕ} → Root W at t o (parted rule b a m left)
     → Option·map (λ s. s .1) o ≡ some c → Apart W at t c b a m left
@@ -77,6 +78,10 @@ apart (contracts {e = e} {xs = xs} s s′ l i m q) p =
       ends-left = q;
       contracted = sym (Option·some-injective _ _ p);
     }
+
+expanded : {W : List ℕ} {at : ℕ} {t c : Term} {o : Option (Rule × Term)} {k : ℕ} → Root W at t o (numbered k) → Option·map (λ s. s .1) o ≡ some c
+    → (t ≡ num k) × (c ≡ numeral k)
+expanded (expands e) p = (e, sym (Option·some-injective _ _ p))
 
 module _ {ws : List ℕ} {n at : ℕ} (here : HoldsRedex ws n at) where
   pub start : Start ws n (held ws n)
@@ -102,7 +107,7 @@ module _ {ws : List ℕ} {n at : ℕ} (here : HoldsRedex ws n at) where
   indices = indices-bounded (held ws n) (start .accepted) (omega (arith, start .long, start .within, here .holds .limit))
 
   focused : Focus indexLimit (words (held ws n)) (words (next ws n at)) at
-  focused = focus indexLimit (contract-at-position at (held ws n) (next ws n at) .0 (here .redex) .1) packable indices
+  focused = focus indexLimit (contract-at-position at (held ws n) (next ws n at) .0 (here .redex) .1) packable indices (accepted-listed 0 (held ws n) (start .accepted))
 
   -- The redex stands at its position.
   workspace-is : ws ≡ focused .before ++ (words (focused .redex) ++ (focused .after ++ drop n ws))
@@ -200,4 +205,30 @@ module _ {ws : List ℕ} {n at : ℕ} (here : HoldsRedex ws n at) where
           ap length (contraction .rest),
           length-append (words (substituted ws b a m)) (slice (endAt ws at) n ws),
           length-slice (endAt ws at) n ws (start .within),
+        )
+
+  -- A numeral was found: it is the whole redex, and its term takes its place.
+  module _ {k : ℕ} (found : parts at (drop at ws) ≡ numbered k) where
+    at-numeral : (focused .redex ≡ num k) × (focused .contractum ≡ numeral k)
+    unfolding contractAt
+    at-numeral = expanded (rw found at (root redex-stands)) (focused .contracts)
+
+    pub numeral-listed : k ≤ numeralLimit
+    numeral-listed = subst Listed (at-numeral .0) (focused .numerals)
+
+    numeral-ends : endAt ws at ≡ at + 1
+    numeral-ends = omega (arith, redex-span, ap size (at-numeral .0))
+
+    pub numeral-rest : nextFrom ws n at ≡ words (numeral k) ++ slice (at + 1) n ws
+    numeral-rest = next-rest ∙ ap₂ (λ t vs. words t ++ vs) (at-numeral .1) (sym after-is ∙ ap (λ e. slice e n ws) numeral-ends)
+
+    pub numeral-long : size (next ws n at) ≡ n - 1 + size (numeral k)
+    numeral-long =
+        omega (
+          arith,
+          next-size,
+          redex-within,
+          ap length numeral-rest,
+          length-append (words (numeral k)) (slice (at + 1) n ws),
+          length-slice (at + 1) n ws (start .within),
         )

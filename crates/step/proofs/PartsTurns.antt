@@ -1,22 +1,22 @@
 -- The parts of a redex, by the words at a position of a workspace: what each turn and each branch of the code finds.
 use Prim.Native.Nat.{ℕ, zero, suc, _+_, _-_, _≤_, _<_}
-use mathlib.Core.Path.{_≡_, refl, _∙_, ap}
+use mathlib.Core.Path.{_≡_, refl, sym, _∙_, ap}
 use mathlib.Core.Bool.{Bool, true, false, cond}
 use mathlib.Core.List.{List, [], _∷_}
+use native.Mathlib.Nat.{add-zero}
 use native.Mathlib.Numerals.{add-one}
 use native.Mathlib.Omega.{arith}
 use lib.Dec.{eqb}
 use borrow.Author.Tests.{eq-eqb, ne-eqb}
 use lib.ListN.{length, getD, drop, drop-of-length-le, List·getD-eq-default}
-use lib.Seq.{drop-cons, drop-drop}
-use Rattle.calculus.specs.Words.{abstractionKind, applicationKind, constructorKind, caseKind, kindOf, payloadOf, tagOf, countOf}
+use lib.Seq.{drop-cons, drop-drop, getD-drop}
+use Rattle.calculus.specs.Words.{variableKind, abstractionKind, applicationKind, constructorKind, caseKind, numeralKind, kindOf, payloadOf, tagOf, countOf}
 use Rattle.calculus.specs.Skip.{skip, span}
 use Rattle.calculus.specs.Contraction.{by-beta}
 use Rattle.calculus.proofs.SkipLaws.{skip-drop}
 use Rattle.step.specs.declared.rules.Found.{Found}
 use Rattle.step.specs.declared.rules.Found.the-variants as found
-use Rattle.step.specs.Plan.{CaseAt}
-use Rattle.step.specs.Rules.{nothing, parted, branchBody, withBody, caseParts, parts}
+use Rattle.step.specs.Rules.{nothing, parted, numbered, branchBody, withBody, caseParts, partsBehind, parts}
 
 pub branchBody-none : (t n i : ℕ) (ws : List ℕ) → branchBody zero t n i ws ≡ found.Nothing
 unfolding branchBody
@@ -91,34 +91,60 @@ unfolding caseParts
 caseParts-found i w v ws e₁ e₂ e₃ e₄ e₅ e₆ =
     rw (← e₆, e₅, e₁, e₂, e₃, e₄, ← drop-drop (span 1 (drop (i + 1) ws)) (i + 1) ws, ← skip-drop 1 (drop (i + 1) ws))
 
--- The last word has none behind it.
-pub parts-last : (i : ℕ) (ws : List ℕ) → i < length ws → length ws ≤ i + 1 → parts i (drop i ws) ≡ nothing
+-- A numeral needs no word behind it.
+pub parts-numeral : (i : ℕ) (ws : List ℕ) → i < length ws → kindOf (getD ws i 0) ≡ numeralKind → parts i (drop i ws) ≡ numbered (payloadOf (getD ws i 0))
 unfolding parts
-parts-last i ws h l = rw (drop-cons ws i 0 h, drop-of-length-le ws {i = suc i} (omega arith))
+parts-numeral i ws h k = rw (drop-cons ws i 0 h, k)
 
-pub last-no-case : (i : ℕ) (ws : List ℕ) → length ws ≤ i + 1 → CaseAt ws i → ⊥
-last-no-case i ws l k = let e = rw (List·getD-eq-default ws 0 {n = i + 1} l) at (k .1) in omega arith
+-- The last word has none behind it.
+pub kind-last : (i : ℕ) (ws : List ℕ) → length ws ≤ i + 1 → kindOf (getD ws (i + 1) 0) ≡ variableKind
+kind-last i ws l = rw (List·getD-eq-default ws 0 {n = i + 1} l)
 
--- The two first words are those of an application of an abstraction, of a case of a constructor, or others.
+pub kind-behind : (i k : ℕ) (ws : List ℕ) → kindOf (getD ws (i + 1) 0) ≡ k → 0 < k → i + 1 < length ws
+kind-behind i k ws e h = let none : ¬ (length ws ≤ i + 1) = λ l. omega (arith, kind-last i ws l) in omega arith
+
+-- By the first word and those behind it: what is no application of an abstraction, what is no case of a constructor, and other words.
+behind-applied : (i w : ℕ) (vs : List ℕ) → kindOf w ≡ applicationKind → (kindOf (getD vs 0 0) ≡ abstractionKind → ⊥) → partsBehind i w vs ≡ nothing
+unfolding partsBehind
+behind-applied i w [] p q = refl
+behind-applied i w (v ∷ vs) p q = rw (p, ne-eqb _ _ q)
+
+behind-stuck : (i w : ℕ) (vs : List ℕ) → kindOf w ≡ caseKind → (kindOf (getD vs 0 0) ≡ constructorKind → ⊥) → partsBehind i w vs ≡ nothing
+unfolding partsBehind
+behind-stuck i w [] p q = refl
+behind-stuck i w (v ∷ vs) p q = rw (p, ne-eqb _ _ q)
+
+behind-other : (i w : ℕ) (vs : List ℕ) → (kindOf w ≡ applicationKind → ⊥) → (kindOf w ≡ caseKind → ⊥) → partsBehind i w vs ≡ nothing
+unfolding partsBehind
+behind-other i w [] p q = refl
+behind-other i w (v ∷ vs) p q = rw (ne-eqb _ _ p, ne-eqb _ _ q)
+
+module _ (i : ℕ) (ws : List ℕ) (within : i < length ws) where
+  parts-first : (kindOf (getD ws i 0) ≡ numeralKind → ⊥) → parts i (drop i ws) ≡ partsBehind i (getD ws i 0) (drop (i + 1) ws)
+  unfolding parts
+  parts-first m = rw (first-word i ws (i + 1) within refl, ne-eqb _ _ m)
+
+  next-word : getD (drop (i + 1) ws) 0 0 ≡ getD ws (i + 1) 0
+  next-word = getD-drop (i + 1) ws 0 0 ∙ ap (λ k. getD ws k 0) (add-zero (i + 1))
+
+  pub parts-applied : kindOf (getD ws i 0) ≡ applicationKind → (kindOf (getD ws (i + 1) 0) ≡ abstractionKind → ⊥) → parts i (drop i ws) ≡ nothing
+  parts-applied p q = parts-first (λ e. omega arith) ∙ behind-applied i _ (drop (i + 1) ws) p (λ e. q (ap kindOf (sym next-word) ∙ e))
+
+  pub parts-stuck : kindOf (getD ws i 0) ≡ caseKind → (kindOf (getD ws (i + 1) 0) ≡ constructorKind → ⊥) → parts i (drop i ws) ≡ nothing
+  parts-stuck p q = parts-first (λ e. omega arith) ∙ behind-stuck i _ (drop (i + 1) ws) p (λ e. q (ap kindOf (sym next-word) ∙ e))
+
+  pub parts-other : (kindOf (getD ws i 0) ≡ applicationKind → ⊥) → (kindOf (getD ws i 0) ≡ caseKind → ⊥) → (kindOf (getD ws i 0) ≡ numeralKind → ⊥)
+      → parts i (drop i ws) ≡ nothing
+  parts-other p q m = parts-first m ∙ behind-other i _ (drop (i + 1) ws) p q
+
+-- The two first words are those of an application of an abstraction, or of a case of a constructor.
 module _ (i : ℕ) (ws : List ℕ) (within : i + 1 < length ws) where
   pub parts-beta : kindOf (getD ws i 0) ≡ applicationKind → kindOf (getD ws (i + 1) 0) ≡ abstractionKind
       → parts i (drop i ws) ≡ parted by-beta (i + 2) (i + 2 + span 1 (drop (i + 2) ws)) 1 1
-  unfolding parts
+  unfolding parts partsBehind
   parts-beta p q = rw (first-two i ws within, p, q)
-
-  pub parts-applied : kindOf (getD ws i 0) ≡ applicationKind → (kindOf (getD ws (i + 1) 0) ≡ abstractionKind → ⊥) → parts i (drop i ws) ≡ nothing
-  unfolding parts
-  parts-applied p q = rw (first-two i ws within, p, ne-eqb _ _ q)
 
   pub parts-case : kindOf (getD ws i 0) ≡ caseKind → kindOf (getD ws (i + 1) 0) ≡ constructorKind
       → parts i (drop i ws) ≡ caseParts i (getD ws i 0) (getD ws (i + 1) 0) (drop (i + 1) ws)
-  unfolding parts
+  unfolding parts partsBehind
   parts-case p q = rw (first-two i ws within, p, q, first-word (i + 1) ws (i + 2) within (omega arith))
-
-  pub parts-stuck : kindOf (getD ws i 0) ≡ caseKind → (kindOf (getD ws (i + 1) 0) ≡ constructorKind → ⊥) → parts i (drop i ws) ≡ nothing
-  unfolding parts
-  parts-stuck p q = rw (first-two i ws within, p, ne-eqb _ _ q)
-
-  pub parts-other : (kindOf (getD ws i 0) ≡ applicationKind → ⊥) → (kindOf (getD ws i 0) ≡ caseKind → ⊥) → parts i (drop i ws) ≡ nothing
-  unfolding parts
-  parts-other p q = rw (first-two i ws within, ne-eqb _ _ p, ne-eqb _ _ q)

@@ -21,22 +21,24 @@ use Rattle.substitution.proofs.ResultLaws.{arguments-size}
 use Rattle.substitution.proofs.RewritingLaws.{standing-more, rewritten-alone, standing-substituted}
 use Rattle.substitution.proofs.RewrittenLaws.{place-argument}
 use Rattle.substitution.proofs.CountLaws.{occurs-twice}
+use Rattle.calculus.specs.Numeral.{numeral}
 use Rattle.calculus.specs.Contraction.{Rule as CalculusRule, by-beta}
 use Rattle.calculus.specs.Position.{stepAt, contractAt, redexAt}
 use Rattle.calculus.proofs.PositionLaws.{redex-first}
+use Rattle.step.specs.declared.Body.{Body}
 use Rattle.step.specs.declared.Rule.{Rule}
 use Rattle.step.specs.declared.Rule.the-variants as rule
 use Rattle.step.specs.declared.Redex.{Redex}
-use Rattle.step.specs.Held.{held}
+use Rattle.step.specs.Held.{held, Holds}
 use Rattle.step.specs.Search.{Searched}
-use Rattle.step.specs.Rules.{parted, parts}
+use Rattle.step.specs.Rules.{parted, numbered, ruleOfParts, parts}
 use Rattle.step.specs.Next.{next, HoldsRedex}
-use Rattle.step.specs.Plan.{ruleOf, Plans, At, Applied, EndTold, walked, stays, Inspected}
+use Rattle.step.specs.Plan.{substitutedWords, putBy, ruleOf, Substituting, Puttable, Plans, At, Applied, EndTold, walked, stays, Inspected}
 use Rattle.step.proofs.HeldLaws.{next-term}
 use Rattle.step.proofs.PartsTurns.{first-word, parts-beta}
 use Rattle.step.proofs.SearchLaws.{redex-here}
 use Rattle.step.proofs.EndsLaws.{span-first}
-use Rattle.step.proofs.NextLaws.{endAt, start, length-short, next-size, Contraction, contraction, rest-length}
+use Rattle.step.proofs.NextLaws.{endAt, start, length-short, next-size, Contraction, contraction, rest-length, numeral-listed, numeral-rest, numeral-long}
 
 -- Words from a position to an end, parted between.
 slice-split : (l : List ℕ) (a e n : ℕ) → a ≤ e → e ≤ n → n ≤ length l → slice a n l ≡ slice a e l ++ slice e n l
@@ -49,20 +51,43 @@ slice-split l a e n h k m =
     ∙ ap (λ xs. drop a xs ++ drop e t) (take-take e n l k)
 
 -- A redex starts where its parts are found, and contracts by their rule.
-module _ {ws room : List ℕ} {n at : ℕ} {rule : CalculusRule} {b a m left : ℕ} (h : At ws n at room) (found : parts at (drop at ws) ≡ parted rule b a m left) where
+module _ {ws : List ℕ} {n at : ℕ} {rule : CalculusRule} (h : Holds ws n) (within : at < n) (found : ruleOfParts (parts at (drop at ws)) ≡ some rule) where
   stepped : (u : Term) × (stepAt at (held ws n) ≡ some (rule, u)) × (contractAt at (held ws n) ≡ some u)
   unfolding contractAt
-  stepped = let u = redex-here (h .holds) (h .within) found in (u .0, u .1, ap (Option·map (λ c. c .1)) (u .1))
+  stepped = let u = redex-here h within found in (u .0, u .1, ap (Option·map (λ c. c .1)) (u .1))
 
   next-is : next ws n at ≡ stepped .0
   next-is = next-term ws n at (stepped .0) (stepped .2)
 
-  pub redex-found : HoldsRedex ws n at
-  redex-found = record { holds = h .holds; redex = rw next-is (stepped .2) }
+  starts-here : HoldsRedex ws n at
+  starts-here = record { holds = h; redex = rw next-is (stepped .2) }
 
   -- The next term is what the rule makes of the held one.
+  rule-here : stepAt at (held ws n) ≡ some (rule, next ws n at)
+  rule-here = rw next-is (stepped .1)
+
+-- The plan of a numeral.
+module _ {ws : List ℕ} {n at k : ℕ} (h : Holds ws n) (within : at < n) (found : parts at (drop at ws) ≡ numbered k) where
+  pub numeral-found : HoldsRedex ws n at
+  numeral-found = starts-here h within (ap ruleOfParts found)
+
+  pub plans-numeral : {len : ℕ} → len ≡ n - 1 + size (numeral k) → Plans ws n (record { rule = rule.Numeral k; at = at; end = at + 1; length = len })
+  plans-numeral e =
+      record {
+        redex = numeral-found;
+        rule-is = rule-here h within (ap ruleOfParts found);
+        puttable = numeral-listed numeral-found found;
+        ends = omega arith;
+        rest = numeral-rest numeral-found found;
+        length-is = omega (arith, numeral-long numeral-found found);
+      }
+
+module _ {ws room : List ℕ} {n at : ℕ} {rule : CalculusRule} {b a m left : ℕ} (h : At ws n at room) (found : parts at (drop at ws) ≡ parted rule b a m left) where
+  pub redex-found : HoldsRedex ws n at
+  redex-found = starts-here (h .holds) (h .within) (ap ruleOfParts found)
+
   pub rule-found : stepAt at (held ws n) ≡ some (rule, next ws n at)
-  rule-found = rw next-is (stepped .1)
+  rule-found = rule-here (h .holds) (h .within) (ap ruleOfParts found)
 
   pub contracts : Contraction ws n at b a m left
   contracts = contraction redex-found found
@@ -81,20 +106,31 @@ module _ {ws room : List ℕ} {n at : ℕ} {rule : CalculusRule} {b a m left : �
   left-end e = span-first ws b left e ∙ contracts .ends-left
 
   -- The whole body is rewritten, and what is behind the redex stays.
-  module _ {ρ : Rule} {stop after end len : ℕ} (rule-is : ruleOf ρ ≡ rule) (stop-is : stop ≡ b + span 1 (drop b ws)) (after-is : after ≡ a + span m (drop a ws)) (end-is : end ≡ endAt ws at)
+  module _ {stop after end len : ℕ} (stop-is : stop ≡ b + span 1 (drop b ws)) (after-is : after ≡ a + span m (drop a ws)) (end-is : end ≡ endAt ws at)
       (length-is : len ≡ at + size (substituted ws b a m) + (n - end)) where
-    pub plans : Plans ws n (record { rule = ρ; at = at; body = b; stop = stop; args = a; after = after; count = m; end = end; length = len })
-    plans =
+    abbrev pub whole : Body
+    whole = record { start = b; stop = stop; args = a; after = after; count = m }
+
+    whole-put : Substituting ws whole
+    whole-put =
         record {
-          redex = redex-found;
-          rule-is = rw rule-is rule-found;
           substitutable = contracts .substitutable;
           from = omega arith;
           to = omega arith;
           after-is = λ i l m q. after-is;
           small = omega (arith, contracts .small, length-short redex-found);
+        }
+
+    -- By a rule that puts the body.
+    pub plans : {ρ : Rule} → ruleOf ρ ≡ rule → putBy ws ρ ≡ substitutedWords ws whole → (Substituting ws whole → Puttable ws ρ)
+        → Plans ws n (record { rule = ρ; at = at; end = end; length = len })
+    plans rule-is put-is puttable =
+        record {
+          redex = redex-found;
+          rule-is = rw rule-is rule-found;
+          puttable = puttable whole-put;
           ends = omega (arith, contracts .ends);
-          rest = rw (standing-substituted (contracts .substitutable) stop-is, end-is) (contracts .rest);
+          rest = rw (put-is, standing-substituted (contracts .substitutable) stop-is, end-is) (contracts .rest);
           length-is = omega (arith, next-size redex-found, rest-length redex-found found);
         }
 
@@ -161,16 +197,19 @@ module _ {ws room : List ℕ} {n at b a : ℕ} (h : At ws n at room) (found : pa
       rw (← argument-words, ← end-is)
       (sym (slice-split ws a behind n (omega arith) (omega (arith, c .ends)) (start here .within)))
 
-  pub plans-left : Plans ws n (record { rule = rule.Beta; at = at; body = b; stop = stop; args = a; after = after; count = 1; end = a; length = len })
+  pub plans-left : Plans ws n (record { rule = rule.Beta (record { start = b; stop = stop; args = a; after = after; count = 1 }); at = at; end = a; length = len })
   plans-left =
       record {
         redex = here;
         rule-is = rule-found h found;
-        substitutable = c .substitutable;
-        from = some;
-        to = omega arith;
-        after-is = after-is;
-        small = omega (arith, c .small, length-short here);
+        puttable =
+            record {
+              substitutable = c .substitutable;
+              from = some;
+              to = omega arith;
+              after-is = after-is;
+              small = omega (arith, c .small, length-short here);
+            };
         ends = omega (arith, c .ends, end-is);
         rest =
             c .rest

@@ -1,5 +1,5 @@
 -- The parts found in the words are those of the tree: at the first word of a term they are there exactly where the term contracts, and then the
--- contractum is the body found with the arguments found put in.
+-- contractum is the body found with the arguments found put in, or the numeral found.
 use Prim.Native.Nat.{ℕ, suc, _+_, _≤_, _<_}
 use mathlib.Core.Path.{_≡_, refl, sym, _∙_, ap}
 use mathlib.Core.Bool.{Bool, true, false, cond}
@@ -11,11 +11,12 @@ use lib.Dec.{eqb}
 use lib.ListN.{length, drop, length-append}
 use lib.Seq.{drop-drop, drop-append-seam}
 use borrow.Author.Tests.{ne-eqb}
-use Rattle.calculus.specs.Term.{Sort, Exp, Term, Terms, Branches, var, lam, app, con, case, nil, cons, end, branch, count}
-use Rattle.calculus.specs.Words.{variableKind, abstractionKind, applicationKind, constructorKind, caseKind, branchKind, kindBase, word, countBase, pack, words, size}
+use Rattle.calculus.specs.Term.{Sort, Exp, Term, Terms, Branches, var, lam, app, con, case, num, nil, cons, end, branch, count}
+use Rattle.calculus.specs.Words.{variableKind, abstractionKind, applicationKind, constructorKind, caseKind, branchKind, numeralKind, kindBase, word, countBase, pack, words, size}
 use Rattle.calculus.specs.Skip.{skip, span}
 use Rattle.calculus.specs.Substitution.{subst as substitution}
-use Rattle.calculus.specs.Contraction.{Rule, by-case, select}
+use Rattle.calculus.specs.Numeral.{numeral}
+use Rattle.calculus.specs.Contraction.{Rule, by-case, by-numeral, select}
 use Rattle.calculus.specs.Position.{stepAt}
 use Rattle.calculus.specs.Theorems.{Packable, IndicesWithin}
 use Rattle.calculus.proofs.WordLaws.{kindOf-word, payloadOf-word, tagOf-pack, countOf-pack}
@@ -23,7 +24,7 @@ use Rattle.calculus.proofs.SkipLaws.{itemsAnd, skip-words, skip-zero, span-word
 use Rattle.calculus.proofs.FirstLaws.{span-items}
 use Rattle.step.specs.declared.rules.Found.{Found}
 use Rattle.step.specs.declared.rules.Found.the-variants as found
-use Rattle.step.specs.Rules.{Parts, nothing, parted, branchBody, withBody, caseParts, parts}
+use Rattle.step.specs.Rules.{Parts, nothing, parted, numbered, branchBody, withBody, caseParts, partsBehind, parts}
 
 -- From a position on, a workspace is these words.
 pub record From (W : List ℕ) (p : ℕ) (ws : List ℕ) : Type 0 where
@@ -91,24 +92,26 @@ pub data Root (W : List ℕ) (at : ℕ) (t : Term) : Option (Rule × Term) → P
   contracts : {rule : Rule} {b a left : ℕ} {e : Term} {xs : Terms} → Stands W b e → Stands W a xs → count xs < countBase
       → ((limit : ℕ) → IndicesWithin limit t → IndicesWithin limit xs) → size e + size xs ≤ size t → Ending W b left (at + size t)
       → Root W at t (some (rule, substitution xs 0 e)) (parted rule b a (count xs) left)
+  expands : {n : ℕ} → t ≡ num n → Root W at t (some (by-numeral, numeral n)) (numbered n)
 
 -- The words of other kinds start no redex.
-pub other-first : (k p at : ℕ) (ws : List ℕ) → k < kindBase → (k ≡ applicationKind → ⊥) → (k ≡ caseKind → ⊥) → parts at (word k p ∷ ws) ≡ nothing
-unfolding parts
-other-first k p at [] l a c = refl
-other-first k p at (v ∷ vs) l a c = rw (kindOf-word k p l, ne-eqb _ _ a, ne-eqb _ _ c)
+pub other-first : (k p at : ℕ) (ws : List ℕ) → k < kindBase → (k ≡ applicationKind → ⊥) → (k ≡ caseKind → ⊥) → (k ≡ numeralKind → ⊥)
+    → parts at (word k p ∷ ws) ≡ nothing
+unfolding parts partsBehind
+other-first k p at [] l a c m = rw (kindOf-word k p l, ne-eqb _ _ m)
+other-first k p at (v ∷ vs) l a c m = rw (kindOf-word k p l, ne-eqb _ _ m, ne-eqb _ _ a, ne-eqb _ _ c)
 
 -- Nor do an application and a case where the wrong kind stands behind them.
 other-function : (k p at : ℕ) (ws : List ℕ) → k < kindBase → (k ≡ abstractionKind → ⊥) → parts at (word applicationKind 0 ∷ word k p ∷ ws) ≡ nothing
-unfolding parts
+unfolding parts partsBehind
 other-function k p at ws l a = rw (kindOf-word k p l, ne-eqb _ _ a)
 
 other-subject : (n k p at : ℕ) (ws : List ℕ) → k < kindBase → (k ≡ constructorKind → ⊥) → parts at (word caseKind n ∷ word k p ∷ ws) ≡ nothing
-unfolding parts
+unfolding parts partsBehind
 other-subject n k p at ws l a = rw (kindOf-word caseKind n (omega arith), kindOf-word k p l, ne-eqb _ _ a)
 
 at-function : {W : List ℕ} (f a : Term) {at : ℕ} (vs : List ℕ) → Packable (app f a) → From W at (words (app f a) ++ vs) → Root W at (app f a) (stepAt 0 (app f a)) (parts at (words (app f a) ++ vs))
-unfolding parts stepAt
+unfolding parts partsBehind stepAt
 at-function (var i) a vs h s = rw (other-function variableKind i _ _ (omega arith) (λ e. omega arith)) stuck
 at-function (lam b) a {at} vs h s =
     let two : at + 1 + 1 ≡ at + 2 = omega arith in
@@ -119,6 +122,7 @@ at-function (lam b) a {at} vs h s =
 at-function (app f g) a vs h s = stuck
 at-function (con t xs) a vs h s = rw (other-function constructorKind (pack t (count xs)) _ _ (omega arith) (λ e. omega arith)) stuck
 at-function (case e bs) a vs h s = rw (other-function caseKind (count bs) _ _ (omega arith) (λ e. omega arith)) stuck
+at-function (num n) a vs h s = rw (other-function numeralKind n _ _ (omega arith) (λ e. omega arith)) stuck
 
 root-selected : {W : List ℕ} {at : ℕ} {t : Term} {xs : Terms} {a most : ℕ} {o : Option Term} {r : Found} → Selected W xs most (at + size t) o r → Stands W a xs → count xs < countBase
     → ((limit : ℕ) → IndicesWithin limit t → IndicesWithin limit xs) → most + size xs ≤ size t
@@ -128,7 +132,7 @@ root-selected (body b k e) s l i m = contracts b s l i (omega arith) e
 
 parts-constructor : (n p at : ℕ) (ws : List ℕ)
     → parts at (word caseKind n ∷ word constructorKind p ∷ ws) ≡ caseParts at (word caseKind n) (word constructorKind p) (word constructorKind p ∷ ws)
-unfolding parts
+unfolding parts partsBehind
 parts-constructor n p at ws = rw (kindOf-word caseKind n (omega arith), kindOf-word constructorKind p (omega arith))
 
 caseParts-words : (n t : ℕ) (xs : Terms) (at : ℕ) (vs : List ℕ) → Packable (con t xs)
@@ -157,14 +161,20 @@ at-subject (con t xs) bs {at} vs h s =
     (root-selected (selected t xs bs vs (size bs) _ (omega arith) (omega (arith, length-append (words (con t xs)) (words bs))) (h .2) (behind (words (con t xs)) s′)) (stands xs (words bs ++ vs) (rw two at (behind-word s′)) (h .1 .1)) (h .1 .0) (λ limit i. i .1 .1)
     (omega (arith, length-append (words (con t xs)) (words bs))))
 at-subject (case e cs) bs vs h s = rw (other-subject (count bs) caseKind (count cs) _ _ (omega arith) (λ e. omega arith)) stuck
+at-subject (num n) bs vs h s = rw (other-subject (count bs) numeralKind n _ _ (omega arith) (λ e. omega arith)) stuck
+
+parts-numeral : (n at : ℕ) (ws : List ℕ) → parts at (word numeralKind n ∷ ws) ≡ numbered n
+unfolding parts
+parts-numeral n at ws = rw (kindOf-word numeralKind n (omega arith), payloadOf-word numeralKind n (omega arith))
 
 root-words : {W : List ℕ} (t : Term) {at : ℕ} (vs : List ℕ) → Packable t → From W at (words t ++ vs) → Root W at t (stepAt 0 t) (parts at (words t ++ vs))
 unfolding stepAt
-root-words (var i) vs h s = rw (other-first variableKind i _ _ (omega arith) (λ e. omega arith) (λ e. omega arith)) stuck
-root-words (lam b) vs h s = rw (other-first abstractionKind 0 _ _ (omega arith) (λ e. omega arith) (λ e. omega arith)) stuck
+root-words (var i) vs h s = rw (other-first variableKind i _ _ (omega arith) (λ e. omega arith) (λ e. omega arith) (λ e. omega arith)) stuck
+root-words (lam b) vs h s = rw (other-first abstractionKind 0 _ _ (omega arith) (λ e. omega arith) (λ e. omega arith) (λ e. omega arith)) stuck
 root-words (app f a) vs h s = at-function f a vs h s
-root-words (con t xs) vs h s = rw (other-first constructorKind (pack t (count xs)) _ _ (omega arith) (λ e. omega arith) (λ e. omega arith)) stuck
+root-words (con t xs) vs h s = rw (other-first constructorKind (pack t (count xs)) _ _ (omega arith) (λ e. omega arith) (λ e. omega arith) (λ e. omega arith)) stuck
 root-words (case e bs) vs h s = at-subject e bs vs h s
+root-words (num n) vs h s = rw (parts-numeral n _ vs) (expands refl)
 
 pub root : {W : List ℕ} {t : Term} {p : ℕ} → Stands W p t → Root W p t (stepAt 0 t) (parts p (drop p W))
 root {t = t} s = rw (s .words-at .from) (root-words t (s .after) (s .packable) (s .words-at))

@@ -3,13 +3,13 @@ use Prim.Native.Nat.{ℕ, zero, suc, _+_, _-_, _≤_, _<_}
 use mathlib.Core.Path.{_≡_, refl, sym, subst, _∙_, ap}
 use mathlib.Core.Bool.{Bool, true, false, cond}
 use mathlib.Core.List.{List, _++_, append-assoc}
-use mathlib.Core.Option.{Option, some, none, Option·map}
+use mathlib.Core.Option.{Option, some, none, Option·map, Option·some-injective, Option·none-ne-some}
 use native.Mathlib.Omega.{arith}
 use lib.Dec.{ltb}
 use lib.ListN.{length, drop, length-append}
 use borrow.Author.Count.{below-more}
 use borrow.Author.Tests.{ltb-true, ltb-false}
-use Rattle.calculus.specs.Term.{Sort, Exp, Term, var, lam, app, con, case, nil, cons, end, branch}
+use Rattle.calculus.specs.Term.{Sort, Exp, Term, var, lam, app, con, case, num, nil, cons, end, branch}
 use Rattle.calculus.specs.Words.{branchKind, pack, words, size}
 use Rattle.calculus.specs.Skip.{span}
 use Rattle.calculus.specs.Contraction.{Rule}
@@ -18,23 +18,23 @@ use Rattle.calculus.specs.Theorems.{Packable}
 use Rattle.step.specs.Held.{held, Holds}
 use Rattle.step.specs.Ends.{Ends, Filled}
 use Rattle.step.specs.Search.{Searched}
-use Rattle.step.specs.Rules.{Parts, nothing, parted, parts}
+use Rattle.step.specs.Rules.{Parts, nothing, ruleOfParts, parts}
 use Rattle.calculus.proofs.PositionLaws.{redex-absent}
 use Rattle.calculus.proofs.WordLaws.{accepted-packable}
 use Rattle.calculus.proofs.SkipLaws.{span-inside}
 use Rattle.calculus.proofs.FirstLaws.{span-items}
 use Rattle.step.proofs.EndsLaws.{ends-none, ends-later}
 use Rattle.step.proofs.HeldLaws.{termAt-start}
-use Rattle.step.proofs.RedexLaws.{From, behind-word, behind, Root, stuck, contracts, root, stands, other-first}
+use Rattle.step.proofs.RedexLaws.{From, behind-word, behind, Root, stuck, contracts, expands, root, stands, other-first}
 
 -- A contraction and its parts are both there, by the same rule, or neither is.
 pub data Agrees {A : Type 0} : Option (Rule × A) → Parts → Type 0 where
   neither : Agrees none nothing
-  both : {rule : Rule} {a : A} {b x n l : ℕ} → Agrees (some (rule, a)) (parted rule b x n l)
+  both : {rule : Rule} {a : A} {r : Parts} → ruleOfParts r ≡ some rule → Agrees (some (rule, a)) r
 
 agrees-through : {A B : Type 0} (f : A → B) {o : Option (Rule × A)} {r : Parts} → Agrees o r → Agrees (Option·map (through f) o) r
 agrees-through f neither = neither
-agrees-through f both = both
+agrees-through f (both e) = both e
 
 agrees-ltb : {A : Type 0} (m n : ℕ) {x y : Option (Rule × A)} {r : Parts} → (m < n → Agrees x r) → (n ≤ m → Agrees y r) → Agrees (cond (ltb m n) x y) r
 agrees-ltb m n {x} {y} {r} f g = go (ltb m n) refl
@@ -45,13 +45,16 @@ agrees-ltb m n {x} {y} {r} f g = go (ltb m n) refl
 
 agrees-root : {W : List ℕ} {at : ℕ} {t : Term} {o : Option (Rule × Term)} {r : Parts} → Root W at t o r → Agrees o r
 agrees-root stuck = neither
-agrees-root (contracts b a l i m e) = both
+agrees-root (contracts b a l i m e) = both refl
+agrees-root (expands e) = both refl
 
-agrees-some : {A : Type 0} {o : Option (Rule × A)} {rule : Rule} {b x n l : ℕ} → Agrees o (parted rule b x n l) → (a : A) × (o ≡ some (rule, a))
-agrees-some (both {a = a}) = (a, refl)
+agrees-some : {A : Type 0} {o : Option (Rule × A)} {r : Parts} {rule : Rule} → Agrees o r → ruleOfParts r ≡ some rule → (a : A) × (o ≡ some (rule, a))
+agrees-some neither q = absurd (Option·none-ne-some _ q)
+agrees-some (both {a = a} e) q = (a, ap (λ r. some (r, a)) (Option·some-injective _ _ (sym e ∙ q)))
 
 agrees-none : {A : Type 0} {o : Option (Rule × A)} → Agrees o nothing → o ≡ none
 agrees-none neither = refl
+agrees-none (both e) = absurd (Option·none-ne-some _ e)
 
 -- The contractions at p of an expression, beside the parts found at the position q of a workspace.
 abbrev FoundAt : {s : Sort} → List ℕ → (q p : ℕ) → Exp s → Type 0
@@ -79,6 +82,8 @@ found-at (case c bs) at (suc p) vs h s l e =
     agrees-ltb p (size c)
     (λ m. agrees-through (λ c′. case c′ bs) (found-at c (at + 1) p (words bs ++ vs) (h .1) s′ m (omega arith)))
     (λ m. agrees-through (case c) (found-at bs (at + 1 + size c) (p - size c) vs (h .2) (behind (words c) s′) (omega (arith, length-append (words c) (words bs))) (omega arith)))
+found-at (num n) at zero vs h s l e = found-root (num n) at vs h s (omega arith)
+found-at (num n) at (suc p) vs h s l e = absurd (omega arith)
 found-at nil at p vs h s l e = absurd (omega arith)
 found-at (cons a xs) at p vs h s l e =
     let s′ = rw (append-assoc (words a) (words xs) vs) at s in
@@ -88,7 +93,7 @@ found-at (cons a xs) at p vs h s l e =
 found-at end at p vs h s l e = absurd (omega arith)
 found-at (branch t n b bs) at zero {q} vs h s l e =
     let z : q ≡ at = omega arith in
-    rw (z, s .from, other-first branchKind (pack t n) at _ (omega arith) (λ e. omega arith) (λ e. omega arith)) neither
+    rw (z, s .from, other-first branchKind (pack t n) at _ (omega arith) (λ e. omega arith) (λ e. omega arith) (λ e. omega arith)) neither
 found-at (branch t n b bs) at (suc p) vs h s l e =
     let s′ = rw (append-assoc (words b) (words bs) vs) at (behind-word s) in
     agrees-ltb p (size b)
@@ -103,8 +108,8 @@ module _ {ws : List ℕ} {n : ℕ} (holds : Holds ws n) {p : ℕ} (within : p < 
       found-at (held ws n) 0 p (drop n ws) (accepted-packable 0 (held ws n) (h .accepted)) (record { from = sym (h .start) })
       (omega arith) (omega arith)
 
-  pub redex-here : {rule : Rule} {b x m l : ℕ} → parts p (drop p ws) ≡ parted rule b x m l → (u : Term) × (stepAt p (held ws n) ≡ some (rule, u))
-  redex-here e = agrees-some (rw e at found-here)
+  pub redex-here : {rule : Rule} → ruleOfParts (parts p (drop p ws)) ≡ some rule → (u : Term) × (stepAt p (held ws n) ≡ some (rule, u))
+  redex-here e = agrees-some found-here e
 
   pub no-redex-here : parts p (drop p ws) ≡ nothing → contractAt p (held ws n) ≡ none
   unfolding contractAt

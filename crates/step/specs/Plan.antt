@@ -1,23 +1,26 @@
 -- The plan of a contraction: its rule and positions in the workspace, found once by the search and tied to the next term by one law (`rest`).
 --
--- The next term's words are those before the redex, those that stand for the words of the rule's body before `stop`, and the words of the workspace
--- from `end` on. Where the body of a beta redex ends with its argument's index, under no binder, the argument stands first among them and `stop` is before
--- that index.
+-- The next term's words are those before the redex, those that its rule puts, and the words of the workspace from `end` on. Beta and case put what
+-- stands for the words of a body before `stop`: where the body of a beta redex ends with its argument's index, under no binder, the argument stands
+-- first from `end` on and `stop` is before that index. A numeral puts its entry of the library.
 use Prim.Native.Nat.{ℕ, _+_, _-_, _*_, _≤_, _<_}
 use mathlib.Core.Path.{_≡_}
 use mathlib.Core.List.{List, [], _∷_, _++_}
 use mathlib.Core.Option.{some, none}
 use lib.ListN.{length, getD, drop}
 use lib.Seq.{sets, slice}
-use Rattle.calculus.specs.Words.{abstractionKind, applicationKind, constructorKind, caseKind, kindOf, workspaceMost, words, size}
+use Rattle.calculus.specs.Words.{abstractionKind, applicationKind, constructorKind, caseKind, numeralKind, kindOf, workspaceMost, words, size}
+use Rattle.calculus.specs.Accepted.{numeralLimit}
+use Rattle.calculus.specs.Numeral.{numeral}
 use Rattle.calculus.specs.Skip.{span}
 use Rattle.calculus.specs.First.{firstTerms}
-use Rattle.calculus.specs.Contraction.{Rule as CalculusRule, by-beta, by-case}
+use Rattle.calculus.specs.Contraction.{Rule as CalculusRule, by-beta, by-case, by-numeral}
 use Rattle.calculus.specs.Position.{stepAt, redexAt}
 use Rattle.words.specs.Limits.{payloadBound}
 use Rattle.words.specs.Room.{Room}
 use Rattle.substitution.specs.Rewritten.{substituting, standing}
 use Rattle.substitution.specs.Results.{Substitutable, Replaced}
+use Rattle.step.specs.declared.Body.{Body}
 use Rattle.step.specs.declared.Rule.{Rule}
 use Rattle.step.specs.declared.Rule.the-variants as rule
 use Rattle.step.specs.declared.Redex.{Redex}
@@ -29,23 +32,43 @@ use Rattle.step.specs.Held.{held, Holds}
 use Rattle.step.specs.Rules.{nothing, parted, parts}
 use Rattle.step.specs.Next.{next, nextFrom, HoldsRedex}
 
--- The words that stand for those of the body before `stop`.
+-- The words that stand for those of a body before `stop`.
+abbrev pub substitutedWords : List ℕ → Body → List ℕ
+substitutedWords ws b = standing (substituting (firstTerms (b .count) (drop (b .args) ws))) (b .stop - b .start) (0 ∷ []) (drop (b .start) ws)
+
+-- The words that a rule puts.
+abbrev pub putBy : List ℕ → Rule → List ℕ
+putBy ws (rule.Beta b) = substitutedWords ws b
+putBy ws (rule.Case b) = substitutedWords ws b
+putBy ws (rule.Numeral n) = words (numeral n)
+
 abbrev pub contractum : List ℕ → Redex → List ℕ
-contractum ws r = standing (substituting (firstTerms (r .count) (drop (r .args) ws))) (r .stop - r .body) (0 ∷ []) (drop (r .body) ws)
+contractum ws r = putBy ws (r .rule)
 
 -- The rule of the calculus that a plan names.
 abbrev pub ruleOf : Rule → CalculusRule
-ruleOf rule.Beta = by-beta
-ruleOf rule.Case = by-case
+ruleOf (rule.Beta b) = by-beta
+ruleOf (rule.Case b) = by-case
+ruleOf (rule.Numeral n) = by-numeral
+
+-- A body that may be substituted into: it and its arguments stand in the workspace.
+pub record Substituting (ws : List ℕ) (b : Body) : Type 0 where
+  pub substitutable : Substitutable ws (b .start) (b .args) (b .count)
+  pub from : b .start ≤ b .stop
+  pub to : b .stop ≤ b .start + span 1 (drop (b .start) ws)
+  pub after-is : (i : ℕ) → b .start ≤ i → i < b .stop → Replaced ws (b .start) (b .count) i → b .after ≡ b .args + span (b .count) (drop (b .args) ws)
+  pub small : span 1 (drop (b .start) ws) + span (b .count) (drop (b .args) ws) ≤ workspaceMost
+
+-- What a rule puts may be put.
+abbrev pub Puttable : List ℕ → Rule → Type 0
+Puttable ws (rule.Beta b) = Substituting ws b
+Puttable ws (rule.Case b) = Substituting ws b
+Puttable ws (rule.Numeral n) = n ≤ numeralLimit
 
 pub record Plans (ws : List ℕ) (n : ℕ) (r : Redex) : Type 0 where
   pub redex : HoldsRedex ws n (r .at)
   pub rule-is : stepAt (r .at) (held ws n) ≡ some (ruleOf (r .rule), next ws n (r .at))
-  pub substitutable : Substitutable ws (r .body) (r .args) (r .count)
-  pub from : r .body ≤ r .stop
-  pub to : r .stop ≤ r .body + span 1 (drop (r .body) ws)
-  pub after-is : (i : ℕ) → r .body ≤ i → i < r .stop → Replaced ws (r .body) (r .count) i → r .after ≡ r .args + span (r .count) (drop (r .args) ws)
-  pub small : span 1 (drop (r .body) ws) + span (r .count) (drop (r .args) ws) ≤ workspaceMost
+  pub puttable : Puttable ws (r .rule)
   pub ends : r .end ≤ n
   pub rest : nextFrom ws n (r .at) ≡ contractum ws r ++ slice (r .end) n ws
   pub length-is : r .length ≡ size (next ws n (r .at))
@@ -71,6 +94,12 @@ pub record At (ws : List ℕ) (n at : ℕ) (room : List ℕ) : Type 0 where
   pub holds : Holds ws n
   pub within : at < n
   pub room-fits : n ≤ length room
+
+-- A numeral of the held term stands at a position.
+pub record Numbered (ws : List ℕ) (n at : ℕ) : Type 0 where
+  pub holds : Holds ws n
+  pub within : at < n
+  pub numeral : kindOf (getD ws at 0) ≡ numeralKind
 
 -- An application of an abstraction stands there.
 pub record Applied (ws : List ℕ) (n at : ℕ) (room : List ℕ) : Type 0 where
@@ -99,6 +128,11 @@ pub record Selected (ws : List ℕ) (n at left body after count : ℕ) (room : L
   pub parts-are : parts at (drop at ws) ≡ parted by-case body (at + 2) count left
   pub after-is : after ≡ at + 2 + span count (drop (at + 2) ws)
   pub few : left ≤ payloadBound
+
+-- The scratch has room for these words, and the room for the scopes of a walk.
+pub record Fits (put scratch room : List ℕ) : Type 0 where
+  pub scratch-fits : length put ≤ length scratch
+  pub room-fits : workspaceMost ≤ 2 * length room
 
 -- The next term fits the workspace and the scratch, and the scopes of a walk fit the room.
 pub record HasRoom (ws : List ℕ) (n : ℕ) (r : Redex) (scratch room : List ℕ) : Type 0 where

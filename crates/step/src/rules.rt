@@ -1,4 +1,5 @@
 // The redex that starts at a position, found from the words alone, and the plan of its contraction.
+use crate::Body;
 use crate::Redex;
 use crate::Rule;
 use crate::ends::end_of;
@@ -8,13 +9,14 @@ use words::Word;
 use words::extent;
 use words::skip;
 ghost use mathlib.Core.Path.{_≡_};
-ghost use Prim.Native.Nat.{_≤_, _<_};
-ghost use lib.ListN.{length, drop};
-ghost use Rattle.calculus.specs.Words.{workspaceMost};
+ghost use Prim.Native.Nat.{_+_, _≤_, _<_};
+ghost use lib.Dec.{eqb};
+ghost use lib.ListN.{length, getD, drop};
+ghost use Rattle.calculus.specs.Words.{workspaceMost, kindOf};
 ghost use Rattle.words.specs.Room.{Room};
 ghost use Rattle.step.specs.Ends.{Ends};
 ghost use Rattle.step.specs.Rules.{branchBody};
-ghost use Rattle.step.specs.Plan.{At, SeenAt, Plans, EndTold, Applied, Inspected, Selected};
+ghost use Rattle.step.specs.Plan.{At, SeenAt, Plans, Numbered, EndTold, Applied, Inspected, Selected};
 
 // What is seen at a position: nothing that contracts, a case that is stuck and whose ends inside are not known yet, or a redex with its plan.
 pub enum Seen {
@@ -84,37 +86,41 @@ fn beta(ws: &[u32], n: usize, at: usize, room: &mut [u32]) -> Redex
     ensures { λ r. ⌜ Plans (now (ws .entry)) n r × (r .at ≡ at) ⌝ }
     ensures { λ r. ⌜ Room (now (room .entry)) (now (room .exit)) ⌝ }
 {
-    let body = at + 2;
-    let found = measure(ws, body, 1, room);
+    let start = at + 2;
+    let found = measure(ws, start, 1, room);
     let occurs = found.occurs;
     let times = occurs[0];
     let args = found.end;
     let after = argument_end(ws, args, times, found.last);
-    let length = at + (args - body - times + times * (after - args)) + (n - after);
+    let length = at + (args - start - times + times * (after - args)) + (n - after);
     if found.last == 0 {
         let stop = args - 1;
         if ws[stop] == Word::VARIABLE {
-            return Redex {
-                rule: Rule::Beta,
-                at,
-                body,
+            let body = Body {
+                start,
                 stop,
                 args,
                 after,
                 count: 1,
+            };
+            return Redex {
+                rule: Rule::Beta(body),
+                at,
                 end: args,
                 length,
             };
         }
     }
-    Redex {
-        rule: Rule::Beta,
-        at,
-        body,
+    let body = Body {
+        start,
         stop: args,
         args,
         after,
         count: 1,
+    };
+    Redex {
+        rule: Rule::Beta(body),
+        at,
         end: after,
         length,
     }
@@ -126,30 +132,46 @@ fn selected(
     n: usize,
     at: usize,
     left: usize,
-    body: usize,
+    start: usize,
     after: usize,
     count: usize,
     room: &mut [u32],
 ) -> Redex
-    requires { ⌜ Selected (now ws) n at left body after count (now room) ⌝ }
+    requires { ⌜ Selected (now ws) n at left start after count (now room) ⌝ }
     ensures { λ r. ⌜ Plans (now (ws .entry)) n r × (r .at ≡ at) ⌝ }
     ensures { λ r. ⌜ Room (now (room .entry)) (now (room .exit)) ⌝ }
 {
     let args = at + 2;
-    let found = measure(ws, body, count, room);
+    let found = measure(ws, start, count, room);
     let stop = found.end;
     let end = skip(ws, stop, left);
-    let length = at + substituted_length(ws, body, args, after, count, found) + (n - end);
-    Redex {
-        rule: Rule::Case,
-        at,
-        body,
+    let length = at + substituted_length(ws, start, args, after, count, found) + (n - end);
+    let body = Body {
+        start,
         stop,
         args,
         after,
         count,
+    };
+    Redex {
+        rule: Rule::Case(body),
+        at,
         end,
         length,
+    }
+}
+
+// The plan for a numeral: its entry takes the place of its word.
+fn numbered(ws: &[u32], n: usize, at: usize) -> Redex
+    requires { ⌜ Numbered (now ws) n at ⌝ }
+    ensures { λ r. ⌜ Plans (now (ws .entry)) n r × (r .at ≡ at) ⌝ }
+{
+    let numeral = Word(ws[at]).payload();
+    Redex {
+        rule: Rule::Numeral(numeral),
+        at,
+        end: at + 1,
+        length: n - 1 + library::entry_length(numeral),
     }
 }
 
@@ -177,12 +199,12 @@ fn inspect(
         known,
         room,
     ) {
-        Found::At(body, left) => Seen::Redex(selected(
+        Found::At(start, left) => Seen::Redex(selected(
             ws,
             n,
             at,
             left as usize,
-            body,
+            start,
             after,
             count as usize,
             room,
@@ -196,30 +218,39 @@ fn inspect(
     }
 }
 
+// Whether a word of this kind, which is not a variable's, stands behind a position.
+fn follows(ws: &[u32], at: usize, kind: u32) -> bool
+    requires { ⌜ (at < length (now ws)) × (length (now ws) ≤ workspaceMost) × (0 < kind) ⌝ }
+    ensures { λ r. ⌜ r ≡ eqb (kindOf (getD (now (ws .entry)) (at + 1) 0)) kind ⌝ }
+{
+    if at + 1 < ws.len() {
+        return Word(ws[at + 1]).kind() == kind;
+    }
+    false
+}
+
 // What is seen at a position: the plan for the redex that starts there, if one does. Until then the room is a table of ends, and a redex's walks
 // take it for their scopes.
 pub fn plan_at(ws: &[u32], n: usize, at: usize, known: usize, room: &mut [u32]) -> Seen
     requires { ⌜ At (now ws) n at (now room) × Ends (now ws) at known (now room) ⌝ }
     ensures { λ r. ⌜ SeenAt (now (ws .entry)) n at known (now (room .entry)) r (now (room .exit)) ⌝ }
 {
-    if ws.len() <= at + 1 {
-        return Seen::Nothing;
-    }
     let first = Word(ws[at]);
-    let second = Word(ws[at + 1]);
     match first.kind() {
         Word::APPLICATION => {
-            if second.kind() == Word::ABSTRACTION {
+            if follows(ws, at, Word::ABSTRACTION) {
                 return Seen::Redex(beta(ws, n, at, room));
             }
             Seen::Nothing
         }
         Word::CASE => {
-            if second.kind() == Word::CONSTRUCTOR {
+            if follows(ws, at, Word::CONSTRUCTOR) {
+                let second = Word(ws[at + 1]);
                 return inspect(ws, n, at, first, second, known, room);
             }
             Seen::Nothing
         }
+        Word::NUMERAL => Seen::Redex(numbered(ws, n, at)),
         _ => Seen::Nothing,
     }
 }

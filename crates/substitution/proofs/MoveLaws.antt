@@ -28,7 +28,7 @@ negation-fits (suc n) h = record { sfits = omega arith }
 pub movable-up : {s : Sort} (limit n cutoff : ℕ) (e : Exp s) → IndicesWithin limit e → limit + n < payloadBound → Movable (pos n) cutoff e
 movable-up limit n cutoff e h g =
     everywhere-implies {R = λ p d c. Unit {0}}
-    (record { constructors = λ t n h. tt; cases = λ bs cs same h. tt; branches = λ t n h. tt })
+    (record { constructors = λ t n h. tt; cases = λ bs cs same h. tt; branches = λ t n h. tt; numerals = λ n h. tt })
     (record { abstractions = λ p d c r. tt; bodies = λ p d c n r. tt })
     (λ p d c i r h f. moves-up n i (omega arith))
     tt cutoff tt e h

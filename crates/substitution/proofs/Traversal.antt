@@ -8,8 +8,8 @@ use native.Mathlib.Numerals.{add-one}
 use native.Mathlib.Omega.{arith}
 use lib.IntN.{ℤ}
 use lib.ListN.{replicate}
-use Rattle.calculus.specs.Term.{Sort, term, terms, branches, Exp, Term, Terms, var, lam, app, con, case, nil, cons, end, branch, count}
-use Rattle.calculus.specs.Words.{variableKind, abstractionKind, applicationKind, constructorKind, caseKind, branchKind, kindBase, word, pack, words}
+use Rattle.calculus.specs.Term.{Sort, term, terms, branches, Exp, Term, Terms, var, lam, app, con, case, num, nil, cons, end, branch, count}
+use Rattle.calculus.specs.Words.{variableKind, abstractionKind, applicationKind, constructorKind, caseKind, branchKind, numeralKind, kindBase, word, pack, words}
 use Rattle.calculus.specs.Skip.{following}
 use Rattle.calculus.specs.Traverse.{traverse}
 use Rattle.calculus.specs.Shift.{shift}
@@ -63,6 +63,7 @@ walks-words (con t xs) d ds h =
     walks-word constructorKind (pack t (count xs)) d (omega arith) (rw (countOf-pack t (count xs) (h .0), add-zero)) (walks-words xs d ds (h .1))
 walks-words (case e bs) d ds h =
     walks-word caseKind (count bs) d (omega arith) (rw add-zero) (walks-append (walks-words e d _ (h .1)) (walks-words bs d ds (h .2)))
+walks-words (num n) d ds h = walks-word numeralKind n d (omega arith) refl walks-none
 walks-words nil d ds h = walks-none
 walks-words (cons a xs) d ds h = walks-append (walks-words a d _ (h .0)) (walks-words xs d ds (h .1))
 walks-words end d ds h = walks-none

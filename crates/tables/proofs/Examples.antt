@@ -78,6 +78,10 @@ inspecting =
     ∷ (0, 0, 0, 0)
     ∷ []
 
+-- The numeral 2 applied to the variable 3 and to the numeral 31: 2,2,22,24,254.
+abbrev numerals : List Four
+numerals = (1, 5, 1, 0) ∷ (2, 0, 2, 0) ∷ (2, 0, 3, 5) ∷ (6, 2, 0, 4) ∷ (0, 3, 0, 0) ∷ (6, 31, 0, 0) ∷ []
+
 -- The records of so many abstractions around the variable 0, the first of them at index i.
 abbrev abstractions : (i number : ℕ) → List Four
 abstractions i zero = (0, 0, 0, 0) ∷ []
@@ -96,6 +100,8 @@ record Tried : Type 0 where
   case-loads : loading inspecting ≡ holding 7 9 (20 ∷ 139 ∷ 40 ∷ 133 ∷ 0 ∷ 269 ∷ 0 ∷ [])
   case-written : write (20 ∷ 139 ∷ 40 ∷ 133 ∷ 0 ∷ 269 ∷ 0 ∷ replicate 9 9) 7 (replicate 32 9)
       ≡ record { answer = returned 7; table = table inspecting }
+  numerals-load : loading numerals ≡ holding 5 11 (2 ∷ 2 ∷ 22 ∷ 24 ∷ 254 ∷ [])
+  numerals-written : write (2 ∷ 2 ∷ 22 ∷ 24 ∷ 254 ∷ replicate 11 9) 5 (replicate 24 9) ≡ record { answer = returned 5; table = table numerals }
   workspace-of-15 : Refusing 7 (table identity) (replicate 15 9)
   a-word-too-many : Refusing 1 (table identity ++ (0 ∷ [])) fresh
   a-word-too-few : Refusing 1 (1 ∷ 2 ∷ 1 ∷ 0 ∷ 1 ∷ 0 ∷ 2 ∷ 0 ∷ 0 ∷ 0 ∷ 0 ∷ []) fresh
@@ -110,7 +116,7 @@ record Tried : Type 0 where
   root-0 : Refusing 2 (table ((1, 1, 0, 0) ∷ (0, 0, 0, 0) ∷ [])) fresh
   as-long-as-workspace : loading ((1, 16, 1, 0) ∷ abstractions 1 15) ≡ holding 16 0 (replicate 15 1 ++ (0 ∷ []))
   longer-than-workspace : Refusing 8 (1 ∷ 17 ∷ 1 ∷ 0 ∷ replicate 68 0) fresh
-  kind-6 : Refusing 3 (table ((1, 1, 1, 0) ∷ (6, 0, 0, 0) ∷ [])) fresh
+  kind-7 : Refusing 3 (table ((1, 1, 1, 0) ∷ (7, 0, 0, 0) ∷ [])) fresh
   index-32767 : Refusing 6 (table ((1, 1, 1, 0) ∷ (0, 32767, 0, 0) ∷ [])) fresh
   index-32768 : Refusing 3 (table ((1, 1, 1, 0) ∷ (0, 32768, 0, 0) ∷ [])) fresh
   tag-0 : Refusing 3 (table ((1, 1, 1, 0) ∷ (3, 0, 0, 0) ∷ [])) fresh
@@ -121,6 +127,8 @@ record Tried : Type 0 where
   branch-tag-1 : load (branching 16) fresh ≡ holding 4 12 (12 ∷ 0 ∷ 133 ∷ 0 ∷ [])
   branch-tag-255 : load (branching 4095) fresh ≡ holding 4 12 (12 ∷ 0 ∷ 32765 ∷ 0 ∷ [])
   branch-tag-256 : Refusing 3 (branching 4096) fresh
+  numeral-31 : loading ((1, 1, 1, 0) ∷ (6, 31, 0, 0) ∷ []) ≡ holding 1 15 (254 ∷ [])
+  numeral-32 : Refusing 3 (table ((1, 1, 1, 0) ∷ (6, 32, 0, 0) ∷ [])) fresh
   abstraction-with-value : Refusing 3 (table ((1, 2, 1, 0) ∷ (1, 1, 2, 0) ∷ (0, 0, 0, 0) ∷ [])) fresh
   application-with-value : Refusing 3 (table ((1, 3, 1, 0) ∷ (2, 1, 2, 0) ∷ (0, 0, 0, 3) ∷ (0, 0, 0, 0) ∷ [])) fresh
   case-with-value : Refusing 3 (table ((1, 2, 1, 0) ∷ (4, 1, 2, 0) ∷ (0, 0, 0, 0) ∷ [])) fresh
@@ -133,6 +141,7 @@ record Tried : Type 0 where
   named-by-none : Refusing 4 (table ((1, 2, 1, 0) ∷ (0, 0, 0, 0) ∷ (0, 0, 0, 0) ∷ [])) fresh
   named-twice : Refusing 4 (table ((1, 3, 1, 0) ∷ (2, 0, 2, 0) ∷ (1, 0, 3, 3) ∷ (0, 0, 0, 0) ∷ [])) fresh
   variable-with-a-child : Refusing 5 (table ((1, 2, 1, 0) ∷ (0, 0, 2, 0) ∷ (0, 0, 0, 0) ∷ [])) fresh
+  numeral-with-a-child : Refusing 5 (table ((1, 2, 1, 0) ∷ (6, 0, 2, 0) ∷ (0, 0, 0, 0) ∷ [])) fresh
   arguments-15 : numberFits constructorKind 15 ≡ true
   arguments-16 : numberFits constructorKind 16 ≡ false
   no-subject : numberFits caseKind 0 ≡ false
@@ -150,15 +159,16 @@ record Tried : Type 0 where
   workspace-before-length : Refusing 7 (1 ∷ 0 ∷ 1 ∷ []) (replicate 15 9)
   length-before-header : Refusing 1 (table ((2, 1, 1, 0) ∷ [])) fresh
   header-before-too-long : Refusing 2 (2 ∷ 17 ∷ 1 ∷ 0 ∷ replicate 68 0) fresh
-  too-long-before-values : Refusing 8 (1 ∷ 17 ∷ 1 ∷ 0 ∷ 6 ∷ replicate 67 0) fresh
-  values-before-links : Refusing 3 (table ((1, 1, 1, 0) ∷ (6, 0, 1, 0) ∷ [])) fresh
+  too-long-before-values : Refusing 8 (1 ∷ 17 ∷ 1 ∷ 0 ∷ 7 ∷ replicate 67 0) fresh
+  values-before-links : Refusing 3 (table ((1, 1, 1, 0) ∷ (7, 0, 1, 0) ∷ [])) fresh
   links-before-children : Refusing 4 (table ((1, 2, 1, 0) ∷ (0, 0, 2, 5) ∷ (0, 0, 0, 0) ∷ [])) fresh
   children-before-free-numbers : Refusing 5 (table ((1, 2, 1, 0) ∷ (0, 256, 0, 2) ∷ (0, 0, 0, 0) ∷ [])) fresh
-  all-values-before-links : Refusing 3 (table ((1, 2, 1, 0) ∷ (1, 0, 1, 0) ∷ (6, 0, 0, 0) ∷ [])) fresh
+  all-values-before-links : Refusing 3 (table ((1, 2, 1, 0) ∷ (1, 0, 1, 0) ∷ (7, 0, 0, 0) ∷ [])) fresh
   all-links-before-children : Refusing 4 (table ((1, 3, 1, 0) ∷ (0, 0, 2, 0) ∷ (0, 0, 0, 0) ∷ (0, 0, 0, 0) ∷ [])) fresh
   all-children-before-free-numbers : Refusing 5 (table ((1, 3, 1, 0) ∷ (2, 0, 2, 0) ∷ (0, 256, 0, 3) ∷ (1, 0, 0, 0) ∷ [])) fresh
   write-workspace-of-15 : Unwritten 7 (replicate 15 0) 1 (replicate 8 9)
   write-no-term : Unwritten 10 (1 ∷ 0 ∷ replicate 14 0) 1 (replicate 8 9)
+  write-numeral-32 : Unwritten 10 (262 ∷ replicate 15 0) 1 (replicate 8 9)
   write-length-0 : Unwritten 10 (1 ∷ 0 ∷ replicate 14 0) 0 (replicate 4 9)
   write-length-17 : Unwritten 10 (replicate 15 1 ++ (0 ∷ [])) 17 (replicate 72 9)
   write-table-too-long : Unwritten 1 (1 ∷ 0 ∷ replicate 14 0) 2 (replicate 16 9)
@@ -170,6 +180,7 @@ record Tried : Type 0 where
   application-with-value-means-none : Meaningless ((1, 3, 1, 0) ∷ (2, 1, 2, 0) ∷ (0, 0, 0, 3) ∷ (0, 0, 0, 0) ∷ [])
   case-with-value-means-none : Meaningless ((1, 2, 1, 0) ∷ (4, 1, 2, 0) ∷ (0, 0, 0, 0) ∷ [])
   child-of-a-variable-means-none : Meaningless ((1, 2, 1, 0) ∷ (0, 0, 2, 0) ∷ (0, 0, 0, 0) ∷ [])
+  child-of-a-numeral-means-none : Meaningless ((1, 2, 1, 0) ∷ (6, 0, 2, 0) ∷ (0, 0, 0, 0) ∷ [])
   two-bodies-mean-none : Meaningless ((1, 3, 1, 0) ∷ (1, 0, 2, 0) ∷ (0, 0, 0, 3) ∷ (0, 0, 0, 0) ∷ [])
   three-parts-mean-none : Meaningless ((1, 4, 1, 0) ∷ (2, 0, 2, 0) ∷ (0, 0, 0, 3) ∷ (0, 0, 0, 4) ∷ (0, 0, 0, 0) ∷ [])
   branch-means-none : Meaningless ((1, 2, 1, 0) ∷ (5, 16, 2, 0) ∷ (0, 0, 0, 0) ∷ [])
@@ -185,6 +196,8 @@ tried =
       other-order-written-anew = refl;
       case-loads = refl;
       case-written = refl;
+      numerals-load = refl;
+      numerals-written = refl;
       workspace-of-15 = (refl, refl);
       a-word-too-many = (refl, refl);
       a-word-too-few = (refl, refl);
@@ -199,7 +212,7 @@ tried =
       root-0 = (refl, refl);
       as-long-as-workspace = refl;
       longer-than-workspace = (refl, refl);
-      kind-6 = (refl, refl);
+      kind-7 = (refl, refl);
       index-32767 = (refl, refl);
       index-32768 = (refl, refl);
       tag-0 = (refl, refl);
@@ -210,6 +223,8 @@ tried =
       branch-tag-1 = refl;
       branch-tag-255 = refl;
       branch-tag-256 = (refl, refl);
+      numeral-31 = refl;
+      numeral-32 = (refl, refl);
       abstraction-with-value = (refl, refl);
       application-with-value = (refl, refl);
       case-with-value = (refl, refl);
@@ -222,6 +237,7 @@ tried =
       named-by-none = (refl, refl);
       named-twice = (refl, refl);
       variable-with-a-child = (refl, refl);
+      numeral-with-a-child = (refl, refl);
       arguments-15 = refl;
       arguments-16 = refl;
       no-subject = refl;
@@ -245,6 +261,7 @@ tried =
       all-children-before-free-numbers = (refl, refl);
       write-workspace-of-15 = (refl, refl);
       write-no-term = (refl, refl);
+      write-numeral-32 = (refl, refl);
       write-length-0 = (refl, refl);
       write-length-17 = (refl, refl);
       write-table-too-long = (refl, refl);
@@ -255,6 +272,7 @@ tried =
       application-with-value-means-none = refl;
       case-with-value-means-none = refl;
       child-of-a-variable-means-none = refl;
+      child-of-a-numeral-means-none = refl;
       two-bodies-mean-none = refl;
       three-parts-mean-none = refl;
       branch-means-none = refl;

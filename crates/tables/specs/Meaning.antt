@@ -9,8 +9,8 @@ use mathlib.Core.Path.{_≡_}
 use mathlib.Core.Bool.{true, false, cond, _&&_}
 use mathlib.Core.Option.{Option, some, none, Option·map, bind}
 use lib.Dec.{eqb}
-use Rattle.calculus.specs.Term.{Sort, term, terms, branches, Exp, var, lam, app, con, case, nil, cons, end, branch, Term, Terms, Branches}
-use Rattle.calculus.specs.Words.{variableKind, abstractionKind, applicationKind, constructorKind, caseKind, branchKind, tagOf, countOf}
+use Rattle.calculus.specs.Term.{Sort, term, terms, branches, Exp, var, lam, app, con, case, num, nil, cons, end, branch, Term, Terms, Branches}
+use Rattle.calculus.specs.Words.{variableKind, abstractionKind, applicationKind, constructorKind, caseKind, branchKind, numeralKind, tagOf, countOf}
 use Rattle.records.specs.Records.{Table, OfKind, isRecord}
 
 -- The term of a record that is no case, by its kind, its value and the terms that its children mean: the table of the kinds.
@@ -19,6 +19,7 @@ pub data Node : (kind value : ℕ) → Terms → Term → Type 0 where
   abstraction : {b : Term} → Node abstractionKind 0 (cons b nil) (lam b)
   application : {f a : Term} → Node applicationKind 0 (cons f (cons a nil)) (app f a)
   constructor : {v : ℕ} {xs : Terms} → Node constructorKind v xs (con v xs)
+  numeral : {v : ℕ} → Node numeralKind v nil (num v)
 
 pub data Means (T : Table) : (s : Sort) → ℕ → Exp s → Type 0 where
   plain : {i kind : ℕ} {xs : Terms} {t : Term} → OfKind T kind i → Node kind (T .at i .value) xs t → Means T terms (T .at i .first) xs
@@ -31,10 +32,10 @@ pub data Means (T : Table) : (s : Sort) → ℕ → Exp s → Type 0 where
   a-branch : {i : ℕ} {b : Term} {bs : Branches} → OfKind T branchKind i → Means T terms (T .at i .first) (cons b nil)
       → Means T branches (T .at i .next) bs → Means T branches i (branch (tagOf (T .at i .value)) (countOf (T .at i .value)) b bs)
 
--- `Node` as a function, kind by kind: a variable has no child, an abstraction one, an application two, a constructor any number.
-abbrev pub variableOf : ℕ → Terms → Option Term
-variableOf v nil = some (var v)
-variableOf v (cons a xs) = none
+-- `Node` as a function, kind by kind: a variable and a numeral have no child, an abstraction one, an application two, a constructor any number.
+abbrev pub leafOf : Term → Terms → Option Term
+leafOf t nil = some t
+leafOf t (cons a xs) = none
 
 abbrev pub onlyOne : Terms → Option Term
 onlyOne nil = none
@@ -54,11 +55,12 @@ valueless (suc v) o = none
 
 unfoldable pub termOf : (kind value : ℕ) → Terms → Option Term
 termOf k v xs =
-    cond (eqb k variableKind) (variableOf v xs)
+    cond (eqb k variableKind) (leafOf (var v) xs)
     (cond (eqb k abstractionKind) (valueless v (Option·map lam (onlyOne xs)))
     (cond (eqb k applicationKind) (valueless v (applicationOf xs))
     (cond (eqb k constructorKind) (some (con v xs))
-    none)))
+    (cond (eqb k numeralKind) (leafOf (num v) xs)
+    none))))
 
 -- What index i means, where `rec` tells what the indices that record i links to mean.
 abbrev pub Reading : Type 0

@@ -6,8 +6,8 @@ use mathlib.Core.List.{List, [], _∷_, _++_}
 use mathlib.Core.Option.{Option, some, none}
 use lib.Dec.{eqb}
 use lib.ListN.{length}
-use Rattle.calculus.specs.Term.{Sort, Exp, var, lam, app, con, case, nil, cons, end, branch, Term, count}
-use Rattle.calculus.specs.Words.{variableKind, abstractionKind, applicationKind, constructorKind, caseKind, branchKind, pack, size}
+use Rattle.calculus.specs.Term.{Sort, Exp, var, lam, app, con, case, num, nil, cons, end, branch, Term, count}
+use Rattle.calculus.specs.Words.{variableKind, abstractionKind, applicationKind, constructorKind, caseKind, branchKind, numeralKind, pack, size}
 use Rattle.calculus.specs.Workspace.{termAt}
 use Rattle.calculus.specs.Refusal.{Refusal, WrongLength, WrongWorkspace, NoTerm}
 use Rattle.records.specs.Records.{Record, entry, form1, recordsWords}
@@ -29,6 +29,7 @@ records i x (app f a) =
 records i x (con t xs) = entry constructorKind t (linkTo (suc i) xs) x ∷ records (suc i) 0 xs
 records i x (case e bs) =
     entry caseKind 0 (suc i) x ∷ (records (suc i) (linkTo (suc i + size e) bs) e ++ records (suc i + size e) 0 bs)
+records i x (num n) = entry numeralKind n 0 x ∷ []
 records i x nil = []
 records i x (cons a xs) = records i (linkTo (i + size a) xs) a ++ records (i + size a) 0 xs
 records i x end = []

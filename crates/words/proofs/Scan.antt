@@ -10,8 +10,8 @@ use native.Mathlib.Numerals.{add-one}
 use native.Mathlib.Omega.{arith}
 use lib.Dec.{eqb, ltb}
 use borrow.Author.Tests.{eqb-true, leb-true, ltb-true, le-leb, lt-ltb}
-use Rattle.calculus.specs.Term.{Sort, term, terms, branches, Exp, Term, Terms, Branches, var, lam, app, con, case, nil, cons, end, branch, count}
-use Rattle.calculus.specs.Words.{variableKind, abstractionKind, applicationKind, constructorKind, caseKind, branchKind, kindBase, countBase, word, pack, tagOf, countOf, words}
+use Rattle.calculus.specs.Term.{Sort, term, terms, branches, Exp, Term, Terms, Branches, var, lam, app, con, case, num, nil, cons, end, branch, count}
+use Rattle.calculus.specs.Words.{variableKind, abstractionKind, applicationKind, constructorKind, caseKind, branchKind, numeralKind, kindBase, countBase, word, pack, tagOf, countOf, words}
 use Rattle.calculus.specs.Accepted.{tagLimit, argumentLimit, branchLimit, StartsAbove, Rising, Accepted}
 use Rattle.calculus.specs.Read.{read}
 use Rattle.calculus.specs.Skip.{following}
@@ -77,6 +77,7 @@ passes d (case e bs) h =
     λ n b t fs ws. rw append-assoc
     (scan-term caseKind (count bs) n b d t fs _ (omega arith) (le-leb _ _ (h .0 .0))
     ∙ rw add-zero (passes d e (h .1) 0 (count bs) 0 _ _ ∙ passes d bs (h .2) 0 _ ws (starts-above-zero d bs (h .2)) (h .0 .1)))
+passes d (num i) h = λ n b t fs ws. scan-term numeralKind i n b d t fs ws (omega arith) (le-leb _ _ h)
 passes d nil h = λ b t fs ws. refl
 passes d (cons a xs) h = λ b t fs ws. rw append-assoc (passes d a (h .0) (count xs) b t fs _ ∙ passes d xs (h .1) b t fs ws)
 passes d end h = λ t fs ws g r. refl
@@ -153,7 +154,8 @@ fill-term k p d P ws =
     (λ h.
     let g = gather-branches p d 0 P (h .1) (h .4) in
     (case (h .0) (g .0), g .1, ((omega (arith, leb-true p branchLimit q), g .4), h .2, g .5), rw append-assoc (cc), g .7)))
-    (λ q. absurd (false≢true q))))))
+    (when-eqb k numeralKind (λ e q. rw e (λ h. (num p, ws, leb-true _ _ q, refl, h)))
+    (λ q. absurd (false≢true q)))))))
 
 fill-branch : (k p n d t : ℕ) (P : List ℕ → Type 0) (ws : List ℕ) → startsBranch t k p ≡ true → FrameThen (insideBy d k p) (BranchesThen n d (tagOf p) P) ws → BranchesThen (suc n) d t P (word k p ∷ ws)
 unfolding insideBy binding startsBranch following

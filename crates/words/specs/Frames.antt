@@ -6,8 +6,8 @@ use Prim.Native.Nat.{ℕ, zero, suc, _+_}
 use mathlib.Core.Bool.{Bool, false, cond, _&&_}
 use mathlib.Core.Option.{Option, some, none}
 use lib.Dec.{eqb, leb, ltb}
-use Rattle.calculus.specs.Words.{variableKind, abstractionKind, applicationKind, constructorKind, caseKind, branchKind, kindOf, payloadOf, tagOf}
-use Rattle.calculus.specs.Accepted.{tagLimit, branchLimit, freeLimit}
+use Rattle.calculus.specs.Words.{variableKind, abstractionKind, applicationKind, constructorKind, caseKind, branchKind, numeralKind, kindOf, payloadOf, tagOf}
+use Rattle.calculus.specs.Accepted.{tagLimit, branchLimit, freeLimit, numeralLimit}
 use Rattle.calculus.specs.Skip.{following}
 use Rattle.words.specs.Bound.{binding}
 
@@ -43,7 +43,8 @@ startsTerm d k p =
     (cond (eqb k applicationKind) (eqb p 0)
     (cond (eqb k constructorKind) (tagAbove 0 (tagOf p))
     (cond (eqb k caseKind) (leb p branchLimit)
-    false))))
+    (cond (eqb k numeralKind) (leb p numeralLimit)
+    false)))))
 
 unfoldable pub startsBranch : (tag kind payload : ℕ) → Bool
 startsBranch t k p = eqb k branchKind && tagAbove t (tagOf p)

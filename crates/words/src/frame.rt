@@ -131,6 +131,7 @@ fn enter_term(word: Word, depth: u32) -> Entered
             }
             Entered::Nowhere
         }
+        Word::NUMERAL => inside_if(payload <= Word::NUMERAL_MOST, Frame::new(0, 0, depth, 0)),
         _ => Entered::Nowhere,
     }
 }

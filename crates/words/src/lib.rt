@@ -9,9 +9,9 @@ ghost use mathlib.Core.Path.{_≡_};
 ghost use mathlib.Core.List.{_++_};
 ghost use Prim.Native.Nat.{_≤_, _<_, _+_, _-_};
 ghost use lib.ListN.{length, take, drop, replicate};
-ghost use Rattle.calculus.specs.Words.{variableKind, abstractionKind, applicationKind, constructorKind, caseKind, branchKind, workspaceLeast, workspaceMost, kindBase, countBase};
+ghost use Rattle.calculus.specs.Words.{variableKind, abstractionKind, applicationKind, constructorKind, caseKind, branchKind, numeralKind, workspaceLeast, workspaceMost, libraryWords, kindBase, countBase};
 ghost use Rattle.calculus.specs.Words.{word, kindOf, payloadOf, tagOf, countOf};
-ghost use Rattle.calculus.specs.Accepted.{tagLimit, argumentLimit, branchLimit, freeLimit};
+ghost use Rattle.calculus.specs.Accepted.{tagLimit, argumentLimit, branchLimit, freeLimit, numeralLimit};
 ghost use Rattle.calculus.specs.Skip.{arity, span};
 ghost use Rattle.words.specs.Limits.{payloadBound};
 ghost use Rattle.words.specs.Bound.{bound};
@@ -38,6 +38,8 @@ impl Word {
 
     pub const BRANCH: u32 = 5;
 
+    pub const NUMERAL: u32 = 6;
+
     // A payload stands above the kind, a tag above a count.
     pub const KIND_BASE: u32 = 8;
 
@@ -48,7 +50,10 @@ impl Word {
 
     pub const WORKSPACE_MOST: usize = 2048;
 
-    // The largest tag, argument or bound count, number of branches and free number.
+    // The words of the library of numerals.
+    pub const LIBRARY_WORDS: usize = 1088;
+
+    // The largest tag, argument or bound count, number of branches, free number and numeral.
     pub const TAG_MOST: u32 = 255;
 
     pub const ARGUMENTS_MOST: u32 = 15;
@@ -56,6 +61,8 @@ impl Word {
     pub const BRANCHES_MOST: u32 = 15;
 
     pub const FREE_MOST: u32 = 255;
+
+    pub const NUMERAL_MOST: u32 = 31;
 
     // The word of a kind and a payload.
     pub fn new(kind: u32, payload: u32) -> Self
@@ -226,12 +233,15 @@ fn constants()
     ensures { λ r. do ⌜ (← ⟦Word::CONSTRUCTOR⟧ .entry) ≡ constructorKind ⌝ }
     ensures { λ r. do ⌜ (← ⟦Word::CASE⟧ .entry) ≡ caseKind ⌝ }
     ensures { λ r. do ⌜ (← ⟦Word::BRANCH⟧ .entry) ≡ branchKind ⌝ }
+    ensures { λ r. do ⌜ (← ⟦Word::NUMERAL⟧ .entry) ≡ numeralKind ⌝ }
     ensures { λ r. do ⌜ (← ⟦Word::KIND_BASE⟧ .entry) ≡ kindBase ⌝ }
     ensures { λ r. do ⌜ (← ⟦Word::COUNT_BASE⟧ .entry) ≡ countBase ⌝ }
     ensures { λ r. do ⌜ (← ⟦Word::WORKSPACE_LEAST⟧ .entry) ≡ workspaceLeast ⌝ }
     ensures { λ r. do ⌜ (← ⟦Word::WORKSPACE_MOST⟧ .entry) ≡ workspaceMost ⌝ }
+    ensures { λ r. do ⌜ (← ⟦Word::LIBRARY_WORDS⟧ .entry) ≡ libraryWords ⌝ }
     ensures { λ r. do ⌜ (← ⟦Word::TAG_MOST⟧ .entry) ≡ tagLimit ⌝ }
     ensures { λ r. do ⌜ (← ⟦Word::ARGUMENTS_MOST⟧ .entry) ≡ argumentLimit ⌝ }
     ensures { λ r. do ⌜ (← ⟦Word::BRANCHES_MOST⟧ .entry) ≡ branchLimit ⌝ }
     ensures { λ r. do ⌜ (← ⟦Word::FREE_MOST⟧ .entry) ≡ freeLimit ⌝ }
+    ensures { λ r. do ⌜ (← ⟦Word::NUMERAL_MOST⟧ .entry) ≡ numeralLimit ⌝ }
 {}

@@ -55,6 +55,7 @@ pub fn contracting() -> Vec<Case> {
     let mut cases = vec![looping()];
     cases.extend([10, 13, 16].map(fold));
     cases.extend([5, 7, 9].map(power));
+    cases.push(power_of_numerals(8));
     cases.extend([30, 100, 300].map(addition));
     cases.extend([10, 20, 40].map(multiplication));
     cases
@@ -217,6 +218,16 @@ fn power(n: usize) -> Case {
     let length = (2 << n) + 3;
     let line = format!("Same {} {length} {length}", (2 << n) - 2);
     Case::new(format!("Church 2^{n}"), &left, &church(1 << n), line)
+}
+
+/// The same of numerals: T(k) x takes one contraction more to T(k-1) (T(k-1) x), that of its 2, so
+/// 3 × 2^k - 3. Two lead to an abstraction over T(n), two more to one over T(n-1) (T(n-1) x).
+fn power_of_numerals(n: usize) -> Case {
+    let left = format!("%{n} %2");
+    let length = (2 << n) + 3;
+    let line = format!("Same {} {length} {length}", (3 << n) - 2);
+    let name = format!("Numerals 2^{n}");
+    Case::new(name, &left, &church(1 << n), line)
 }
 
 /// n + n: three beta contractions and one by case for each number from n down to 0.

@@ -123,7 +123,7 @@ fn the_examples_of_the_help() {
         (!command.starts_with("--")).then_some((command, line.trim()))
     });
     let examples: Vec<_> = examples.collect();
-    assert_eq!(examples.len(), 3);
+    assert_eq!(examples.len(), 4);
     for (command, line) in examples {
         assert_eq!(judged(command), line, "{command}");
     }

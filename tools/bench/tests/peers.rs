@@ -64,6 +64,29 @@ fn growing_pairs() {
 }
 
 #[test]
+fn numerals() {
+    assert_eq!(line(1, 16, "%2", r"\\1 (1 0)"), "Same 1 7 7");
+    assert_eq!(line(0, 16, "%2", r"\\1 (1 0)"), "Budget 0 1 7");
+    assert_eq!(line(0, 16, "%31", "%31"), "Same 0 1 1");
+    assert_eq!(line(2, 16, "%0", "%1"), "Different 2 3 5");
+    // Numeral n adds 2n + 2 words.
+    assert_eq!(line(1, 17, "0 %6", "0"), "Different 1 17 1");
+    assert_eq!(line(1, 16, "0 %6", "0"), "Full 0 3 1");
+    // As a function it is the redex, and the application is the next one.
+    assert_eq!(line(1, 16, "%3 0", r"\1 (1 (1 0))"), "Budget 1 11 8");
+    assert_eq!(line(2, 16, "%3 0", r"\1 (1 (1 0))"), "Same 2 8 8");
+    // As a subject it contracts, and the case is stuck.
+    assert_eq!(line(9, 16, "?%0{1.0:0}", r"?\\0{1.0:0}"), "Same 1 6 6");
+    // Thrown away it is never contracted, and an argument is put in as it is: on the left there are
+    // then two words, and on the right the numeral has become ten.
+    assert_eq!(line(2, 16, r"(\\1) 0 %31", "0"), "Same 2 1 1");
+    assert_eq!(line(2, 16, r"(\\1) %3", r"\%3"), "Budget 2 2 10");
+    assert_eq!(line(3, 16, r"(\\1) %3", r"\%3"), "Same 3 10 10");
+    let sum = r"(\\\\3 1 (2 1 0))";
+    assert_eq!(line(9, 17, &format!("{sum} %2 %2"), "%4"), "Same 9 11 11");
+}
+
+#[test]
 fn free_indices_of_arguments_rise() {
     // (\x. \y. x) z is \y. z, and so is a branch that takes z under a binder.
     assert_eq!(line(9, 16, r"(\\1) 3", r"\4"), "Same 1 2 2");
@@ -131,7 +154,8 @@ fn refused_tables() {
         (2, &[1, 1, 1, 9, 0, 0, 0, 0]),
         (2, &[1, 1, 2, 0, 0, 0, 0, 0]),
         (2, &[1, 1, 0, 0, 0, 0, 0, 0]),
-        (3, &[1, 1, 1, 0, 6, 0, 0, 0]),
+        (3, &[1, 1, 1, 0, 7, 0, 0, 0]),
+        (3, &[1, 1, 1, 0, 6, 32, 0, 0]),
         (3, &[1, 1, 1, 0, 0, 32_768, 0, 0]),
         (3, &[1, 1, 1, 0, 3, 0, 0, 0]),
         (3, &[1, 1, 1, 0, 3, 256, 0, 0]),
@@ -146,6 +170,8 @@ fn refused_tables() {
         (5, &[1, 2, 1, 0, 5, 16, 2, 0, 0, 0, 0, 0]),
         (5, &[1, 2, 1, 0, 2, 0, 2, 0, 0, 0, 0, 0]),
         (5, &[1, 3, 1, 0, 1, 0, 2, 0, 5, 16, 3, 0, 0, 0, 0, 0]),
+        (5, &[1, 2, 1, 0, 6, 1, 2, 0, 0, 0, 0, 0]),
+        (5, &[1, 3, 1, 0, 4, 0, 2, 0, 0, 0, 0, 3, 6, 16, 0, 0]),
         (6, &[1, 1, 1, 0, 0, 256, 0, 0]),
         (6, &[1, 2, 1, 0, 1, 0, 2, 0, 0, 257, 0, 0]),
     ] {
@@ -167,8 +193,8 @@ fn refusals_come_in_their_order() {
     for (number, table) in [
         (1, vec![2, 2, 1, 0, 0, 0, 0, 0]),
         (2, seventeen(2, [0, 0, 0, 0])),
-        (8, seventeen(1, [6, 0, 0, 0])),
-        (3, vec![1, 1, 1, 0, 6, 0, 1, 0]),
+        (8, seventeen(1, [7, 0, 0, 0])),
+        (3, vec![1, 1, 1, 0, 6, 32, 1, 0]),
         (4, vec![1, 2, 1, 0, 1, 0, 0, 0, 0, 0, 0, 0]),
         (5, vec![1, 2, 1, 0, 0, 256, 0, 2, 0, 0, 0, 0]),
     ] {

@@ -126,6 +126,10 @@ fn the_program_gets_both_tables_and_its_line_is_printed() {
         judge(&[r"\0", "7"]),
         printed("1000 2048 12 1 2 1 0 1 0 2 0 0 0 0 0 8 1 1 1 0 0 7 0 0")
     );
+    assert_eq!(
+        judge(&["%31", r"\%0"]),
+        printed("1000 2048 8 1 1 1 0 6 31 0 0 12 1 2 1 0 1 0 2 0 6 0 0 0")
+    );
 }
 
 #[test]
@@ -572,15 +576,29 @@ fn text_errors_name_the_term_and_the_place() {
     );
     assert_eq!(
         refused(2, &["0 λ1", "("]),
-        "judge: left term, column 3: expected an index, `(`, `\\`, `#`, `?` or the end, found `λ`\n    \
+        "judge: left term, column 3: expected an index, `(`, `\\`, `#`, `?`, `%` or the end, found `λ`\n    \
          0 λ1\n      ^\n"
     );
+    for (text, column, expected, found) in [
+        ("%32", 2, "a numeral, at most 31", "32"),
+        ("%01", 2, "a numeral without leading zeros", "01"),
+        ("0 %", 4, "a numeral", "the end"),
+    ] {
+        let caret = " ".repeat(column + 3);
+        assert_eq!(
+            refused(2, &[text, "0"]),
+            format!(
+                "judge: left term, column {column}: expected {expected}, found {found}\n    \
+                 {text}\n{caret}^\n"
+            )
+        );
+    }
     let long = "(".repeat(100_000);
     assert_eq!(
         refused(2, &[&long, "0"]),
         format!(
             "judge: left term, column 100001: \
-             expected an index, `(`, `\\`, `#` or `?`, found the end\n    ..{}\n{}^\n",
+             expected an index, `(`, `\\`, `#`, `?` or `%`, found the end\n    ..{}\n{}^\n",
             "(".repeat(60),
             " ".repeat(66)
         )
@@ -657,6 +675,15 @@ fn tables_words_and_text_need_no_program() {
         judge_in(root, &["--show-words", r"(\\1) 0 1"]),
         printed("2,2,1,1,8,0,8")
     );
+    assert_eq!(
+        judge_in(root, &["--table", "%8 %2"]),
+        printed("1,3,1,0, 2,0,2,0, 6,8,0,3, 6,2,0,0")
+    );
+    assert_eq!(
+        judge_in(root, &["--show-words", "%8 %2"]),
+        printed("2,70,22")
+    );
+    assert_eq!(judge_in(root, &["--text", "2,70,22"]), printed("%8 %2"));
     for words in [
         &["2,2,1,1,8,0,8"][..],
         &["2", "2", "1", "1", "8", "0", "8"],
@@ -682,8 +709,12 @@ fn word_errors_name_the_place() {
         "judge: word 2: expected a number from 0 to 4294967295, found `x`\n"
     );
     assert_eq!(
-        refused(2, &["--text", "1", "6"]),
-        "judge: word 2: 6 has kind 6; kinds run from 0 to 5\n"
+        refused(2, &["--text", "1", "7"]),
+        "judge: word 2: 7 has kind 7; kinds run from 0 to 6\n"
+    );
+    assert_eq!(
+        refused(2, &["--text", "262"]),
+        "judge: word 1: 262 is numeral 32; the last one is 31\n"
     );
     assert_eq!(
         refused(2, &["--text"]),

@@ -1,6 +1,6 @@
-//! Shift, substitution, the two rules and the leftmost outermost step.
+//! Shift, substitution, the three rules and the leftmost outermost step.
 
-use crate::term::{abs, app, branch, case, con, var, Branch, Term};
+use crate::term::{abs, app, branch, case, con, num, var, Branch, Term};
 
 /// An index moved by a signed distance.
 fn moved(index: u32, distance: i64) -> u32 {
@@ -33,6 +33,7 @@ fn map_variables(term: &Term, depth: u32, at: &dyn Fn(u32, u32) -> Term) -> Term
                 .map(|b| branch(b.tag, b.bound, map_variables(&b.body, depth + b.bound, at)))
                 .collect(),
         ),
+        Term::Num(numeral) => num(*numeral),
     }
 }
 
@@ -62,6 +63,11 @@ pub fn substitute(body: &Term, args: &[Term]) -> Term {
     })
 }
 
+/// The Church numeral of `n`: a function put `n` times before its argument.
+pub fn church(n: u32) -> Term {
+    abs(abs((0..n).fold(var(0), |term, _| app(var(1), term))))
+}
+
 /// What the term becomes if it is itself a redex.
 pub fn contractum(term: &Term) -> Option<Term> {
     match term {
@@ -80,6 +86,7 @@ pub fn contractum(term: &Term) -> Option<Term> {
                 .map(|branch| substitute(&branch.body, args)),
             _ => None,
         },
+        Term::Num(numeral) => Some(church(*numeral)),
         _ => None,
     }
 }
@@ -93,7 +100,7 @@ pub fn step(term: &Term) -> Option<Term> {
 
 fn step_inside(term: &Term) -> Option<Term> {
     match term {
-        Term::Var(_) => None,
+        Term::Var(_) | Term::Num(_) => None,
         Term::Abs(body) => step(body).map(abs),
         Term::App(function, argument) => match step(function) {
             Some(next) => Some(app(next, argument.as_ref().clone())),

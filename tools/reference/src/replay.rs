@@ -66,6 +66,11 @@ pub struct Transcript {
 
 /// Runs everything that stands on the standard input.
 pub fn run(input: &[u8]) -> Transcript {
+    run_watched(input, |_, _| {})
+}
+
+/// The same, with each operation shown before it is made.
+pub fn run_watched(input: &[u8], mut watch: impl FnMut(&Machine, &Operation)) -> Transcript {
     let mut transcript = Transcript::default();
     let Some((mut machine, mut script)) = start(input) else {
         return transcript.broken_off();
@@ -74,6 +79,7 @@ pub fn run(input: &[u8]) -> Transcript {
         let Some(operation) = script.operation() else {
             return transcript.broken_off();
         };
+        watch(&machine, &operation);
         let event = machine.apply(&operation, &mut transcript.text);
         transcript.events.push(event);
     }

@@ -3,7 +3,8 @@
 use crate::press::{put, term_in};
 use crate::refusal::Refusal;
 use crate::term::{
-    abs, app, branch, case, con, tags_rise, var, Branch, Term, MOST, TAGS, WORKSPACE,
+    abs, app, branch, case, con, num, tags_rise, var, Branch, Term, LARGEST_NUMERAL, MOST, TAGS,
+    WORKSPACE,
 };
 use crate::words::{kind, tag_and_count, COUNTS};
 
@@ -86,6 +87,7 @@ fn value_fits(record: &Record) -> bool {
         kind::CONSTRUCTOR => TAGS.contains(&record.value),
         kind::BRANCH => tag_and_count(record.value).is_some(),
         kind::ABSTRACTION | kind::APPLICATION | kind::CASE => record.value == 0,
+        kind::NUMERAL => record.value <= LARGEST_NUMERAL,
         _ => false,
     }
 }
@@ -137,6 +139,7 @@ impl Records {
                 let branches: Vec<_> = branches.collect::<Option<_>>()?;
                 tags_rise(&branches).then(|| case(scrutinee, branches))
             }
+            (kind::NUMERAL, []) => Some(num(record.value)),
             _ => None,
         }
     }
@@ -211,6 +214,7 @@ impl Writer {
                 }
                 own
             }
+            Term::Num(numeral) => self.record(kind::NUMERAL, *numeral),
         }
     }
 

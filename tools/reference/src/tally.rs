@@ -1,12 +1,14 @@
 //! Counts of what a run saw, and the least it has to see.
 
+use crate::part::Part;
 use crate::replay::Event;
 use crate::verdict::Outcome;
 use std::collections::BTreeMap;
 use std::fmt;
 
-/// Verdicts and refusals that the verdict program can give.
-const VERDICT_KINDS: [&str; 14] = [
+/// Verdicts and refusals that the verdict program can give, and the parts that
+/// numerals have in them.
+const VERDICT_KINDS: [&str; 19] = [
     "verdict: Same",
     "verdict: Different",
     "verdict: Budget",
@@ -21,10 +23,16 @@ const VERDICT_KINDS: [&str; 14] = [
     "verdict: Refused 8",
     "verdict: Refused 9",
     "verdict: Input",
+    "verdict, load of a numeral",
+    "verdict, load refused 3 by a numeral",
+    "verdict, load refused 5 by a numeral",
+    "verdict, press contracts a numeral",
+    "verdict, press Full by a numeral",
 ];
 
-/// Answers that the calls of a script can give.
-const REPLAY_KINDS: [&str; 27] = [
+/// Answers that the calls of a script can give, and the parts that numerals
+/// have in them.
+const REPLAY_KINDS: [&str; 37] = [
     "replay: load",
     "replay: load refused 1",
     "replay: load refused 2",
@@ -52,6 +60,16 @@ const REPLAY_KINDS: [&str; 27] = [
     "replay: store",
     "replay: print",
     "replay: Script",
+    "replay, load of a numeral",
+    "replay, load refused 3 by a numeral",
+    "replay, load refused 5 by a numeral",
+    "replay, press contracts a numeral",
+    "replay, press Full by a numeral",
+    "replay, press refused 10 by a numeral",
+    "replay, show of a numeral",
+    "replay, show refused by a numeral",
+    "replay, write of a numeral",
+    "replay, write refused 10 by a numeral",
 ];
 
 /// Each kind has to be seen once in so many cases.
@@ -91,6 +109,13 @@ impl Tally {
             Event::Script => "Script".to_string(),
         };
         self.count(format!("replay: {kind}"), 1);
+    }
+
+    /// The parts of numerals in an input of the program, or in a call of it.
+    pub fn parts(&mut self, program: &str, parts: Vec<Part>) {
+        for part in parts {
+            self.count(format!("{program}, {part}"), 1);
+        }
     }
 
     fn count(&mut self, kind: String, times: usize) {

@@ -10,6 +10,8 @@ pub const TAGS: RangeInclusive<u32> = 1..=255;
 pub const MOST: usize = 15;
 /// The largest free number.
 pub const LARGEST_FREE: u32 = 255;
+/// The largest numeral.
+pub const LARGEST_NUMERAL: u32 = 31;
 
 /// A term; variables are de Bruijn indices from 0.
 #[derive(Clone, Debug, PartialEq, Eq)]
@@ -25,6 +27,8 @@ pub enum Term {
         scrutinee: Box<Term>,
         branches: Vec<Branch>,
     },
+    /// Stands for the Church numeral, to which it contracts.
+    Num(u32),
 }
 
 /// A branch of a case; its body stands under `bound` binders.
@@ -59,6 +63,10 @@ pub fn case(scrutinee: Term, branches: Vec<Branch>) -> Term {
     }
 }
 
+pub fn num(numeral: u32) -> Term {
+    Term::Num(numeral)
+}
+
 pub fn branch(tag: u32, bound: u32, body: Term) -> Branch {
     Branch { tag, bound, body }
 }
@@ -67,7 +75,7 @@ impl Term {
     /// The number of words of the term: one for each node and each branch.
     pub fn size(&self) -> usize {
         match self {
-            Term::Var(_) => 1,
+            Term::Var(_) | Term::Num(_) => 1,
             Term::Abs(body) => 1 + body.size(),
             Term::App(function, argument) => 1 + function.size() + argument.size(),
             Term::Con { args, .. } => 1 + args.iter().map(Term::size).sum::<usize>(),
@@ -105,6 +113,7 @@ impl Term {
                 .filter_map(|branch| branch.body.largest_free_under(binders + branch.bound))
                 .max()
                 .max(scrutinee.largest_free_under(binders)),
+            Term::Num(_) => None,
         }
     }
 

@@ -1,6 +1,8 @@
 //! The words of a term in prefix order, and the term of a list of words.
 
-use crate::term::{abs, app, branch, case, con, tags_rise, var, Branch, Term, MOST, TAGS};
+use crate::term::{
+    abs, app, branch, case, con, num, tags_rise, var, Branch, Term, LARGEST_NUMERAL, MOST, TAGS,
+};
 
 /// The kind numbers of words and of table records.
 pub mod kind {
@@ -10,6 +12,7 @@ pub mod kind {
     pub const CONSTRUCTOR: u32 = 3;
     pub const CASE: u32 = 4;
     pub const BRANCH: u32 = 5;
+    pub const NUMERAL: u32 = 6;
 }
 
 /// A word is its payload times this, plus its kind.
@@ -24,8 +27,16 @@ pub fn words(term: &Term) -> Vec<u32> {
     out
 }
 
-fn word(kind: u32, payload: u32) -> u32 {
+pub fn word(kind: u32, payload: u32) -> u32 {
     payload * KINDS + kind
+}
+
+pub fn kind_of(word: u32) -> u32 {
+    word % KINDS
+}
+
+pub fn payload_of(word: u32) -> u32 {
+    word / KINDS
 }
 
 fn push_words(term: &Term, out: &mut Vec<u32>) {
@@ -55,6 +66,7 @@ fn push_words(term: &Term, out: &mut Vec<u32>) {
                 push_words(&branch.body, out);
             }
         }
+        Term::Num(numeral) => out.push(word(kind::NUMERAL, *numeral)),
     }
 }
 
@@ -74,7 +86,7 @@ impl Reader<'_> {
     fn next(&mut self) -> Option<(u32, u32)> {
         let (word, ahead) = self.ahead.split_first()?;
         self.ahead = ahead;
-        Some((word % KINDS, word / KINDS))
+        Some((kind_of(*word), payload_of(*word)))
     }
 
     fn term(&mut self) -> Option<Term> {
@@ -94,6 +106,7 @@ impl Reader<'_> {
                     .collect::<Option<Vec<_>>>()?;
                 tags_rise(&branches).then(|| case(scrutinee, branches))
             }
+            (kind::NUMERAL, numeral) if numeral <= LARGEST_NUMERAL => Some(num(numeral)),
             _ => None,
         }
     }

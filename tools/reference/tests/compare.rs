@@ -4,7 +4,7 @@
 use reference::generate::{inputs, scripts};
 use reference::tally::{Halves, Tally};
 use reference::verdict::outcome;
-use reference::{on_large_stack, replay};
+use reference::{on_large_stack, part, replay};
 use std::fs;
 use std::path::PathBuf;
 use std::process::{Command, Output};
@@ -60,7 +60,9 @@ fn the_report_counts_every_case() {
     let verdicts = report.lines().filter(|line| line.contains("verdict: "));
     let counts = verdicts.filter_map(|line| line.split_whitespace().next()?.parse::<usize>().ok());
     assert_eq!(counts.sum::<usize>(), 100);
-    assert!(report.contains("replay: press refused 10"));
+    assert!(report.contains("replay: press refused 10\n"));
+    assert!(report.contains("replay, press refused 10 by a numeral\n"));
+    assert!(report.contains("verdict, press Full by a numeral\n"));
 }
 
 #[test]
@@ -116,10 +118,15 @@ fn wrong_arguments() {
 fn missing(seed: u64) -> Vec<&'static str> {
     let mut tally = Tally::default();
     for case in 0..40 {
-        tally.verdict(&outcome(&inputs::input(seed, case)));
+        let input = inputs::input(seed, case);
+        tally.verdict(&outcome(&input));
+        tally.parts("verdict", part::of_input(&input));
     }
     for case in 0..20 {
-        let transcript = replay::run(&scripts::script(seed, case));
+        let script = scripts::script(seed, case);
+        let transcript = replay::run_watched(&script, |before, operation| {
+            tally.parts("replay", part::of_call(before, operation));
+        });
         transcript
             .events
             .iter()
@@ -145,16 +152,17 @@ fn a_run_that_sees_too_little_fails() {
 #[test]
 fn kinds_that_are_not_seen_are_named() {
     let none = Tally::default();
-    // Four verdicts, refusals 1 to 9 and Input; in scripts nine answers of
-    // load, seven of press, three of show, four of write and four others.
-    assert_eq!(none.too_few(60, BOTH).0.len(), 14 + 27);
+    // Four verdicts, refusals 1 to 9, Input and five parts of numerals; in
+    // scripts nine answers of load, seven of press, three of show, four of
+    // write, four others and ten parts of numerals.
+    assert_eq!(none.too_few(60, BOTH).0.len(), 19 + 37);
     assert_eq!(none.too_few(59, BOTH).0.len(), 0);
     let verdict = Halves {
         replay: false,
         ..BOTH
     };
     let (few, least) = none.too_few(6_000, verdict);
-    assert_eq!((few.len(), least), (14, 200));
+    assert_eq!((few.len(), least), (19, 200));
     assert_eq!(none.too_few(3_000, verdict).1, 100);
     assert_eq!(none.too_few(2_999, verdict).1, 49);
     assert!(few.contains(&"verdict: Refused 9"));

@@ -1,12 +1,12 @@
-//! The two rules and the order of contraction, each expectation worked out
+//! The three rules and the order of contraction, each expectation worked out
 //! from the rules as its comment says.
 
 mod common;
 
 use common::{answer, next, pressed, term};
-use reference::contraction::{contractum, shift, step, substitute};
+use reference::contraction::{church, contractum, shift, step, substitute};
 use reference::press::Verdict::{Budget, Different, Same};
-use reference::term::{abs, app, branch, case, con, var};
+use reference::term::{abs, app, branch, case, con, num, var};
 use reference::words::words;
 
 #[test]
@@ -168,6 +168,92 @@ fn shift_is_exact_around_zero() {
 fn substitution_without_arguments_moves_nothing() {
     let body = abs(app(var(0), var(1)));
     assert_eq!(substitute(&body, &[]), body);
+}
+
+#[test]
+fn a_numeral_contracts_to_its_church_numeral() {
+    // Numeral n is the word 8n + 6 and becomes 1,1, then n times 2,8, then 0.
+    assert_eq!(next(&[6]), Some(vec![1, 1, 0]));
+    assert_eq!(next(&[14]), Some(vec![1, 1, 2, 8, 0]));
+    assert_eq!(next(&[22]), Some(vec![1, 1, 2, 8, 2, 8, 0]));
+    let mut words = 0;
+    for n in 0..=31 {
+        let applications = [2, 8].repeat(n as usize);
+        let entry = [&[1, 1][..], &applications, &[0]].concat();
+        assert_eq!(entry.len() as u32, 2 * n + 3);
+        words += entry.len();
+        assert_eq!(next(&[8 * n + 6]), Some(entry.clone()));
+        // A Church numeral is normal.
+        assert_eq!(next(&entry), None);
+    }
+    assert_eq!(words, 1_088);
+    // Trees have numerals above the limit, which no word list has.
+    assert_eq!(step(&num(32)), Some(church(32)));
+    assert_eq!(church(32).size(), 67);
+}
+
+#[test]
+fn a_numeral_is_never_normal() {
+    // Under an abstraction, as an argument, a subject and a branch's body.
+    assert_eq!(next(&[1, 6]), Some(vec![1, 1, 1, 0]));
+    assert_eq!(next(&[2, 0, 6]), Some(vec![2, 0, 1, 1, 0]));
+    assert_eq!(next(&[139, 6]), Some(vec![139, 1, 1, 0]));
+    assert_eq!(next(&[4, 6]), Some(vec![4, 1, 1, 0]));
+    assert_eq!(next(&[12, 0, 133, 6]), Some(vec![12, 0, 133, 1, 1, 0]));
+}
+
+#[test]
+fn an_application_of_a_numeral_is_no_redex() {
+    // 1 f0: the numeral is the leftmost redex, then (\ \ 1 0) f0 becomes
+    // \ f0 0, where f0 is index 1.
+    assert_eq!(contractum(&app(num(1), var(0))), None);
+    assert_eq!(next(&[2, 14, 0]), Some(vec![2, 1, 1, 2, 8, 0, 0]));
+    assert_eq!(next(&[2, 1, 1, 2, 8, 0, 0]), Some(vec![1, 2, 8, 0]));
+    // 0 1: the first becomes \ \ 0, which throws the second away.
+    assert_eq!(next(&[2, 6, 14]), Some(vec![2, 1, 1, 0, 14]));
+    assert_eq!(next(&[2, 1, 1, 0, 14]), Some(vec![1, 0]));
+}
+
+#[test]
+fn a_case_of_a_numeral_ends_stuck() {
+    // case 0 of 1/0 -> (\ 0) f0: first the numeral, then the branch.
+    assert_eq!(contractum(&case(num(0), vec![branch(1, 0, var(0))])), None);
+    let subject = vec![12, 1, 1, 0, 133, 2, 1, 0, 0];
+    assert_eq!(next(&[12, 6, 133, 2, 1, 0, 0]), Some(subject.clone()));
+    assert_eq!(next(&subject), Some(vec![12, 1, 1, 0, 133, 0]));
+    assert_eq!(next(&[12, 1, 1, 0, 133, 0]), None);
+}
+
+#[test]
+fn numerals_and_other_redexes_in_their_order() {
+    // 1(0, (\ 0) f0) with the numeral first, and the other way round.
+    assert_eq!(
+        next(&[147, 6, 2, 1, 0, 0]),
+        Some(vec![147, 1, 1, 0, 2, 1, 0, 0])
+    );
+    assert_eq!(next(&[147, 2, 1, 0, 0, 6]), Some(vec![147, 0, 6]));
+    // (\ 1(0, 0)) 1: the argument is copied as it is.
+    assert_eq!(next(&[2, 1, 147, 0, 0, 14]), Some(vec![147, 14, 14]));
+    assert_eq!(next(&[147, 14, 14]), Some(vec![147, 1, 1, 2, 8, 0, 14]));
+    // case 2(3) of 2/1 -> 1(0, 0) copies it too. Constructor 2 with one
+    // argument is 267, its branch 269.
+    assert_eq!(
+        next(&[12, 267, 30, 269, 147, 0, 0]),
+        Some(vec![147, 30, 30])
+    );
+}
+
+#[test]
+fn shift_and_substitution_leave_numerals() {
+    assert_eq!(shift(&num(5), 7), num(5));
+    assert_eq!(
+        shift(&abs(app(num(0), var(1))), -1),
+        abs(app(num(0), var(0)))
+    );
+    assert_eq!(substitute(&num(0), &[var(9)]), num(0));
+    // (\ 0) f9 with numeral 0 as body, and (\ \ 1) 3 under a binder.
+    assert_eq!(next(&[2, 1, 6, 72]), Some(vec![6]));
+    assert_eq!(next(&[2, 1, 1, 8, 30]), Some(vec![1, 30]));
 }
 
 // The plausible errors that the rules shut out, as presses.

@@ -4,7 +4,7 @@ mod common;
 
 use common::{answer, loaded, pressed, table, term};
 use reference::on_large_stack;
-use reference::press::Verdict::{Budget, Different, Same};
+use reference::press::Verdict::{Budget, Different, Full, Same};
 use reference::refusal::Refusal;
 use reference::table::write;
 use reference::words::words;
@@ -62,6 +62,19 @@ fn a_redex_at_the_deepest_place() {
         assert_eq!(pressed(&redex, &normal, LONGEST, 1), same);
         let budget = answer(Budget, 0, 2_048, 2_045);
         assert_eq!(pressed(&redex, &normal, LONGEST, 0), budget);
+    });
+}
+
+#[test]
+fn a_numeral_at_the_deepest_place() {
+    on_large_stack(|| {
+        // Numeral 0 becomes 1,1,0: two words more.
+        let numeral = join(vec![1; 2_045], &[6]);
+        let different = answer(Different, 1, 2_048, 1);
+        assert_eq!(pressed(&numeral, &[0], LONGEST, 1), different);
+        let numeral = join(vec![1; 2_046], &[6]);
+        let full = answer(Full, 0, 2_047, 1);
+        assert_eq!(pressed(&numeral, &[0], LONGEST, 1), full);
     });
 }
 

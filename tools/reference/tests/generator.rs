@@ -3,19 +3,21 @@
 mod common;
 
 use common::loaded;
-use reference::generate::damage::{faulty_table, FAULTS};
-use reference::generate::inputs::{self, Aim, AIMS};
-use reference::generate::pairs::{pair, trial};
+use reference::contraction::church;
+use reference::generate::damage::{faulty_numeral, faulty_table, FAULTS};
+use reference::generate::inputs::{self, AIMS};
+use reference::generate::pairs::{numeral_trial, pair, trial, Trial};
 use reference::generate::tables::{term_table, Order};
 use reference::generate::terms::{replace, subterms, term, Style};
 use reference::generate::{families, scripts};
 use reference::on_large_stack;
 use reference::press::rounds;
+use reference::press::Verdict;
 use reference::random::Random;
+use reference::refusal::Refusal;
 use reference::replay::VERDICTS;
 use reference::table::write;
 use reference::term::{abs, app, con, var, Term};
-use reference::verdict::{outcome, Outcome};
 use reference::words::{read, words};
 use std::collections::HashSet;
 
@@ -51,11 +53,26 @@ fn random_terms_are_accepted_and_have_their_size() {
 }
 
 #[test]
+fn many_random_terms_have_numerals() {
+    let with_numeral = |case: &u64| {
+        let random = &mut Random::new(7, *case);
+        let style = Style::random(random);
+        let term = term(random, 12, 0, style);
+        let parts = subterms(&term);
+        parts.iter().any(|(part, _)| matches!(part, Term::Num(_)))
+    };
+    let count = (0..600).filter(with_numeral).count();
+    assert!((100..400).contains(&count), "{count}");
+}
+
+#[test]
 fn families_are_accepted() {
     for_cases(600, |random| {
-        let (left, right) = families::pair(random);
-        for term in [left, right] {
-            assert_eq!(read(&words(&term)), Some(term));
+        for (left, right) in [families::pair(random), families::numerals(random)] {
+            for term in [left, right] {
+                assert!(term.size() <= 2_048);
+                assert_eq!(read(&words(&term)), Some(term));
+            }
         }
         let size = random.between(8, 2_048);
         let deep = families::deep(random, size);
@@ -65,10 +82,10 @@ fn families_are_accepted() {
 }
 
 #[test]
-fn numerals() {
+fn church_and_peano_numerals() {
     // Church 2 is \ \ 1 (1 0), Peano 2 is 2(2(1())).
     let two = abs(abs(app(var(1), app(var(1), var(0)))));
-    assert_eq!(families::church(2), two);
+    assert_eq!(church(2), two);
     let two = con(2, vec![con(2, vec![con(1, vec![])])]);
     assert_eq!(families::peano(2), two);
 }
@@ -132,6 +149,17 @@ fn a_faulty_table_is_refused_by_its_fault() {
 }
 
 #[test]
+fn a_faulty_numeral_is_refused_by_its_fault() {
+    for_cases(1_000, |random| {
+        for fault in [Refusal::Value, Refusal::Structure] {
+            let capacity = random.pick(&[16, 17, 40]);
+            let table = faulty_numeral(random, fault, capacity);
+            assert_eq!(loaded(&table, capacity).0, Err(fault), "{table:?}");
+        }
+    });
+}
+
+#[test]
 fn of_two_faults_the_first_is_met() {
     for_cases(200, |random| {
         for (first, fault) in FAULTS.iter().enumerate() {
@@ -147,18 +175,9 @@ fn of_two_faults_the_first_is_met() {
 fn inputs_meet_their_aims() {
     on_large_stack(|| {
         let mut missed = 0;
-        for case in 0..640 {
-            let met = match (
-                AIMS[case % AIMS.len()],
-                outcome(&inputs::input(3, case as u64)),
-            ) {
-                (Aim::Verdict(verdict), Outcome::Answered(answer)) => answer.verdict == verdict,
-                (Aim::Refused(refusal), Outcome::Refused(number)) => refusal == number,
-                (Aim::Input, outcome) => outcome == Outcome::Input,
-                (Aim::Mixed, _) => true,
-                _ => false,
-            };
-            missed += usize::from(!met);
+        for case in 0..760 {
+            let input = inputs::input(3, case as u64);
+            missed += usize::from(!AIMS[case % AIMS.len()].is_met(&input));
         }
         assert!(missed <= 6, "{missed}");
     });
@@ -166,22 +185,27 @@ fn inputs_meet_their_aims() {
 
 #[test]
 fn trials_reach_every_verdict_after_some_rounds() {
-    let counts = on_large_stack(|| {
-        let mut counts = [0; 4];
-        for case in 0..1_200 {
-            let random = &mut Random::new(11, case);
-            let wish = random.pick(&VERDICTS);
-            let trial = trial(random, Some(wish));
-            let end = rounds(trial.left, trial.right, trial.capacity, trial.budget);
-            if end.verdict == wish && end.spent > 2 {
-                counts[wish as usize] += 1;
-            }
+    for trial_of in [trial, numeral_trial] {
+        let counts = on_large_stack(|| wishes_met(trial_of));
+        for (verdict, count) in VERDICTS.iter().zip(counts) {
+            assert!(count >= 20, "{verdict} {count}");
         }
-        counts
-    });
-    for (verdict, count) in VERDICTS.iter().zip(counts) {
-        assert!(count >= 20, "{verdict} {count}");
     }
+}
+
+/// How often each verdict wished for was given after some contractions.
+fn wishes_met(trial_of: fn(&mut Random, Option<Verdict>) -> Trial) -> [usize; 4] {
+    let mut counts = [0; 4];
+    for case in 0..1_200 {
+        let random = &mut Random::new(11, case);
+        let wish = random.pick(&VERDICTS);
+        let trial = trial_of(random, Some(wish));
+        let end = rounds(trial.left, trial.right, trial.capacity, trial.budget);
+        if end.verdict == wish && end.spent > 2 {
+            counts[wish as usize] += 1;
+        }
+    }
+    counts
 }
 
 #[test]

@@ -3,11 +3,12 @@
 
 use reference::generate::inputs::{self, Aim};
 use reference::on_large_stack;
+use reference::part::contracts_numeral;
 use reference::press::{Answer, Verdict};
 use reference::random::Random;
 use reference::replay::VERDICTS;
 use reference::table::load;
-use reference::term::{abs, app, branch, case, con, var, Branch, Term};
+use reference::term::{abs, app, branch, case, con, num, var, Branch, Term};
 use reference::verdict::{outcome, Outcome, Request};
 use reference::words::read;
 
@@ -34,9 +35,19 @@ enum Mistake {
     DifferentBeforeSame,
     OneSideAtATime,
     CountedByRounds,
+    // Of numerals.
+    NumeralIsNormal,
+    NumeralWaits,
+    NumeralIsOneMore,
+    NumeralAppliesItsArgument,
+    NumeralContractsWhenApplied,
+    NumeralRises,
+    NumeralIsFree,
+    NumeralIsItsExpansion,
+    NumeralAlwaysFits,
 }
 
-const MISTAKES: [Mistake; 18] = [
+const MISTAKES: [Mistake; 27] = [
     Mistake::ArgumentNotRaised,
     Mistake::ArgumentsFirst,
     Mistake::StopsAtAbstraction,
@@ -55,6 +66,15 @@ const MISTAKES: [Mistake; 18] = [
     Mistake::DifferentBeforeSame,
     Mistake::OneSideAtATime,
     Mistake::CountedByRounds,
+    Mistake::NumeralIsNormal,
+    Mistake::NumeralWaits,
+    Mistake::NumeralIsOneMore,
+    Mistake::NumeralAppliesItsArgument,
+    Mistake::NumeralContractsWhenApplied,
+    Mistake::NumeralRises,
+    Mistake::NumeralIsFree,
+    Mistake::NumeralIsItsExpansion,
+    Mistake::NumeralAlwaysFits,
 ];
 
 /// Steps and rounds written apart from the reference's, with room for one
@@ -90,10 +110,11 @@ impl Judge {
                 } else {
                     args.len() - 1 - from_last
                 };
-                match self.0 {
-                    Mistake::ArgumentNotRaised => args[place].clone(),
-                    Mistake::BoundIndicesRaised => raise(&args[place], 0, 0, crossed),
-                    _ => raise(&args[place], 0, 1, crossed),
+                match (self.0, &args[place]) {
+                    (Mistake::ArgumentNotRaised, argument) => argument.clone(),
+                    (Mistake::BoundIndicesRaised, argument) => raise(argument, 0, 0, crossed),
+                    (Mistake::NumeralRises, Term::Num(numeral)) => num(numeral + crossed),
+                    (_, argument) => raise(argument, 0, 1, crossed),
                 }
             }
             Term::Var(index) if self.is(Mistake::IndicesNotLowered) => var(*index),
@@ -111,15 +132,35 @@ impl Judge {
                     arms.map(|b| branch(b.tag, b.bound, inside(&b.body, b.bound, self.bound(b))));
                 case(inside(scrutinee, 0, 0), arms.collect())
             }
+            Term::Num(numeral) => num(*numeral),
         }
+    }
+
+    /// What a numeral contracts to.
+    fn entry(&self, numeral: u32) -> Term {
+        let times = numeral + u32::from(self.is(Mistake::NumeralIsOneMore));
+        let mut body = var(0);
+        for _ in 0..times {
+            body = match self.0 {
+                Mistake::NumeralAppliesItsArgument => app(body, var(1)),
+                _ => app(var(1), body),
+            };
+        }
+        abs(abs(body))
     }
 
     fn contractum(&self, term: &Term) -> Option<Term> {
         match term {
             Term::App(f, a) => match f.as_ref() {
                 Term::Abs(body) => Some(self.fill(body, 0, 0, &[a.as_ref().clone()])),
+                Term::Num(numeral) if self.is(Mistake::NumeralContractsWhenApplied) => {
+                    self.contractum(&app(self.entry(*numeral), a.as_ref().clone()))
+                }
                 _ => None,
             },
+            Term::Num(_) if self.is(Mistake::NumeralIsNormal) => None,
+            Term::Num(_) if self.is(Mistake::NumeralWaits) => None,
+            Term::Num(numeral) => Some(self.entry(*numeral)),
             Term::Case {
                 scrutinee,
                 branches,
@@ -133,6 +174,15 @@ impl Judge {
                 _ => None,
             },
             _ => None,
+        }
+    }
+
+    /// The next term, with numerals last if the judge lets them wait.
+    fn next(&self, term: &Term) -> Option<Term> {
+        let waiting = || Judge(Mistake::Nothing).step(term);
+        match self.0 {
+            Mistake::NumeralWaits => self.step(term).or_else(waiting),
+            _ => self.step(term),
         }
     }
 
@@ -173,7 +223,7 @@ impl Judge {
     fn judge(&self, mut sides: [Term; 2], capacity: usize, budget: u32) -> Option<Answer> {
         let mut spent = 0;
         for _ in 0..MOST_ROUNDS {
-            let next = sides.each_ref().map(|side| self.step(side));
+            let next = sides.each_ref().map(|side| self.next(side));
             let end = self.end(&sides, &next, capacity, budget - spent);
             if let Some(verdict) = end {
                 let [left, right] = sides.map(|side| side.size() as u32);
@@ -184,7 +234,7 @@ impl Judge {
                     right,
                 });
             }
-            spent += self.cost(&next);
+            spent += self.cost(&sides, &next);
             for (side, next) in sides.iter_mut().zip(next) {
                 let Some(next) = next else { continue };
                 *side = next;
@@ -196,8 +246,26 @@ impl Judge {
         None
     }
 
-    fn cost(&self, next: &[Option<Term>; 2]) -> u32 {
+    /// The term as it is compared.
+    fn expanded(&self, term: &Term) -> Term {
+        if !self.is(Mistake::NumeralIsItsExpansion) {
+            return term.clone();
+        }
+        match term {
+            Term::Num(numeral) => self.entry(*numeral),
+            _ => {
+                let parts = parts(term).into_iter().map(|part| self.expanded(part));
+                with_parts(term, parts.collect())
+            }
+        }
+    }
+
+    fn cost(&self, sides: &[Term; 2], next: &[Option<Term>; 2]) -> u32 {
         let moving = next.iter().flatten().count() as u32;
+        if self.is(Mistake::NumeralIsFree) {
+            let numerals = sides.iter().filter(|side| contracts_numeral(side));
+            return moving - numerals.count() as u32;
+        }
         let one = self.is(Mistake::CountedByRounds) || self.is(Mistake::OneSideAtATime);
         if one {
             moving.min(1)
@@ -213,16 +281,23 @@ impl Judge {
         capacity: usize,
         left: u32,
     ) -> Option<Verdict> {
-        let same = (sides[0] == sides[1]).then_some(Verdict::Same);
-        let normal = (self.cost(next) == 0).then_some(Verdict::Different);
+        let expanded = sides.each_ref().map(|side| self.expanded(side));
+        let same = (expanded[0] == expanded[1]).then_some(Verdict::Same);
+        let moves = next.iter().any(Option::is_some);
+        let normal = (!moves).then_some(Verdict::Different);
         let spent = if self.is(Mistake::BudgetAsDifferent) {
             Verdict::Different
         } else {
             Verdict::Budget
         };
-        let budget = (self.cost(next) > left).then_some(spent);
+        let budget = (self.cost(sides, next) > left).then_some(spent);
         let most = capacity - usize::from(self.is(Mistake::FullFromC));
-        let long = next.iter().flatten().any(|term| term.size() > most);
+        let fits = |side: &Term| self.is(Mistake::NumeralAlwaysFits) && contracts_numeral(side);
+        let mut moving = sides.iter().zip(next);
+        let long = moving.any(|(side, next)| {
+            next.as_ref()
+                .is_some_and(|next| next.size() > most && !fits(side))
+        });
         let full = long.then_some(Verdict::Full);
         match self.0 {
             Mistake::FullBeforeBudget => same.or(normal).or(full).or(budget),
@@ -248,12 +323,13 @@ fn raise(term: &Term, depth: u32, binder: u32, by: u32) -> Term {
             let arms = arms.map(|b| branch(b.tag, b.bound, inside(&b.body, b.bound)));
             case(inside(scrutinee, 0), arms.collect())
         }
+        Term::Num(numeral) => num(*numeral),
     }
 }
 
 fn parts(term: &Term) -> Vec<&Term> {
     match term {
-        Term::Var(_) => vec![],
+        Term::Var(_) | Term::Num(_) => vec![],
         Term::Abs(body) => vec![body],
         Term::App(f, a) => vec![f, a],
         Term::Con { args, .. } => args.iter().collect(),
@@ -281,6 +357,7 @@ fn with_parts(term: &Term, parts: Vec<Term>) -> Term {
             let arms = branches.iter().map(|b| branch(b.tag, b.bound, next()));
             case(scrutinee, arms.collect())
         }
+        Term::Num(numeral) => num(*numeral),
     }
 }
 

@@ -70,10 +70,11 @@ fn refusal_2_before_8() {
 #[test]
 fn refusal_8_before_3() {
     for wrong in [
-        [6, 0, 0, 0],
+        [7, 0, 0, 0],
         [0, 32_768, 0, 0],
         [3, 0, 0, 0],
         [3, 256, 0, 0],
+        [6, 32, 0, 0],
     ] {
         let (long, short) = (column(17, wrong), column(16, wrong));
         assert_first(8, 3, &[(long, short)]);
@@ -85,11 +86,14 @@ fn refusal_3_before_4() {
     // Record 1 breaks a link rule; record 2 has a wrong kind or value.
     for link in [1, 3, 4] {
         let later = table(&[[1, 0, link, 0], [0, 0, 0, 0]]);
-        for (place, word) in [(8, 6), (9, 32_768), (8, 3)] {
+        for (place, word) in [(8, 7), (9, 32_768), (8, 3)] {
             let both = with(later.clone(), place, word);
             assert_first(3, 4, &[(both, later.clone())]);
         }
     }
+    // A numeral is too large and names itself.
+    let later = table(&[[6, 31, 1, 0]]);
+    assert_first(3, 4, &[(with(later.clone(), 5, 32), later)]);
     // Nothing names record 2, whose value is wrong.
     let later = table(&[[0, 0, 0, 0], [0, 0, 0, 0]]);
     assert_first(3, 4, &[(with(later.clone(), 9, 32_768), later)]);
@@ -105,6 +109,7 @@ fn refusal_4_before_5() {
         &[[4, 0, 0, 0]],
         &[[5, 16, 2, 0], [0, 0, 0, 0]],
         &[[0, 0, 0, 2], [0, 0, 0, 0]],
+        &[[6, 0, 2, 0], [0, 0, 0, 0]],
         &[[1, 0, 2, 0], [5, 16, 3, 0], [0, 0, 0, 0]],
         &[
             [4, 0, 2, 0],
@@ -138,7 +143,7 @@ type Records = &'static [[u32; 4]];
 
 /// Tables with a free number above its limit and wrong children before or
 /// behind it, each beside a table with the free number alone.
-const STRUCTURE_AND_FREE_NUMBER: [(Records, Records); 6] = [
+const STRUCTURE_AND_FREE_NUMBER: [(Records, Records); 7] = [
     // 256 applied to an abstraction without a body, or with one.
     (
         &[[2, 0, 2, 0], [0, 256, 0, 3], [1, 0, 0, 0]],
@@ -151,6 +156,11 @@ const STRUCTURE_AND_FREE_NUMBER: [(Records, Records); 6] = [
     ),
     // A variable with the child 256.
     (&[[0, 0, 2, 0], FREE_256], &[[1, 0, 2, 0], [0, 257, 0, 0]]),
+    // A numeral with the child 256, and one beside it.
+    (
+        &[[6, 0, 2, 0], FREE_256],
+        &[[2, 0, 2, 0], [6, 0, 0, 3], FREE_256],
+    ),
     // A branch as the root, its body 256 + 1 under one binder.
     (
         &[[5, 17, 2, 0], [0, 257, 0, 0]],

@@ -217,6 +217,99 @@ fn a_next_term_of_exactly_c_words_fits() {
 }
 
 #[test]
+fn a_numeral_against_its_expansion() {
+    // Numeral 2 is 22 and becomes 1,1,2,8,2,8,0.
+    let two = [1, 1, 2, 8, 2, 8, 0];
+    assert_eq!(pressed(&[22], &two, 16, 1), answer(Same, 1, 7, 7));
+    assert_eq!(pressed(&two, &[22], 16, 1), answer(Same, 1, 7, 7));
+    assert_eq!(pressed(&[22], &two, 16, 0), answer(Budget, 0, 1, 7));
+    // Equal numerals need no contraction, even where none would fit.
+    assert_eq!(pressed(&[254], &[254], 16, 0), answer(Same, 0, 1, 1));
+}
+
+#[test]
+fn a_numeral_is_not_different_before_it_is_contracted() {
+    // 0 against f0: \ \ 0 is Different once the contraction is made.
+    assert_eq!(pressed(&[6], &[0], 16, 0), answer(Budget, 0, 1, 1));
+    assert_eq!(pressed(&[6], &[0], 16, 1), answer(Different, 1, 3, 1));
+    // Two numerals move together.
+    assert_eq!(pressed(&[6], &[14], 16, 1), answer(Budget, 0, 1, 1));
+    assert_eq!(pressed(&[6], &[14], 16, 2), answer(Different, 2, 3, 5));
+}
+
+#[test]
+fn a_numeral_grows_by_2n_plus_2_words() {
+    // Numeral 7, 62, becomes 17 words; in f0 6, 2,0,54, it is numeral 6 that
+    // adds 14 to 3.
+    for left in [&[62][..], &[2, 0, 54]] {
+        let length = left.len() as u32;
+        assert_eq!(pressed(left, &[0], 17, 1), answer(Different, 1, 17, 1));
+        assert_eq!(pressed(left, &[0], 16, 1), answer(Full, 0, length, 1));
+        assert_eq!(pressed(&[0], left, 16, 1), answer(Full, 0, 1, length));
+        assert_eq!(pressed(left, &[0], 16, 0), answer(Budget, 0, length, 1));
+    }
+    assert_eq!(pressed(&[54], &[0], 16, 1), answer(Different, 1, 15, 1));
+    // The last one has 65 words.
+    assert_eq!(pressed(&[254], &[0], 65, 1), answer(Different, 1, 65, 1));
+    assert_eq!(pressed(&[254], &[0], 64, 1), answer(Full, 0, 1, 1));
+}
+
+#[test]
+fn a_numeral_that_is_thrown_away_is_not_contracted() {
+    // (\ \ 1) f0 31 and case 2(f0, 31) of 2/2 -> 1 in 16 words, where the
+    // numeral would not fit. Constructor 2 with two arguments is 275, its
+    // branch 277.
+    let left = [2, 2, 1, 1, 8, 0, 254];
+    assert_eq!(pressed(&left, &[0], 16, 2), answer(Same, 2, 1, 1));
+    let left = [12, 275, 0, 254, 277, 8];
+    assert_eq!(pressed(&left, &[0], 16, 1), answer(Same, 1, 1, 1));
+}
+
+#[test]
+fn a_numeral_applied() {
+    // 3 f0: the numeral, then beta, to \ 1 (1 (1 0)).
+    let right = [1, 2, 8, 2, 8, 2, 8, 0];
+    assert_eq!(pressed(&[2, 30, 0], &right, 16, 2), answer(Same, 2, 8, 8));
+    assert_eq!(
+        pressed(&[2, 30, 0], &right, 16, 1),
+        answer(Budget, 1, 11, 8)
+    );
+}
+
+#[test]
+fn two_and_two_is_four() {
+    // \ \ \ \ 3 1 (2 1 0) applied to 2 and 2, 17 words, against numeral 4.
+    let sum = [1, 1, 1, 1, 2, 2, 24, 8, 2, 2, 16, 8, 0];
+    let left = [&[2, 2][..], &sum, &[22, 22]].concat();
+    // Both sides move first: beta on the left, and the right becomes 11 words.
+    assert_eq!(pressed(&left, &[38], 17, 1), answer(Budget, 0, 17, 1));
+    assert_eq!(pressed(&left, &[38], 17, 2), answer(Budget, 2, 14, 11));
+    // Then beta to \ \ 2 1 (2 1 0), 11 words, and for each numeral 2 in turn
+    // its own contraction, 17 words, and two by beta, 14 and 11 words.
+    for (spent, length) in [(3, 11), (4, 17), (5, 14), (6, 11), (7, 17), (8, 14)] {
+        let expected = answer(Budget, spent, length, 11);
+        assert_eq!(pressed(&left, &[38], 17, spent), expected);
+    }
+    assert_eq!(pressed(&left, &[38], 17, 9), answer(Same, 9, 11, 11));
+    assert_eq!(pressed(&left, &[46], 17, 9), answer(Different, 9, 11, 13));
+}
+
+#[test]
+fn a_payload_above_31_is_no_term() {
+    for wrong in [262, 8 * 256 + 6, u32::MAX - 1] {
+        let mut lent = Lent::new(&[wrong], &[14], 16);
+        lent.assert_refused((1, 1), 9, Refusal::NotATerm);
+        let mut lent = Lent::new(&[14], &[wrong], 16);
+        lent.assert_refused((1, 1), 9, Refusal::NotATerm);
+        let (left, right) = (workspace(&[wrong], 16), workspace(&[14], 16));
+        assert_eq!(show(&left, &right, (1, 1)), None);
+        assert_eq!(show(&right, &left, (1, 1)), None);
+    }
+    let lent = workspace(&[254], 16);
+    assert_eq!(show(&lent, &lent, (1, 1)), Some((Side::Left, 1)));
+}
+
+#[test]
 fn session_is_renewed() {
     let mut lent = Lent::new(&K_F0_F1, &[0], 16);
     lent.session = session(40);

@@ -4,15 +4,16 @@
 mod common;
 
 use common::census::Census;
-use reference::contraction::step;
+use reference::contraction::{contractum, step};
 use reference::generate::families;
 use reference::generate::inputs::{self, Aim};
 use reference::generate::pairs::{pair, trial};
 use reference::on_large_stack;
+use reference::part::contracts_numeral;
 use reference::press::{rounds, Rounds, Verdict};
 use reference::random::Random;
 use reference::replay::VERDICTS;
-use reference::term::{Branch, Term};
+use reference::term::{num, Branch, Term};
 use reference::verdict::{outcome, Outcome, Request};
 
 /// Where a part stands in its term.
@@ -31,7 +32,7 @@ fn parts<'a>(term: &'a Term, place: Place, found: &mut Vec<(&'a Term, Place)>) {
         within,
     };
     match term {
-        Term::Var(_) => {}
+        Term::Var(_) | Term::Num(_) => {}
         Term::Abs(body) => parts(body, inside(1, "an abstraction"), found),
         Term::App(function, argument) => {
             parts(function, inside(0, "a function"), found);
@@ -137,6 +138,7 @@ fn look_at(term: &Term, census: &mut Census) {
             Term::App(function, _) => match function.as_ref() {
                 Term::Abs(_) => census.meet(format!("beta redex within {}", place.within)),
                 Term::Con { .. } => census.meet("application of a constructor"),
+                Term::Num(_) => census.meet("application of a numeral"),
                 _ => census.meet("application"),
             },
             Term::Con { tag, args } => {
@@ -151,12 +153,20 @@ fn look_at(term: &Term, census: &mut Census) {
                 scrutinee,
                 branches,
             } => look_at_case(scrutinee, branches, place, census),
+            Term::Num(numeral) => {
+                census.meet(format!("numeral within {}", place.within));
+                census.meet(match numeral {
+                    0 => "numeral 0",
+                    31 => "numeral 31",
+                    _ => "numeral between",
+                });
+            }
         }
     }
 }
 
 /// Sizes, nodes, variables and places of redexes.
-const SHAPES: [&str; 59] = [
+const SHAPES: [&str; 70] = [
     "one word",
     "few words",
     "some words",
@@ -174,6 +184,7 @@ const SHAPES: [&str; 59] = [
     "abstraction",
     "application",
     "application of a constructor",
+    "application of a numeral",
     "constructor of no arguments",
     "constructor of one arguments",
     "constructor of several arguments",
@@ -216,6 +227,16 @@ const SHAPES: [&str; 59] = [
     "stuck by the tag",
     "stuck by too few bound",
     "stuck by too many bound",
+    "numeral 0",
+    "numeral 31",
+    "numeral between",
+    "numeral within nothing",
+    "numeral within an abstraction",
+    "numeral within a function",
+    "numeral within an argument",
+    "numeral within a constructor",
+    "numeral within a subject",
+    "numeral within a branch",
 ];
 
 #[test]
@@ -259,7 +280,32 @@ fn look_at_relation(left: &Term, right: &Term, census: &mut Census) {
                 std::cmp::Ordering::Equal => "a step keeps the length",
                 std::cmp::Ordering::Greater => "a step lengthens",
             });
+            look_at_order(term, census);
         }
+    }
+    census.meet_if(left == right && has_numeral(left), "equal with a numeral");
+    census.meet_if(
+        matches!((left, right), (Term::Num(one), Term::Num(other)) if one != other),
+        "two numerals",
+    );
+}
+
+fn has_numeral(term: &Term) -> bool {
+    let parts = all_parts(term);
+    parts.iter().any(|(part, _)| matches!(part, Term::Num(_)))
+}
+
+/// Which redex comes first where a numeral is one of them.
+fn look_at_order(term: &Term, census: &mut Census) {
+    let parts = all_parts(term).into_iter().map(|(part, _)| part);
+    let redexes: Vec<&Term> = parts.filter(|part| contractum(part).is_some()).collect();
+    let is_numeral = |redex: &&Term| matches!(redex, Term::Num(_));
+    if redexes.iter().any(is_numeral) {
+        census.meet(match redexes.iter().all(is_numeral) {
+            true => "numerals are the only redexes",
+            false if contracts_numeral(term) => "a numeral before another redex",
+            false => "another redex before a numeral",
+        });
     }
 }
 
@@ -267,7 +313,7 @@ fn look_at_relation(left: &Term, right: &Term, census: &mut Census) {
 fn pairs_reach_every_relation() {
     let census = on_large_stack(|| {
         let mut census = Census::default();
-        for case in 0..1_500 {
+        for case in 0..2_000 {
             let (left, right) = pair(&mut Random::new(32, case));
             look_at_relation(&left, &right, &mut census);
         }
@@ -287,24 +333,29 @@ fn pairs_reach_every_relation() {
             "a step shortens",
             "a step keeps the length",
             "a step lengthens",
+            "equal with a numeral",
+            "two numerals",
+            "numerals are the only redexes",
+            "a numeral before another redex",
+            "another redex before a numeral",
         ],
     );
 }
 
-/// The place of an endless part which the contractions throw away.
-fn thrown_away(term: &Term, endless: &Term) -> Option<&'static str> {
+/// The place of a part which the contractions throw away.
+fn thrown_away(term: &Term, spare: &Term) -> Option<&'static str> {
     let place = match term {
         Term::App(function, last) => match function.as_ref() {
-            Term::App(_, first) if **first == *endless => "first argument",
-            Term::App(..) if **last == *endless => "second argument",
+            Term::App(_, first) if **first == *spare => "first argument",
+            Term::App(..) if **last == *spare => "second argument",
             _ => return None,
         },
         Term::Case {
             scrutinee,
             branches,
         } => match scrutinee.as_ref() {
-            Term::Con { args, .. } if args.contains(endless) => "constructor's argument",
-            Term::Con { .. } if branches.iter().any(|b| b.body == *endless) => "other branch",
+            Term::Con { args, .. } if args.contains(spare) => "constructor's argument",
+            Term::Con { .. } if branches.iter().any(|b| b.body == *spare) => "other branch",
             _ => return None,
         },
         _ => return None,
@@ -315,12 +366,16 @@ fn thrown_away(term: &Term, endless: &Term) -> Option<&'static str> {
 }
 
 #[test]
-fn endless_parts_are_thrown_away_in_every_way() {
+fn parts_are_thrown_away_in_every_way() {
     let mut census = Census::default();
-    for case in 0..1_500 {
+    for case in 0..3_000 {
         let (left, _) = families::pair(&mut Random::new(37, case));
-        for (name, endless) in [("loop", families::omega()), ("growth", families::growing())] {
-            if let Some(place) = thrown_away(&left, &endless) {
+        for (name, spare) in [
+            ("loop", families::omega()),
+            ("growth", families::growing()),
+            ("numeral", num(31)),
+        ] {
+            if let Some(place) = thrown_away(&left, &spare) {
                 census.meet(format!("{name}, {place}"));
             }
         }
@@ -336,6 +391,10 @@ fn endless_parts_are_thrown_away_in_every_way() {
             "growth, second argument",
             "growth, constructor's argument",
             "growth, other branch",
+            "numeral, first argument",
+            "numeral, second argument",
+            "numeral, constructor's argument",
+            "numeral, other branch",
         ],
     );
 }
@@ -357,6 +416,8 @@ fn look_at_end(end: Rounds, capacity: usize, budget: u32, census: &mut Census) {
     let over = longest.saturating_sub(capacity);
     let size = end.left.size().max(end.right.size());
     let (verdict, unspent) = (end.verdict, budget - end.spent);
+    let sides = [&end.left, &end.right];
+    let next_is_numeral = sides.into_iter().any(contracts_numeral);
     let spent = match end.spent {
         0 => "no contraction",
         1..=3 => "a few",
@@ -374,6 +435,7 @@ fn look_at_end(end: Rounds, capacity: usize, budget: u32, census: &mut Census) {
             census.meet(format!("Budget, {unspent} unspent where {moving} move"));
             census.meet_if(over > 0, "Budget before Full");
             census.meet_if(longest == capacity, "Budget, C words next");
+            census.meet_if(next_is_numeral, "Budget, a numeral next");
         }
         Verdict::Full => {
             census.meet(format!("Full where {moving} move"));
@@ -386,29 +448,52 @@ fn look_at_end(end: Rounds, capacity: usize, budget: u32, census: &mut Census) {
             census.meet_if(over > 1, "Full by more");
             census.meet_if(size == capacity, "Full with a term of C words");
             census.meet_if(capacity == 16, "Full in 16 words");
-        }
-    }
-}
-
-/// The longest term that so many contractions of a pair's rounds give.
-fn longest_given(mut sides: [Term; 2], contractions: u32) -> usize {
-    let (mut made, mut longest) = (0, 0);
-    while made < contractions {
-        for side in &mut sides {
-            if let Some(next) = step(side) {
-                *side = next;
-                made += 1;
-                longest = longest.max(side.size());
+            let is_long = |side: &&&Term| step(side).is_some_and(|next| next.size() > capacity);
+            if sides
+                .iter()
+                .filter(is_long)
+                .all(|side| contracts_numeral(side))
+            {
+                census.meet(match over {
+                    1 => "Full by a numeral's last word",
+                    _ => "Full by a numeral",
+                });
             }
         }
     }
-    longest
+}
+
+/// The longest term that so many contractions of a pair's rounds give, and
+/// whether a numeral's gives it; and whether any is a numeral's.
+fn longest_given(mut sides: [Term; 2], contractions: u32) -> ((usize, bool), bool) {
+    let (mut made, mut longest, mut any) = (0, (0, false), false);
+    while made < contractions {
+        for side in &mut sides {
+            if let Some(next) = step(side) {
+                let by_numeral = contracts_numeral(side);
+                *side = next;
+                made += 1;
+                longest = longest.max((side.size(), by_numeral));
+                any = any || by_numeral;
+            }
+        }
+    }
+    (longest, any)
 }
 
 /// Ends of rounds beside how many contractions they come after.
-const ENDS: [&str; 22] = [
+const ENDS: [&str; 31] = [
     "Same, C words on the way",
     "Different, C words on the way",
+    "Same, C words by a numeral",
+    "Different, C words by a numeral",
+    "Same, a numeral contracted",
+    "Different, a numeral contracted",
+    "Budget, a numeral contracted",
+    "Full, a numeral contracted",
+    "Budget, a numeral next",
+    "Full by a numeral",
+    "Full by a numeral's last word",
     "Same, all spent",
     "Same, one unspent",
     "Same, much unspent",
@@ -442,8 +527,16 @@ fn trials_reach_every_edge() {
             let sides = [trial.left.clone(), trial.right.clone()];
             let end = rounds(trial.left, trial.right, capacity, budget);
             let decides = matches!(end.verdict, Verdict::Same | Verdict::Different);
-            if decides && end.spent <= 50 && longest_given(sides, end.spent) == capacity {
-                census.meet(format!("{}, C words on the way", end.verdict));
+            if end.spent <= 50 {
+                let ((longest, by_numeral), any) = longest_given(sides, end.spent);
+                let at_limit = decides && longest == capacity;
+                let verdict = end.verdict;
+                census.meet_if(at_limit, format!("{verdict}, C words on the way"));
+                census.meet_if(
+                    at_limit && by_numeral,
+                    format!("{verdict}, C words by a numeral"),
+                );
+                census.meet_if(any, format!("{verdict}, a numeral contracted"));
             }
             look_at_end(end, capacity, budget, &mut census);
         }
@@ -506,10 +599,10 @@ fn way(term: &Term) -> &'static str {
     }
 }
 
-/// The innermost variable and the binders around it.
-fn innermost(term: &Term, functions: bool, binders: u32) -> (u32, u32) {
+/// The innermost variable or numeral and the binders around it.
+fn innermost(term: &Term, functions: bool, binders: u32) -> (&Term, u32) {
     match term {
-        Term::Var(index) => (*index, binders),
+        Term::Var(_) | Term::Num(_) => (term, binders),
         Term::Abs(body) => innermost(body, functions, binders + 1),
         Term::Con { args, .. } => innermost(&args[args.len() - 1], functions, binders),
         Term::Case {
@@ -550,10 +643,11 @@ fn deep_terms_go_every_way() {
             let size = random.between(100, 2_048);
             let term = families::deep(random, size);
             let way = way(&term);
-            let (index, binders) = innermost(&term, way == "functions", 0);
-            census.meet(match index.checked_sub(binders) {
-                Some(free) => format!("{way} around free number {free}"),
-                None => format!("{way} around a bound variable"),
+            let (innermost, binders) = innermost(&term, way == "functions", 0);
+            census.meet(match innermost {
+                Term::Var(index) if *index < binders => format!("{way} around a bound variable"),
+                Term::Var(index) => format!("{way} around free number {}", index - binders),
+                _ => format!("{way} around a numeral"),
             });
             census.meet(match step(&term) {
                 Some(_) => format!("{way} around a redex"),
@@ -562,7 +656,13 @@ fn deep_terms_go_every_way() {
         }
         census
     });
-    let inside = ["free number 0", "free number 255", "a redex", "no redex"];
+    let inside = [
+        "free number 0",
+        "free number 255",
+        "a numeral",
+        "a redex",
+        "no redex",
+    ];
     let mut features = Vec::new();
     for (way, binds) in WAYS {
         features.extend(inside.map(|inside| format!("{way} around {inside}")));

@@ -285,6 +285,9 @@ impl Reader<'_> {
             (4, 16) => return Err("16 branches".to_string()),
             (4, _) => return Err("more than 16 branches".to_string()),
             (5, _) => return Err("a branch in a term's place".to_string()),
+            (6, 0..=31) => {}
+            (6, 32) => return Err("numeral 32".to_string()),
+            (6, _) => return Err("a larger numeral".to_string()),
             _ => return Err(format!("kind {kind}")),
         }
         Ok(())
@@ -337,8 +340,8 @@ fn broken_rule(words: &[u32]) -> Option<String> {
 fn words_that_are_no_term_break_every_rule() {
     let census = on_large_stack(|| {
         let mut census = Census::default();
-        // Of eight scripts the third is about such words.
-        for case in (2..4_000).step_by(8) {
+        // Of nine scripts the third is about such words.
+        for case in (2..4_500).step_by(9) {
             each_call(&scripts::script(46, case), |before, operation, event| {
                 let Operation::Press { lengths, .. } = operation else {
                     return;
@@ -358,8 +361,9 @@ fn words_that_are_no_term_break_every_rule() {
     let rules = [
         "too few words",
         "too many words",
-        "kind 6",
         "kind 7",
+        "numeral 32",
+        "a larger numeral",
         "an abstraction with a payload",
         "an application with a payload",
         "a constructor of tag 0",
@@ -496,9 +500,9 @@ const BREAKS: [&str; 27] = [
 fn broken_scripts_are_broken_in_every_way() {
     let census = on_large_stack(|| {
         let mut census = Census::default();
-        for case in 0..9_600 {
+        for case in 0..10_800 {
             // Scripts that may break are those of five cases in twenty-four.
-            if !matches!(case / 8 % 24, 1 | 6 | 11 | 16 | 21 | 3) {
+            if !matches!(case / 9 % 24, 1 | 6 | 11 | 16 | 21 | 3) {
                 continue;
             }
             let input = scripts::script(43, case);

@@ -19,6 +19,7 @@ const APPLICATION: u32 = 2;
 const CONSTRUCTOR: u32 = 3;
 const CASE: u32 = 4;
 const BRANCH: u32 = 5;
+const NUMERAL: u32 = 6;
 
 /// The tables of `count` cases with one fault each, refused by it.
 fn census(fault: Refusal, count: u64, look: impl Fn(&[u32], usize, &mut Census) + Sync) -> Census {
@@ -168,8 +169,7 @@ fn refusal_8() {
 }
 
 /// Ways in which a kind or value is wrong.
-const VALUES: [&str; 17] = [
-    "kind 6",
+const VALUES: [&str; 19] = [
     "kind 7",
     "far kind",
     "index just above",
@@ -184,6 +184,9 @@ const VALUES: [&str; 17] = [
     "abstraction's value",
     "application's value",
     "case's value",
+    "numeral just above",
+    "numeral far above",
+    "far kind that ends in a numeral's",
     "in the first record",
     "in the last record",
 ];
@@ -198,17 +201,18 @@ fn wrong_value(record: &Record) -> Option<String> {
         ABSTRACTION => ("abstraction's value", record.value != 0),
         APPLICATION => ("application's value", record.value != 0),
         CASE => ("case's value", record.value != 0),
-        6 | 7 => ("kind", true),
+        NUMERAL => ("numeral", record.value > 31),
+        7 => ("kind 7", true),
+        kind if kind % 8 == NUMERAL => ("far kind that ends in a numeral's", true),
         _ => ("far kind", true),
     };
     wrong.then(|| match (record.kind, record.value) {
-        (VARIABLE, 32_768) | (CONSTRUCTOR, 256) => format!("{name} just above"),
+        (VARIABLE, 32_768) | (CONSTRUCTOR, 256) | (NUMERAL, 32) => format!("{name} just above"),
         (BRANCH, _) if tag == 256 => format!("{name} just above"),
         (CONSTRUCTOR, 0) => format!("{name} 0"),
         (BRANCH, 0) => format!("{name} 0 of none bound"),
         (BRANCH, _) if tag == 0 => format!("{name} 0"),
-        (VARIABLE | CONSTRUCTOR | BRANCH, _) => format!("{name} far above"),
-        (6 | 7, _) => format!("{name} {}", record.kind),
+        (VARIABLE | CONSTRUCTOR | BRANCH | NUMERAL, _) => format!("{name} far above"),
         _ => name.to_string(),
     })
 }
@@ -307,6 +311,7 @@ fn wrong_children(of: &Record, children: &[&Record]) -> Option<String> {
         APPLICATION => ("application", 2, 2),
         CONSTRUCTOR => ("constructor", 0, 15),
         CASE => ("case", 1, 16),
+        NUMERAL => ("numeral", 0, 0),
         _ => ("branch", 1, 1),
     };
     if count < least {
@@ -322,8 +327,13 @@ fn wrong_children(of: &Record, children: &[&Record]) -> Option<String> {
     if of.kind != CASE {
         return rest_is_branch.then(|| format!("{name} of a branch later"));
     }
-    if children[1..].iter().any(|child| child.kind != BRANCH) {
-        return Some("case of a term later".to_string());
+    if let Some(child) = children[1..].iter().find(|child| child.kind != BRANCH) {
+        let name = if child.kind == NUMERAL {
+            "numeral"
+        } else {
+            "term"
+        };
+        return Some(format!("case of a {name} later"));
     }
     wrong_tags(&children[1..]).map(str::to_string)
 }
@@ -344,7 +354,7 @@ fn wrong_tags(branches: &[&Record]) -> Option<&'static str> {
 }
 
 /// Ways in which records are not a term's.
-const STRUCTURES: [&str; 35] = [
+const STRUCTURES: [&str; 39] = [
     "root a branch",
     "root with a next",
     "root with a next that is a branch",
@@ -368,6 +378,7 @@ const STRUCTURES: [&str; 35] = [
     "case of some too many",
     "case of a branch first",
     "case of a term later",
+    "case of a numeral later",
     "case of equal tags",
     "case of equal tags, the bound counts rise",
     "case of falling tags",
@@ -375,11 +386,14 @@ const STRUCTURES: [&str; 35] = [
     "branch of 0",
     "branch of one too many",
     "branch of a branch first",
+    "numeral of one too many",
+    "numeral of some too many",
     "at the end of a long column",
     "long chain of kind 1",
     "long chain of kind 2",
     "long chain of kind 3",
     "long chain of kind 4",
+    "long chain of kind 6",
 ];
 
 #[test]

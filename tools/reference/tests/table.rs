@@ -133,15 +133,16 @@ fn refusal_3_by_the_kind() {
     assert_refused(
         Refusal::Value,
         &[
-            &[[6, 0, 0, 0]],
             &[[7, 0, 0, 0]],
             &[[8, 0, 0, 0]],
+            &[[14, 0, 0, 0]],
             &[[u32::MAX, 0, 0, 0]],
-            &[[1, 0, 2, 0], [6, 0, 0, 0]],
+            &[[1, 0, 2, 0], [7, 0, 0, 0]],
         ],
     );
-    // Kind 5 is known; a branch as the root is refusal 5.
+    // Kind 5 is known; a branch as the root is refusal 5. Kind 6 is the last.
     assert_refused(Refusal::Structure, &[&[[5, 16, 2, 0], VARIABLE]]);
+    assert_accepted(&[&[[6, 0, 0, 0]]]);
 }
 
 #[test]
@@ -159,6 +160,9 @@ fn refusal_3_by_the_value() {
             // Branches with tag 0 or 256.
             &[[4, 0, 2, 0], [0, 0, 0, 3], [5, 15, 4, 0], VARIABLE],
             &[[4, 0, 2, 0], [0, 0, 0, 3], [5, 4_096, 4, 0], VARIABLE],
+            &[[6, 32, 0, 0]],
+            &[[6, 1 << 16, 0, 0]],
+            &[[6, u32::MAX, 0, 0]],
         ],
     );
     // The largest index passes this check and meets refusal 6.
@@ -169,6 +173,7 @@ fn refusal_3_by_the_value() {
         &[[4, 0, 2, 0], [0, 0, 0, 3], [5, 16, 4, 0], VARIABLE],
         // Tag 255 binding 15 is 255 x 16 + 15.
         &[[4, 0, 2, 0], [0, 0, 0, 3], [5, 4_095, 4, 0], VARIABLE],
+        &[[6, 31, 0, 0]],
     ]);
 }
 
@@ -177,7 +182,11 @@ fn refusal_3_over_the_whole_table_before_4() {
     // Record 1 names itself, record 2 has a wrong value.
     assert_refused(
         Refusal::Value,
-        &[&[[1, 0, 1, 0], [3, 0, 0, 0]], &[[1, 0, 0, 0], [6, 0, 0, 0]]],
+        &[
+            &[[1, 0, 1, 0], [3, 0, 0, 0]],
+            &[[1, 0, 0, 0], [7, 0, 0, 0]],
+            &[[1, 0, 1, 0], [6, 32, 0, 0]],
+        ],
     );
 }
 
@@ -242,7 +251,13 @@ fn parent(kind: u32, value: u32, count: u32) -> Vec<[u32; 4]> {
 #[test]
 fn refusal_5_by_the_number_of_children() {
     // Kind, value and the numbers of variables that may be its children.
-    for (kind, value, right) in [(0, 0, 0..=0), (1, 0, 1..=1), (2, 0, 2..=2), (4, 0, 1..=1)] {
+    for (kind, value, right) in [
+        (0, 0, 0..=0),
+        (1, 0, 1..=1),
+        (2, 0, 2..=2),
+        (4, 0, 1..=1),
+        (6, 3, 0..=0),
+    ] {
         for count in 0..=4 {
             let answer = load(&table(&parent(kind, value, count)));
             let expected = if right.contains(&count) {
@@ -326,8 +341,12 @@ fn refusal_5_by_the_kind_of_children() {
                 [5, 16, 5, 0],
                 VARIABLE,
             ],
+            // A numeral with a branch or a numeral as its child.
+            &[[6, 1, 2, 0], [5, 16, 3, 0], VARIABLE],
+            &[[6, 1, 2, 0], [6, 1, 0, 0]],
             // A term in a branch's place, alone and after a branch.
             &[[4, 0, 2, 0], [0, 0, 0, 3], VARIABLE],
+            &[[4, 0, 2, 0], [0, 0, 0, 3], [6, 16, 0, 0]],
             &[
                 [4, 0, 2, 0],
                 [0, 0, 0, 3],
@@ -348,6 +367,7 @@ fn refusal_5_by_the_root() {
             &[[5, 16, 2, 0], VARIABLE],
             &[[0, 0, 0, 2], VARIABLE],
             &[[1, 0, 2, 3], VARIABLE, VARIABLE],
+            &[[6, 0, 0, 2], VARIABLE],
         ],
     );
 }
@@ -418,6 +438,31 @@ fn prefix_order_goes_both_ways() {
     let mut written = vec![7; 32];
     assert_eq!(write(&words, 7, &mut written), Ok(7));
     assert_eq!(written, stored);
+}
+
+#[test]
+fn numerals_are_carried_as_records_of_kind_6() {
+    // 3 31 (case 0 of nothing): words 2,2,30,254,4,6.
+    let records = [
+        [2, 0, 2, 0],
+        [2, 0, 3, 5],
+        [6, 3, 0, 4],
+        [6, 31, 0, 0],
+        [4, 0, 6, 0],
+        [6, 0, 0, 0],
+    ];
+    let stored = table(&records);
+    let (length, words) = loaded(&stored, 16);
+    assert_eq!(length, Ok(6));
+    assert_eq!(words[..6], [2, 2, 30, 254, 4, 6]);
+    let mut written = vec![7; 28];
+    assert_eq!(write(&words, 6, &mut written), Ok(6));
+    assert_eq!(written, stored);
+    // A payload of 32 is no term to be written.
+    let mut out = [7; 8];
+    let wrong = workspace(&[262], 16);
+    assert_eq!(write(&wrong, 1, &mut out), Err(Refusal::NotATerm));
+    assert_eq!(out, [7; 8]);
 }
 
 #[test]

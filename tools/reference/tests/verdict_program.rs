@@ -44,6 +44,21 @@ fn lines_of_the_verdicts() {
 }
 
 #[test]
+fn lines_of_numerals() {
+    let numeral = |value| table(&[[6, value, 0, 0]]);
+    // Numeral 0 becomes \ \ 0, in records 1 to 3.
+    let zero = table(&[[1, 0, 2, 0], [1, 0, 3, 0], [0, 0, 0, 0]]);
+    assert_eq!(line(1, 16, &numeral(0), &zero), "Same 1 3 3\n");
+    assert_eq!(line(0, 16, &numeral(0), &zero), "Budget 0 1 3\n");
+    assert_eq!(line(2, 16, &numeral(0), &numeral(6)), "Different 2 3 15\n");
+    assert_eq!(line(2, 16, &numeral(0), &numeral(7)), "Full 0 1 1\n");
+    assert_eq!(line(0, 16, &numeral(31), &numeral(31)), "Same 0 1 1\n");
+    assert_eq!(line(0, 16, &numeral(31), &numeral(32)), "Refused 3\n");
+    let with_child = table(&[[6, 1, 2, 0], [0, 0, 0, 0]]);
+    assert_eq!(line(0, 16, &with_child, &zero), "Refused 5\n");
+}
+
+#[test]
 fn missing_and_surplus_bytes() {
     let good = input(1, 16, &table(&I_F0), &table(&F0));
     assert_eq!(outcome(&good).to_string(), "Same 1 1 1\n");

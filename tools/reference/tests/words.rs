@@ -1,6 +1,6 @@
 //! Which words are one whole term; a word is payload x 8 + kind.
 
-use reference::term::{abs, app, branch, case, con, var, Term};
+use reference::term::{abs, app, branch, case, con, num, var, Term};
 use reference::words::{read, words};
 
 const BRANCH_1_0: u32 = 16 * 8 + 5;
@@ -25,6 +25,8 @@ fn one_of_each_kind() {
     // Two branches: 2 x 8 + 4; tag 1 binding 2: (16 + 2) x 8 + 5.
     let arms = vec![branch(1, 2, var(1)), branch(3, 0, var(0))];
     assert_term(&[20, 0, 149, 8, 3 * 16 * 8 + 5, 0], case(var(0), arms));
+    // Numeral 3: 3 x 8 + 6.
+    assert_term(&[30], num(3));
 }
 
 #[test]
@@ -40,9 +42,32 @@ fn missing_and_surplus_words() {
 
 #[test]
 fn unknown_kinds() {
-    assert_no_term(&[6]);
     assert_no_term(&[7]);
-    assert_no_term(&[1, 14]);
+    assert_no_term(&[15]);
+    assert_no_term(&[1, 7]);
+    assert_no_term(&[u32::MAX]);
+}
+
+#[test]
+fn numerals() {
+    for numeral in 0..=31 {
+        assert_term(&[8 * numeral + 6], num(numeral));
+    }
+    for numeral in [32, 33, 63, 64, 256, u32::MAX / 8] {
+        assert_no_term(&[8 * numeral + 6]);
+        assert_no_term(&[1, 8 * numeral + 6]);
+    }
+    // Nothing follows a numeral.
+    assert_no_term(&[6, 0]);
+    assert_no_term(&[14, 0]);
+    assert_term(&[2, 14, 254], app(num(1), num(31)));
+    // As a subject, an argument and a body, and not in a branch's place.
+    assert_term(&[4, 6], case(num(0), vec![]));
+    assert_term(&[147, 14, 6], con(1, vec![num(1), num(0)]));
+    let arms = vec![branch(1, 0, num(2))];
+    assert_term(&[12, 0, BRANCH_1_0, 22], case(var(0), arms));
+    assert_no_term(&[12, 0, 134, 0]);
+    assert_no_term(&[12, 0, 6]);
 }
 
 #[test]

@@ -17,6 +17,9 @@ pub const MAX_COUNT: u32 = 15;
 /// The largest index in a table.
 pub const MAX_INDEX: u32 = 32_767;
 
+/// The largest numeral.
+pub const MAX_NUMERAL: u32 = 31;
+
 pub const MAX_BUDGET: u32 = 1_000_000;
 
 /// The most words of a table that the program `verdict` reads.

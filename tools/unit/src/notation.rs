@@ -2,26 +2,27 @@
 //!
 //! ```text
 //! term        = item { item }                           application, to the left
-//! item        = index | "(" term ")" | constructor | case
+//! item        = index | "(" term ")" | constructor | case | numeral
 //!             | "\" term                                as the last item only
 //! constructor = "#" tag [ "[" term { "," term } "]" ]
 //! case        = "?" term "{" [ branch { "," branch } ] "}"
 //! branch      = tag "." bound ":" term
+//! numeral     = "%" number
 //! ```
 //!
 //! Blanks (spaces, tabs and line ends) stand before and after any of these parts but within a
-//! number, behind `#` and around `.`, and at least one stands between two items.
+//! number, behind `#` and `%` and around `.`, and at least one stands between two items.
 
 use std::fmt;
 use std::iter::{once, repeat_n, Peekable};
 use std::str::{Chars, FromStr};
 
-use crate::limits::{MAX_COUNT, MAX_INDEX};
+use crate::limits::{MAX_COUNT, MAX_INDEX, MAX_NUMERAL};
 use crate::term::{Node, Term};
 use crate::word::COUNTS;
 
 /// What an item begins with.
-const ITEM: [&str; 5] = ["an index", "`(`", "`\\`", "`#`", "`?`"];
+const ITEM: [&str; 6] = ["an index", "`(`", "`\\`", "`#`", "`?`", "`%`"];
 
 /// Text that is no term: the place, counted in characters from 1, and what could stand there.
 #[derive(Clone, Debug, PartialEq, Eq)]
@@ -105,7 +106,7 @@ struct Reader<'a> {
 }
 
 impl Reader<'_> {
-    /// Reads an index whole, and any other item up to its first term, which is then under way.
+    /// Reads an index or numeral whole, and any other item up to its first term, which is then under way.
     fn item(&mut self) -> Result<Next, TextError> {
         let of = self.nodes.len();
         self.blanks();
@@ -113,6 +114,12 @@ impl Reader<'_> {
             Some('0'..='9') => {
                 let index = self.number("an index", MAX_INDEX)?;
                 self.push(Node::Variable { index });
+                return Ok(Next::AfterItem);
+            }
+            Some('%') => {
+                self.advance();
+                let value = self.number("a numeral", MAX_NUMERAL)?;
+                self.push(Node::Numeral { value });
                 return Ok(Next::AfterItem);
             }
             Some('#') => return self.constructor(of),
@@ -155,8 +162,11 @@ impl Reader<'_> {
     /// be what may follow it.
     fn after_item(&mut self) -> Result<Next, TextError> {
         self.blanks();
-        if self.after_blank && matches!(self.rest.peek(), Some('0'..='9' | '(' | '\\' | '#' | '?'))
-        {
+        let item = matches!(
+            self.rest.peek(),
+            Some('0'..='9' | '(' | '\\' | '#' | '?' | '%')
+        );
+        if self.after_blank && item {
             self.open.last_mut().expect("a term is under way").items += 1;
             return Ok(Next::Item);
         }

@@ -66,13 +66,14 @@ fn write_head(f: &mut fmt::Formatter, node: Node) -> fmt::Result {
         Node::Constructor { tag, .. } => write!(f, "#{tag}["),
         Node::Case { .. } => write!(f, "?"),
         Node::Branch { tag, bound } => write!(f, "{tag}.{bound}:"),
+        Node::Numeral { value } => write!(f, "%{value}"),
     }
 }
 
 /// Leaves the children and the marks after each to be written, the first on top.
 fn push_children(parts: &mut Vec<Part>, node: Node, place: Place) {
     match node {
-        Node::Variable { .. } | Node::Constructor { arguments: 0, .. } => {}
+        Node::Variable { .. } | Node::Constructor { arguments: 0, .. } | Node::Numeral { .. } => {}
         Node::Abstraction | Node::Branch { .. } => parts.push(Part::Term(Place::Alone)),
         Node::Application => {
             let argument = match place {

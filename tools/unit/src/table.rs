@@ -50,6 +50,7 @@ fn value(node: Node) -> u32 {
         Node::Variable { index } => index,
         Node::Constructor { tag, .. } => tag,
         Node::Branch { tag, bound } => tagged(tag, bound),
+        Node::Numeral { value } => value,
         Node::Abstraction | Node::Application | Node::Case { .. } => 0,
     }
 }

@@ -6,6 +6,7 @@ pub const APPLICATION: u32 = 2;
 pub const CONSTRUCTOR: u32 = 3;
 pub const CASE: u32 = 4;
 pub const BRANCH: u32 = 5;
+pub const NUMERAL: u32 = 6;
 
 /// Kinds that a word has room for.
 pub const KINDS: u32 = 8;
@@ -41,7 +42,7 @@ pub fn count(tagged: u32) -> u32 {
 /// The number of terms and branches directly below a word.
 pub fn children(word: u32) -> usize {
     match kind(word) {
-        VARIABLE => 0,
+        VARIABLE | NUMERAL => 0,
         ABSTRACTION | BRANCH => 1,
         APPLICATION => 2,
         CONSTRUCTOR => count(payload(word)) as usize,

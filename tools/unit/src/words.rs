@@ -2,7 +2,7 @@
 
 use std::fmt;
 
-use crate::limits::{MAX_COUNT, MAX_INDEX};
+use crate::limits::{MAX_COUNT, MAX_INDEX, MAX_NUMERAL};
 use crate::term::{Node, Term};
 use crate::word::*;
 
@@ -70,6 +70,7 @@ fn word(node: Node) -> Option<u32> {
         }
         Node::Case { branches } => u32::try_from(branches).ok()?,
         Node::Branch { tag, bound } => checked(tag, bound)?,
+        Node::Numeral { value } => value,
     };
     payload.checked_mul(KINDS)?.checked_add(node.kind())
 }
@@ -104,7 +105,11 @@ fn node(word: u32) -> Result<Node, String> {
             branches: payload as usize,
         }),
         BRANCH => Ok(Node::Branch { tag, bound: count }),
-        kind => Err(format!("has kind {kind}; kinds run from 0 to {BRANCH}")),
+        NUMERAL if payload <= MAX_NUMERAL => Ok(Node::Numeral { value: payload }),
+        NUMERAL => Err(format!(
+            "is numeral {payload}; the last one is {MAX_NUMERAL}"
+        )),
+        kind => Err(format!("has kind {kind}; kinds run from 0 to {NUMERAL}")),
     }
 }
 

@@ -18,7 +18,7 @@ fn error(text: &str) -> String {
     format!("{}: {}, {}", error.column, error.expected, error.found)
 }
 
-const ITEM: &str = "an index, `(`, `\\`, `#` or `?`";
+const ITEM: &str = "an index, `(`, `\\`, `#`, `?` or `%`";
 
 fn misses_item(text: &str, column: usize, found: &str) {
     assert_eq!(error(text), format!("{column}: {ITEM}, {found}"), "{text}");
@@ -53,6 +53,18 @@ fn constructors_and_cases_are_items() {
     assert_eq!(words("?0{} 1"), [2, 4, 0, 8]);
     assert_eq!(words("0 ?1{3.2:0 1}"), [2, 0, 12, 8, 405, 2, 0, 8]);
     assert_eq!(words("??0{}{1.0:?1{}}"), [12, 4, 0, 133, 4, 8]);
+}
+
+#[test]
+fn numerals_are_items() {
+    // Numeral n is 8n + 6.
+    assert_eq!(words("%0"), [6]);
+    assert_eq!(words("%31"), [254]);
+    assert_eq!(words("%8 %2"), [2, 70, 22]);
+    assert_eq!(words("%2 0 (%1 1)"), [2, 2, 22, 0, 2, 14, 8]);
+    assert_eq!(words(r"\\%3 1"), [1, 1, 2, 30, 8]);
+    assert_eq!(words("#1[%1,%0]"), [147, 14, 6]);
+    assert_eq!(words("?%0{1.0:%1} %2"), [2, 12, 6, 133, 14, 22]);
 }
 
 #[test]
@@ -101,6 +113,10 @@ fn text_with_the_fewest_parentheses_is_printed_as_it_was_read() {
         "?0 1{} 2",
         r"?\0{1.0:\0,268435455.15:0 1 2}",
         r"(\?0{1.0:#1,2.1:#2[?0{}]}) ?1{3.3:0 (1 2)}",
+        "%0",
+        "%31",
+        r"%1 %2 (\%3) (%4 0) \%5",
+        "#1[%6,0 %7] ?%8{1.0:%9}",
     ] {
         assert_eq!(read(text).to_string(), text);
     }
@@ -116,6 +132,7 @@ fn further_parentheses_change_nothing() {
         ("#1[(0 1),(2)]", "#1[0 1,2]"),
         (r"?(0 1){1.0:(\0)}", r"?0 1{1.0:\0}"),
         ("(?0{}) (#1)", "?0{} #1"),
+        ("(%1) ((%2) 0)", "%1 (%2 0)"),
     ] {
         assert_eq!(read(text).to_string(), printed);
     }
@@ -147,6 +164,7 @@ fn blanks_stand_around_every_part() {
         ("( \\ 0 )  1", "(\\0) 1"),
         ("#1 [ 0 , 1 ]", "#1[0,1]"),
         ("#1  0", "#1 0"),
+        (" %1\t%2 ", "%1 %2"),
         ("? 0 { }", "?0{}"),
         ("? 0 1 { 1.0 : 0 , 2.1 : 1 } 2", "?0 1{1.0:0,2.1:1} 2"),
     ] {
@@ -182,6 +200,9 @@ fn a_term_does_not_end_as_it_must() {
     assert_eq!(error("0,1"), "2: a space or the end, `,`");
     assert_eq!(error("#1#2"), "3: a space or the end, `#`");
     assert_eq!(error("?0{}1"), "5: a space or the end, `1`");
+    assert_eq!(error("%1%2"), "3: a space or the end, `%`");
+    assert_eq!(error("0%2"), "2: a space or the end, `%`");
+    assert_eq!(error("%1[0]"), "3: a space or the end, `[`");
     assert_eq!(error("(0"), "3: a space or `)`, the end");
     assert_eq!(error(r"0 (\0 1]"), "8: a space or `)`, `]`");
     assert_eq!(error("#1[0"), "5: a space, `,` or `]`, the end");
@@ -194,7 +215,7 @@ fn a_term_does_not_end_as_it_must() {
 
 #[test]
 fn after_a_blank_an_item_could_follow() {
-    const ITEMS: &str = r"an index, `(`, `\`, `#`, `?`";
+    const ITEMS: &str = r"an index, `(`, `\`, `#`, `?`, `%`";
     assert_eq!(error("0 )"), format!("3: {ITEMS} or the end, `)`"));
     assert_eq!(error("0 λ"), format!("3: {ITEMS} or the end, `λ`"));
     assert_eq!(error("(0 ]"), format!("4: {ITEMS} or `)`, `]`"));
@@ -265,4 +286,13 @@ fn a_number_is_not_as_it_must_be() {
         "6: a bound count without leading zeros, 00"
     );
     assert_eq!(error("?0{1.16:0}"), "6: a bound count, at most 15, 16");
+    assert_eq!(error("%32"), "2: a numeral, at most 31, 32");
+    assert_eq!(
+        error("0 %99999999999"),
+        "4: a numeral, at most 31, 99999999999"
+    );
+    assert_eq!(error("%01"), "2: a numeral without leading zeros, 01");
+    assert_eq!(error("%"), "2: a numeral, the end");
+    assert_eq!(error("% 1"), "2: a numeral, a space");
+    assert_eq!(error(r"(%\0)"), r"3: a numeral, `\`");
 }

@@ -42,6 +42,13 @@ fn a_case_chains_its_subject_and_its_branches() {
 }
 
 #[test]
+fn a_numeral_has_its_value_and_no_children() {
+    assert_eq!(records("%31"), "1,1,1,0, 6,31,0,0");
+    // Records: application 1, numerals 2 and 3.
+    assert_eq!(records("%8 %2"), "1,3,1,0, 2,0,2,0, 6,8,0,3, 6,2,0,0");
+}
+
+#[test]
 fn a_case_ends_before_its_right_sibling() {
     // Records: application 1, case 2, its subject 3, the argument 4.
     assert_eq!(

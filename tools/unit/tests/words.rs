@@ -18,6 +18,7 @@ fn bench_pairs_print_as_text() {
     assert_eq!(text(&[20, 267, 40, 133, 0, 269, 0]), "?#2[5]{1.0:0,2.1:0}");
     assert_eq!(text(&[12, 147, 0, 8, 149, 0]), "?#1[0,1]{1.2:0}");
     assert_eq!(text(&[4, 0]), "?0{}");
+    assert_eq!(text(&[2, 70, 22]), "%8 %2");
 }
 
 #[test]
@@ -31,6 +32,7 @@ fn words_come_back() {
             32_763, 0, 8, 16, 24, 32, 40, 48, 56, 64, 72, 80, 88, 96, 104, 112,
         ],
         &[28, 0, 5, 0, 0xffff_fffd, 0, 5, 1, 0],
+        &[2, 254, 1, 6],
     ] {
         let term = Term::from_words(words).expect("a term");
         assert_eq!(term.words().expect("its words"), words);
@@ -44,8 +46,17 @@ fn words_that_are_no_term() {
     assert_eq!(text(&[2, 0]), "word 3: the words end before the term does");
     assert_eq!(text(&[12, 0]), "word 3: the words end before the term does");
     assert_eq!(text(&[0, 8]), "word 2: 8 comes after the end of the term");
-    assert_eq!(text(&[1, 6]), "word 2: 6 has kind 6; kinds run from 0 to 5");
-    assert_eq!(text(&[15]), "word 1: 15 has kind 7; kinds run from 0 to 5");
+    assert_eq!(text(&[1, 7]), "word 2: 7 has kind 7; kinds run from 0 to 6");
+    assert_eq!(text(&[15]), "word 1: 15 has kind 7; kinds run from 0 to 6");
+    assert_eq!(
+        text(&[1, 262]),
+        "word 2: 262 is numeral 32; the last one is 31"
+    );
+    assert_eq!(text(&[6, 0]), "word 2: 0 comes after the end of the term");
+    assert_eq!(
+        text(&[12, 0, 134]),
+        "word 3: 134 is no branch, and a branch must stand here"
+    );
     assert_eq!(
         text(&[9, 0]),
         "word 1: 9 has kind 1 and a payload other than 0"

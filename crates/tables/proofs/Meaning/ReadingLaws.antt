@@ -8,8 +8,8 @@ use native.Mathlib.Omega.{arith}
 use lib.Dec.{leb, eqb}
 use lib.ListN.{length, length-append}
 use borrow.Author.Tests.{leb-true, eqb-true, eq-eqb, ne-eqb}
-use Rattle.calculus.specs.Words.{variableKind, constructorKind, caseKind, branchKind, tagOf, countOf, word, pack, workspaceMost}
-use Rattle.calculus.specs.Accepted.{argumentLimit, branchLimit, indexLimit}
+use Rattle.calculus.specs.Words.{variableKind, constructorKind, caseKind, branchKind, numeralKind, tagOf, countOf, word, pack, workspaceMost}
+use Rattle.calculus.specs.Accepted.{argumentLimit, branchLimit, numeralLimit, indexLimit}
 use Rattle.words.specs.Limits.{payloadBound}
 use Rattle.records.specs.Records.{Record, Table, Stored, recordAt, view}
 use Rattle.records.specs.Values.{isTag, valueFits}
@@ -44,17 +44,19 @@ module _ (T : Table) where
 -- Values that fit are small, and so are payloads of them.
 value-small : (k v : ℕ) → valueFits k v ≡ true → v ≤ indexLimit
 unfolding valueFits
-value-small k v h = go (eqb k variableKind) (eqb k constructorKind) (eqb k branchKind) h
+value-small k v h = go (eqb k variableKind) (eqb k constructorKind) (eqb k branchKind) (eqb k numeralKind) h
   where
     tag : (t : ℕ) → isTag t ≡ true → t ≤ 255
     tag t e = leb-true t 255 (and-eq-true-iff (leb 1 t) (leb t 255) .0 e .1)
 
-    go : (a b c : Bool) → cond a (leb v indexLimit) (cond b (isTag v) (cond c (isTag (tagOf v) && leb (countOf v) argumentLimit) (eqb v 0))) ≡ true
+    go : (a b c d : Bool)
+        → cond a (leb v indexLimit) (cond b (isTag v) (cond c (isTag (tagOf v) && leb (countOf v) argumentLimit) (cond d (leb v numeralLimit) (eqb v 0)))) ≡ true
         → v ≤ indexLimit
-    go true b c e = leb-true v indexLimit e
-    go false true c e = omega (arith, tag v e)
-    go false false true e = omega (arith, tag (tagOf v) (and-eq-true-iff (isTag (tagOf v)) (leb (countOf v) argumentLimit) .0 e .0))
-    go false false false e = omega (arith, eqb-true v 0 e)
+    go true b c d e = leb-true v indexLimit e
+    go false true c d e = omega (arith, tag v e)
+    go false false true d e = omega (arith, tag (tagOf v) (and-eq-true-iff (isTag (tagOf v)) (leb (countOf v) argumentLimit) .0 e .0))
+    go false false false true e = omega (arith, leb-true v numeralLimit e)
+    go false false false false e = omega (arith, eqb-true v 0 e)
 
 payload-small : (k v m : ℕ) → v ≤ indexLimit → m ≤ workspaceMost → payload k v m < payloadBound
 payload-small k v m h u = go (eqb k constructorKind) (eqb k caseKind)

@@ -7,7 +7,7 @@ use native.Mathlib.Omega.{arith}
 use lib.ListN.{length-append}
 use borrow.Author.Tests.{le-leb, ne-eqb}
 use Rattle.calculus.specs.Term.{Sort, term, terms, branches, Exp, case, nil, cons, branch, Term, Terms, Branches, count}
-use Rattle.calculus.specs.Words.{words, size, caseKind, branchKind, countBase}
+use Rattle.calculus.specs.Words.{words, size, caseKind, numeralKind, countBase}
 use Rattle.calculus.specs.Accepted.{argumentLimit, branchLimit, acceptance, Accepted, indexLimit}
 use Rattle.calculus.specs.Theorems.{counted, within, IndicesWithin}
 use Rattle.calculus.proofs.WordLaws.{tagOf-pack, countOf-pack, accepted-packable}
@@ -23,7 +23,7 @@ use Rattle.tables.proofs.Written.Standing.{Stand, stand-node, stand-bot
 
 -- What is tested of one record.
 pub record Fits (T : Table) (i : ℕ) : Type 0 where
-  pub known-kind : T .at i .kind ≤ branchKind
+  pub known-kind : T .at i .kind ≤ numeralKind
   pub value-fits : valueFits (T .at i .kind) (T .at i .value) ≡ true
   pub children-fit : childrenFit (T .at i .kind) (children T i) ≡ true
 

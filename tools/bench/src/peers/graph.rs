@@ -32,6 +32,7 @@ enum Head {
     Application(Term, Term),
     Constructor(u32, Vec<Term>),
     Case(Term, Vec<Branch>),
+    Numeral(u32),
 }
 
 #[derive(Clone)]
@@ -78,6 +79,7 @@ fn term<'a>(words: &mut impl Iterator<Item = &'a u32>) -> Term {
             let arguments = (0..count(payload)).map(|_| term(words)).collect();
             Head::Constructor(tag(payload), arguments)
         }
+        NUMERAL => Head::Numeral(payload),
         _ => {
             let subject = term(words);
             Head::Case(subject, (0..payload).map(|_| branch(words)).collect())
@@ -115,6 +117,7 @@ impl Node {
         };
         match &self.head {
             Head::Variable(index) => free = index + 1,
+            Head::Numeral(_) => {}
             Head::Abstraction(body) => part(body, 1),
             Head::Application(function, argument) => {
                 part(function, 0);
@@ -134,7 +137,7 @@ impl Node {
     /// The parts that are terms, in the order of their words.
     fn parts(&self) -> usize {
         match &self.head {
-            Head::Variable(_) => 0,
+            Head::Variable(_) | Head::Numeral(_) => 0,
             Head::Abstraction(_) => 1,
             Head::Application(..) => 2,
             Head::Constructor(_, arguments) => arguments.len(),
@@ -150,7 +153,7 @@ impl Node {
             Head::Constructor(_, arguments) => &arguments[nth],
             Head::Case(subject, _) if nth == 0 => subject,
             Head::Case(_, branches) => &branches[nth - 1].body,
-            Head::Variable(_) => unreachable!("a variable has no parts"),
+            Head::Variable(_) | Head::Numeral(_) => unreachable!("it has no parts"),
         }
     }
 
@@ -162,28 +165,45 @@ impl Node {
             Head::Constructor(_, arguments) => &mut arguments[nth],
             Head::Case(subject, _) if nth == 0 => subject,
             Head::Case(_, branches) => &mut branches[nth - 1].body,
-            Head::Variable(_) => unreachable!("a variable has no parts"),
+            Head::Variable(_) | Head::Numeral(_) => unreachable!("it has no parts"),
         }
     }
 
-    /// The body and the arguments of a redex.
-    fn redex(&self) -> Option<(&Term, &[Term])> {
+    fn redex(&self) -> Option<Redex<'_>> {
         match &self.head {
             Head::Application(function, argument) => match &function.head {
-                Head::Abstraction(body) => Some((body, std::slice::from_ref(argument))),
+                Head::Abstraction(body) => {
+                    Some(Redex::Substitution(body, std::slice::from_ref(argument)))
+                }
                 _ => None,
             },
             Head::Case(subject, branches) => match &subject.head {
                 Head::Constructor(tag, arguments) => {
                     let branch = branches.iter().find(|branch| branch.tag == *tag)?;
                     let fits = branch.bound as usize == arguments.len();
-                    fits.then_some((&branch.body, arguments))
+                    fits.then_some(Redex::Substitution(&branch.body, arguments))
                 }
                 _ => None,
             },
+            Head::Numeral(value) => Some(Redex::Numeral(*value)),
             _ => None,
         }
     }
+}
+
+/// A redex by its rule.
+enum Redex<'a> {
+    /// A body and the arguments to be put in.
+    Substitution(&'a Term, &'a [Term]),
+    Numeral(u32),
+}
+
+/// The Church numeral.
+fn church(value: u32) -> Term {
+    let function = new(Head::Variable(1));
+    let applied = |argument, _| new(Head::Application(function.clone(), argument));
+    let body = (0..value).fold(new(Head::Variable(0)), applied);
+    new(Head::Abstraction(new(Head::Abstraction(body))))
 }
 
 /// The way to the leftmost outermost redex: which part to go into, from the root on.
@@ -211,8 +231,10 @@ fn find(term: &Node, way: &mut Way) -> bool {
 /// What the redex at the end of the way becomes, and the whole term's next size.
 fn contractum(term: &Term, way: &Way) -> (Term, usize) {
     let redex = way.iter().fold(term, |term, nth| term.part(*nth));
-    let (body, arguments) = redex.redex().expect("the way leads to a redex");
-    let new = substitute(body, 0, arguments);
+    let new = match redex.redex().expect("the way leads to a redex") {
+        Redex::Substitution(body, arguments) => substitute(body, 0, arguments),
+        Redex::Numeral(value) => church(value),
+    };
     let size = term.size - redex.size + new.size;
     (new, size)
 }
@@ -251,6 +273,7 @@ fn map(term: &Term, depth: u32, at: &impl Fn(u32, u32) -> Term) -> Term {
             });
             Head::Case(map(subject, depth, at), branches.collect())
         }
+        Head::Numeral(value) => Head::Numeral(*value),
     })
 }
 
@@ -279,6 +302,7 @@ fn same(one: &Term, other: &Term) -> bool {
     }
     let heads = match (&one.head, &other.head) {
         (Head::Variable(one), Head::Variable(other)) => one == other,
+        (Head::Numeral(one), Head::Numeral(other)) => one == other,
         (Head::Abstraction(_), Head::Abstraction(_)) => true,
         (Head::Application(..), Head::Application(..)) => true,
         (Head::Constructor(one, _), Head::Constructor(other, _)) => one == other,

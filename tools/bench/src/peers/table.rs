@@ -1,6 +1,6 @@
 //! Loading a stored table of form 1.
 
-use unit::limits::{MAX_COUNT, MAX_FREE, MAX_INDEX, TAGS, WORKSPACE};
+use unit::limits::{MAX_COUNT, MAX_FREE, MAX_INDEX, MAX_NUMERAL, TAGS, WORKSPACE};
 use unit::word::*;
 use unit::{FORM, RECORD};
 
@@ -90,6 +90,7 @@ fn value_fits(record: Record) -> bool {
         CONSTRUCTOR => TAGS.contains(&record.value),
         BRANCH => TAGS.contains(&tag(record.value)),
         ABSTRACTION | APPLICATION | CASE => record.value == 0,
+        NUMERAL => record.value <= MAX_NUMERAL,
         _ => false,
     }
 }
@@ -132,7 +133,7 @@ fn children_fit(table: &Table, record: Record) -> bool {
         next = child.next;
     }
     match record.kind {
-        VARIABLE => children == 0,
+        VARIABLE | NUMERAL => children == 0,
         ABSTRACTION | BRANCH => children == 1,
         APPLICATION => children == 2,
         CONSTRUCTOR => children <= MAX_COUNT,

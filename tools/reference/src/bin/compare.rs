@@ -3,7 +3,7 @@
 use reference::child::{self, Ending, Feed};
 use reference::generate::{inputs, scripts};
 use reference::tally::{Halves, Tally};
-use reference::{replay, verdict, LARGE_STACK};
+use reference::{part, replay, verdict, LARGE_STACK};
 use std::path::{Path, PathBuf};
 use std::process::{self, ExitCode};
 use std::sync::atomic::{AtomicBool, AtomicUsize, Ordering};
@@ -218,6 +218,7 @@ impl Run {
         let input = inputs::input(self.seed, index as u64);
         let outcome = verdict::outcome(&input);
         tally.verdict(&outcome);
+        tally.parts("verdict", part::of_input(&input));
         (program, input, outcome.to_string())
     }
 
@@ -228,7 +229,9 @@ impl Run {
         tally: &mut Tally,
     ) -> (&'a Path, Vec<u8>, String) {
         let input = scripts::script(self.seed, index as u64);
-        let transcript = replay::run(&input);
+        let transcript = replay::run_watched(&input, |before, operation| {
+            tally.parts("replay", part::of_call(before, operation));
+        });
         transcript
             .events
             .iter()

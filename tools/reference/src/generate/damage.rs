@@ -7,8 +7,8 @@ use crate::generate::terms::{replace, subterms, term, Style};
 use crate::random::Random;
 use crate::refusal::Refusal;
 use crate::table::{LARGEST_INDEX, LONGEST_TABLE, MOST_RECORDS, RECORD};
-use crate::term::{var, Term, LARGEST_FREE, MOST};
-use crate::words::{kind, COUNTS};
+use crate::term::{var, Term, LARGEST_FREE, LARGEST_NUMERAL, MOST};
+use crate::words::{kind, word, COUNTS};
 
 /// The faults that a table can have, in the order in which loading looks for
 /// them.
@@ -49,6 +49,49 @@ pub fn faulty_table(random: &mut Random, faults: &[Refusal], capacity: usize) ->
         break_length(random, &mut words);
     }
     words
+}
+
+/// A table that is wrong by one numeral alone, by its value or by its children.
+pub fn faulty_numeral(random: &mut Random, fault: Refusal, capacity: usize) -> Vec<u32> {
+    loop {
+        let part = match fault {
+            Refusal::Value => node(kind::NUMERAL, large_numeral(random), Vec::new()),
+            _ => numeral_with_children(random),
+        };
+        let host = planted(random, &part, capacity.min(30));
+        if host.size() <= capacity {
+            let order = Order::random(random);
+            return table(random, &[host], order);
+        }
+    }
+}
+
+/// Any term with the part put in somewhere.
+fn planted(random: &mut Random, part: &Node, most: usize) -> Node {
+    let size = random.between(1, most);
+    let style = Style::random(random);
+    let host = term(random, size, 0, style);
+    let place = random.below(subterms(&host).len());
+    let mut root = Node::of(&host);
+    plant(&mut root, &mut Some(place), part);
+    root
+}
+
+/// A numeral above the limit.
+fn large_numeral(random: &mut Random) -> u32 {
+    let least = LARGEST_NUMERAL + 1;
+    // The last ones fall back below the limit when cut to fewer bits.
+    random.pick(&[least, least, least + 1, 256, (1 << 16) + 1, 1 << 28])
+}
+
+fn numeral_with_children(random: &mut Random) -> Node {
+    let numeral = random.below(LARGEST_NUMERAL as usize + 1) as u32;
+    let children = match random.below(3) {
+        0 => vec![leaf(), leaf()],
+        1 => vec![node(kind::NUMERAL, 0, Vec::new())],
+        _ => vec![leaf()],
+    };
+    node(kind::NUMERAL, numeral, children)
 }
 
 /// A forest with the faults that the records' tree can have.
@@ -124,7 +167,7 @@ fn case_with(children: Vec<Node>) -> Node {
 fn malformed(random: &mut Random) -> Node {
     let many = random.pick(&[MOST + 1, MOST + 1, MOST + 2]);
     let inner = |children| node(kind::BRANCH, COUNTS, children);
-    match random.below(28) {
+    match random.below(32) {
         0 => node(kind::VARIABLE, 0, vec![leaf()]),
         1 => node(kind::ABSTRACTION, 0, Vec::new()),
         2 => node(kind::ABSTRACTION, 0, vec![leaf(), leaf()]),
@@ -148,6 +191,9 @@ fn malformed(random: &mut Random) -> Node {
         20 => case_with(vec![inner(Vec::new())]),
         21 => case_with(vec![inner(vec![leaf(), leaf()])]),
         22 => case_with(vec![inner(arms(&[2]))]),
+        27 | 28 => numeral_with_children(random),
+        29 => node(kind::NUMERAL, 0, arms(&[1])),
+        30 => case_with(vec![node(kind::NUMERAL, COUNTS, Vec::new())]),
         _ => arm(1, 0),
     }
 }
@@ -174,7 +220,7 @@ fn plant(host: &mut Node, place: &mut Option<usize>, new: &Node) {
 fn long_chain(random: &mut Random, count: usize) -> Vec<Node> {
     let chain = vec![leaf(); count - 1];
     let only = |kind, children| vec![node(kind, u32::from(kind == kind::CONSTRUCTOR), children)];
-    match random.below(7) {
+    match random.below(8) {
         0 => vec![leaf(); count],
         1 => only(kind::ABSTRACTION, chain),
         2 => only(kind::APPLICATION, chain),
@@ -186,6 +232,7 @@ fn long_chain(random: &mut Random, count: usize) -> Vec<Node> {
             let wrap = |inner, _| node(kind::ABSTRACTION, 0, vec![inner]);
             vec![(1..count).fold(last, wrap)]
         }
+        6 => only(kind::NUMERAL, chain),
         // A column of variables, each the only child of the one above.
         _ => vec![(1..count).fold(leaf(), |inner, _| node(kind::VARIABLE, 0, vec![inner]))],
     }
@@ -231,13 +278,18 @@ fn break_value(random: &mut Random, words: &mut [u32]) {
     let own = RECORD * random.between(1, records(words));
     let large = random.pick(&[1 << 16, 1 << 31, u32::MAX]);
     if random.percent(40) {
-        words[own] = random.pick(&[6, 7, 8, 9, 13, large]);
+        words[own] = random.pick(&[7, 7, 8, 13, 14, large]);
         return;
+    }
+    if random.percent(20) {
+        words[own] = kind::NUMERAL;
     }
     words[own + 1] = match words[own] {
         kind::VARIABLE => random.pick(&[LARGEST_INDEX + 1, LARGEST_INDEX + 2, large]),
         kind::CONSTRUCTOR => random.pick(&[0, 256, 257, large]),
         kind::BRANCH => random.pick(&[0, 1, 15, 256 * COUNTS, 256 * COUNTS + 1, large]),
+        kind::NUMERAL if random.percent(70) => large_numeral(random),
+        kind::NUMERAL => large,
         _ => random.pick(&[1, COUNTS, large]),
     };
 }
@@ -299,8 +351,14 @@ fn elsewhere(random: &mut Random, own: usize, old: usize, count: usize) -> u32 {
 /// most `most` of them.
 pub fn faulty_words(random: &mut Random, most: usize) -> Vec<u32> {
     loop {
-        let fault = random.pick(&[Refusal::Structure, Refusal::Structure, Refusal::FreeNumber]);
-        let forest = faulty_forest(random, &[fault], most.min(20));
+        let forest = match random.below(8) {
+            0 => {
+                let numeral = node(kind::NUMERAL, large_numeral(random), Vec::new());
+                vec![planted(random, &numeral, most.min(20))]
+            }
+            1 | 2 => faulty_forest(random, &[Refusal::FreeNumber], most.min(20)),
+            _ => faulty_forest(random, &[Refusal::Structure], most.min(20)),
+        };
         let words: Vec<u32> = forest.iter().flat_map(node_words).collect();
         if words.len() <= most {
             return words;
@@ -317,9 +375,14 @@ fn node_words(node: &Node) -> Vec<u32> {
         _ => node.value,
     };
     let parts = node.children.iter().flat_map(node_words);
-    std::iter::once(payload * 8 + node.kind)
+    std::iter::once(word(node.kind, payload))
         .chain(parts)
         .collect()
+}
+
+/// A numeral's word with a payload above the limit.
+pub fn wrong_numeral(random: &mut Random) -> u32 {
+    word(kind::NUMERAL, large_numeral(random))
 }
 
 /// A word in place of one of a term's, which breaks a rule or at least makes
@@ -335,8 +398,10 @@ pub fn changed_word(random: &mut Random, old: u32) -> u32 {
         kind::ABSTRACTION | kind::APPLICATION => random.pick(&[word + 8, word + unit, 0, word ^ 3]),
         kind::CONSTRUCTOR => random.pick(&[tag, tag, word + 8, word + 2]),
         kind::CASE => random.pick(&[word + 8, word + unit, 4 + 8 * 16, word + 1]),
+        kind::NUMERAL => wrong_numeral(random),
         _ => random.pick(&[tag, tag, 15 * unit + 5, 5 + unit, 0]),
     };
-    let unknown = word - word % 8 + random.pick(&[6, 7]);
-    random.pick(&[wrong, wrong, wrong, unknown])
+    // The same payload as a numeral, or of a kind that there is not.
+    let other = word - word % 8 + random.pick(&[kind::NUMERAL, 7]);
+    random.pick(&[wrong, wrong, wrong, other])
 }

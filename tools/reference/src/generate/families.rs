@@ -1,8 +1,11 @@
 //! Known families of pairs: arithmetic, loops, thrown-away loops, growing
-//! terms, stuck terms and deep ones.
+//! terms, stuck terms, numerals and deep terms.
 
+use crate::contraction::church;
 use crate::random::Random;
-use crate::term::{abs, app, branch, case, con, var, Term, LARGEST_FREE, MOST, WORKSPACE};
+use crate::term::{
+    abs, app, branch, case, con, num, var, Term, LARGEST_FREE, LARGEST_NUMERAL, MOST, WORKSPACE,
+};
 
 /// A function applied to arguments one after the other.
 pub fn apply(function: Term, args: impl IntoIterator<Item = Term>) -> Term {
@@ -14,9 +17,13 @@ pub fn lambdas(count: usize, body: Term) -> Term {
     (0..count).fold(body, |term, _| abs(term))
 }
 
-/// The Church numeral of `n`.
-pub fn church(n: usize) -> Term {
-    lambdas(2, (0..n).fold(var(0), |term, _| app(var(1), term)))
+/// The Church numeral of `n`, or the numeral that contracts to it.
+fn natural(random: &mut Random, n: u32) -> Term {
+    if n <= LARGEST_NUMERAL && random.percent(40) {
+        num(n)
+    } else {
+        church(n)
+    }
 }
 
 fn church_sum(m: Term, n: Term) -> Term {
@@ -95,29 +102,37 @@ pub fn identities(count: usize, term: Term) -> Term {
 
 /// A pair of one of the families.
 pub fn pair(random: &mut Random) -> (Term, Term) {
-    match random.below(5) {
+    match random.below(7) {
         0 => arithmetic(random),
         1 => data(random),
         2 => loops(random),
         3 => thrown_away(random),
-        _ => places(random),
+        4 => places(random),
+        _ => numerals(random),
     }
 }
 
 fn arithmetic(random: &mut Random) -> (Term, Term) {
-    let (m, n) = (random.below(5), random.below(5));
+    let (m, n) = (random.below(5) as u32, random.below(5) as u32);
+    let [first, second, third, fourth] = [m, n, n, m].map(|k| natural(random, k));
     let left = match random.below(3) {
-        0 => church_sum(church(m), church(n)),
-        _ => church_product(church(m), church(n)),
+        0 => church_sum(first, second),
+        _ => church_product(first, second),
     };
     let right = match random.below(5) {
-        0 => church_product(church(n), church(m)),
-        1 => church_sum(church(n), church(m)),
-        2 => church(m * n),
-        3 => church(m + n),
-        _ => app(church(random.below(3)), church(random.below(4))),
+        0 => church_product(third, fourth),
+        1 => church_sum(third, fourth),
+        2 => natural(random, m * n),
+        3 => natural(random, m + n),
+        _ => power(random),
     };
     (left, right)
+}
+
+/// A number to the power of another, both small.
+fn power(random: &mut Random) -> Term {
+    let (exponent, base) = (random.below(3) as u32, random.below(4) as u32);
+    app(natural(random, exponent), natural(random, base))
 }
 
 fn data(random: &mut Random) -> (Term, Term) {
@@ -156,24 +171,25 @@ fn loops(random: &mut Random) -> (Term, Term) {
     }
 }
 
-/// An endless term in a place that the leftmost outermost order throws away.
+/// An endless term or a numeral in a place that the leftmost outermost order
+/// throws away.
 fn thrown_away(random: &mut Random) -> (Term, Term) {
     let kept = var(random.below(4) as u32);
-    let endless = if random.percent(50) {
-        omega()
-    } else {
-        growing()
+    let spare = match random.below(3) {
+        0 => omega(),
+        1 => growing(),
+        _ => num(LARGEST_NUMERAL),
     };
     let left = match random.below(4) {
-        0 => apply(lambdas(2, var(1)), [kept.clone(), endless]),
-        1 => apply(lambdas(2, var(0)), [endless, kept.clone()]),
+        0 => apply(lambdas(2, var(1)), [kept.clone(), spare]),
+        1 => apply(lambdas(2, var(0)), [spare, kept.clone()]),
         2 => case(
-            con(2, vec![kept.clone(), endless]),
+            con(2, vec![kept.clone(), spare]),
             vec![branch(1, 0, peano(0)), branch(2, 2, var(1))],
         ),
         _ => case(
             con(1, Vec::new()),
-            vec![branch(1, 0, kept.clone()), branch(2, 1, endless)],
+            vec![branch(1, 0, kept.clone()), branch(2, 1, spare)],
         ),
     };
     let right = match random.below(3) {
@@ -233,17 +249,69 @@ fn places(random: &mut Random) -> (Term, Term) {
     }
 }
 
+/// Numerals alone, applied, as arguments and subjects, copied, side by side and
+/// where their contraction makes a long term.
+pub fn numerals(random: &mut Random) -> (Term, Term) {
+    let any = random.below(LARGEST_NUMERAL as usize + 1) as u32;
+    let n = random.pick(&[0, 1, any, any, LARGEST_NUMERAL]);
+    let other = n + u32::from(random.percent(50));
+    match random.below(11) {
+        0 => (num(n), church(other)),
+        1 | 2 => (num(n), num(other % (LARGEST_NUMERAL + 1))),
+        3..=5 => numerals_applied(random, n, other),
+        6 => {
+            let count = random.pick(&[2, 3, MOST]);
+            let right = (0..count).map(|_| natural(random, other)).collect();
+            (con(7, vec![num(n); count]), con(7, right))
+        }
+        7 => {
+            let depth = random.pick(&[5, 13, 100, 1_900, WORKSPACE.end() - 64]);
+            (lambdas(depth, num(n)), lambdas(depth, var(0)))
+        }
+        // Copies of a numeral stay numerals until they are reached.
+        8 => {
+            let copies = abs(abs(con(3, vec![var(1), var(0), var(1)])));
+            let right = abs(con(3, vec![num(n), var(0), natural(random, other)]));
+            (app(copies, num(n)), right)
+        }
+        9 => {
+            let arms = vec![branch(1, 0, var(0)), branch(2, 1, num(n))];
+            let right = case(natural(random, other), arms.clone());
+            (case(num(n), arms), right)
+        }
+        _ => (app(var(0), num(n)), app(var(0), natural(random, other))),
+    }
+}
+
+/// Numeral `n` as a function, against what comes of `other`.
+fn numerals_applied(random: &mut Random, n: u32, other: u32) -> (Term, Term) {
+    let m = random.below(4) as u32;
+    match random.below(3) {
+        0 => {
+            let successor = abs(con(2, vec![var(0)]));
+            let sum = apply(num(n), [successor, peano(0)]);
+            (sum, peano(other as usize))
+        }
+        1 => (app(num(m), num(2)), natural(random, 1 << (other % 4))),
+        _ => (church_sum(num(m), num(n)), natural(random, m + other)),
+    }
+}
+
 /// A term of exactly `size` words, at least 8, nested as deep as one way
-/// allows, with a variable or a redex at its deepest place.
+/// allows, with a variable, a numeral or a redex of a variable at its deepest
+/// place.
 pub fn deep(random: &mut Random, size: usize) -> Term {
     let way = random.below(7);
     let (per_level, bound) = [(1, 1), (1, 0), (1, 0), (2, 0), (2, 0), (3, MOST), (2, 0)][way];
-    let redex = random.percent(50);
+    let (redex, numeral) = random.pick(&[(false, false), (true, false), (false, true)]);
     let outside = size - if redex { 4 } else { 1 };
     let (levels, rest) = (outside / per_level, outside % per_level);
     let binders = (levels * bound + rest) as u32;
     let index = random.pick(&[0, binders, binders + LARGEST_FREE]);
-    let innermost = identities(usize::from(redex), var(index));
+    let innermost = match numeral {
+        true => num(random.pick(&[0, LARGEST_NUMERAL])),
+        false => identities(usize::from(redex), var(index)),
+    };
     (0..levels).fold(lambdas(rest, innermost), |term, _| match way {
         0 => abs(term),
         1 => con(1, vec![term]),

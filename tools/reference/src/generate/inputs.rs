@@ -1,9 +1,10 @@
 //! Inputs for the verdict program.
 
-use crate::generate::damage::{faulty_table, FAULTS};
-use crate::generate::pairs::{long_run, trial, Trial};
+use crate::generate::damage::{faulty_numeral, faulty_table, FAULTS};
+use crate::generate::pairs::{long_run, numeral_trial, trial, Trial};
 use crate::generate::tables::{term_table, Order};
 use crate::input::bytes;
+use crate::part::{self, Part};
 use crate::press::{Verdict, LARGEST_BUDGET};
 use crate::random::Random;
 use crate::refusal::Refusal;
@@ -16,13 +17,15 @@ use crate::verdict::{outcome, Outcome, Request};
 pub enum Aim {
     Verdict(Verdict),
     Refused(Refusal),
+    /// A part that a numeral has in the outcome.
+    Numeral(Part),
     Input,
     /// Several faults at once, or none.
     Mixed,
 }
 
 /// The aims that the cases of a run go through in turn.
-pub const AIMS: [Aim; 16] = [
+pub const AIMS: [Aim; 19] = [
     Aim::Verdict(Verdict::Same),
     Aim::Verdict(Verdict::Different),
     Aim::Verdict(Verdict::Budget),
@@ -36,6 +39,9 @@ pub const AIMS: [Aim; 16] = [
     Aim::Refused(Refusal::Workspace),
     Aim::Refused(Refusal::TooLong),
     Aim::Refused(Refusal::Budget),
+    Aim::Numeral(Part::Full),
+    Aim::Numeral(Part::Value),
+    Aim::Numeral(Part::Children),
     Aim::Input,
     Aim::Mixed,
     Aim::Mixed,
@@ -58,18 +64,24 @@ pub fn aimed(random: &mut Random, aim: Aim) -> Vec<u8> {
     let mut input = Vec::new();
     for _ in 0..TRIES {
         input = attempt(random, aim);
-        let met = match (aim, outcome(&input)) {
-            (Aim::Verdict(verdict), Outcome::Answered(answer)) => answer.verdict == verdict,
-            (Aim::Refused(refusal), Outcome::Refused(number)) => refusal == number,
-            (Aim::Input, outcome) => outcome == Outcome::Input,
-            (Aim::Mixed, _) => true,
-            _ => false,
-        };
-        if met {
+        if aim.is_met(&input) {
             break;
         }
     }
     input
+}
+
+impl Aim {
+    pub fn is_met(self, input: &[u8]) -> bool {
+        match (self, outcome(input)) {
+            (Aim::Verdict(verdict), Outcome::Answered(answer)) => answer.verdict == verdict,
+            (Aim::Refused(refusal), Outcome::Refused(number)) => refusal == number,
+            (Aim::Numeral(part), _) => part::of_input(input).contains(&part),
+            (Aim::Input, outcome) => outcome == Outcome::Input,
+            (Aim::Mixed, _) => true,
+            _ => false,
+        }
+    }
 }
 
 fn attempt(random: &mut Random, aim: Aim) -> Vec<u8> {
@@ -78,17 +90,26 @@ fn attempt(random: &mut Random, aim: Aim) -> Vec<u8> {
         _ => None,
     };
     let trial = match wish {
+        _ if aim == Aim::Numeral(Part::Full) => numeral_trial(random, Some(Verdict::Full)),
         Some(Verdict::Budget) if random.below(LONG_RUNS) == 0 => long_run(random),
         _ => trial(random, wish),
     };
     let mut request = request(random, &trial);
     match aim {
-        Aim::Verdict(_) => {}
+        Aim::Verdict(_) | Aim::Numeral(Part::Full) => {}
         Aim::Refused(Refusal::Workspace) => request.capacity = wrong_capacity(random),
         Aim::Refused(Refusal::Budget) => request.budget = wrong_budget(random),
         Aim::Refused(refusal) => {
             request.capacity = room_for(random, refusal, request.capacity);
             let table = faulty_table(random, &[refusal], request.capacity as usize);
+            *side(random, &mut request) = table;
+        }
+        Aim::Numeral(part) => {
+            let fault = match part {
+                Part::Value => Refusal::Value,
+                _ => Refusal::Structure,
+            };
+            let table = faulty_numeral(random, fault, request.capacity as usize);
             *side(random, &mut request) = table;
         }
         Aim::Input => return broken_bytes(random, request),

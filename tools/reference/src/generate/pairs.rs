@@ -3,7 +3,7 @@
 
 use crate::contraction::{shift, step};
 use crate::generate::families::{self, identities};
-use crate::generate::terms::{replace, size, subterms, term, variable, Style};
+use crate::generate::terms::{numeral, replace, size, subterms, term, variable, Style};
 use crate::press::{Verdict, LARGEST_BUDGET};
 use crate::random::Random;
 use crate::term::{abs, app, branch, case, con, var, Term, MOST, WORKSPACE};
@@ -19,6 +19,19 @@ pub struct Trial {
 
 /// A trial that is likely to give the verdict wished for, or any.
 pub fn trial(random: &mut Random, wish: Option<Verdict>) -> Trial {
+    trial_of(random, wish, pair)
+}
+
+/// The same on a pair in which numerals have the main part.
+pub fn numeral_trial(random: &mut Random, wish: Option<Verdict>) -> Trial {
+    trial_of(random, wish, families::numerals)
+}
+
+fn trial_of(
+    random: &mut Random,
+    wish: Option<Verdict>,
+    pair: fn(&mut Random) -> (Term, Term),
+) -> Trial {
     let (left, right, survey) = loop {
         let (left, right) = pair(random);
         let survey = survey(&left, &right);
@@ -181,7 +194,7 @@ pub fn pair(random: &mut Random) -> (Term, Term) {
     let (left, right) = match random.below(20) {
         0..=5 => families::pair(random),
         6 => families::deep_pair(random),
-        7..=11 => substitution(random),
+        7..=12 => substitution(random),
         _ => {
             let style = Style::random(random);
             let size = size(random);
@@ -201,14 +214,16 @@ pub fn pair(random: &mut Random) -> (Term, Term) {
     }
 }
 
-/// A term with one redex in it that puts open arguments under binders and
+/// A term with a redex in it that puts open arguments under binders and
 /// into branches, against the term that it contracts to or a change of that.
 fn substitution(random: &mut Random) -> (Term, Term) {
     let data = random.pick(&[20, 50, 80]);
+    let numerals = random.pick(&[0, 0, 0, 20]);
     let style = |free| Style {
         redexes: 0,
         data,
         free,
+        numerals,
         aim: None,
     };
     let size = random.between(1, 20);
@@ -313,12 +328,16 @@ fn named(random: &mut Random, term: &Term) -> Term {
     app(abs(body), parts[place].0.clone())
 }
 
-/// The term with one of its variables or constants replaced.
+/// The term with one of its variables, constants or numerals replaced.
 fn changed(random: &mut Random, term: &Term, style: Style) -> Term {
     let parts = subterms(term);
     let leaves: Vec<usize> = (0..parts.len())
         .filter(|i| parts[*i].0.size() == 1)
         .collect();
     let place = random.pick(&leaves);
-    replace(term, place, &variable(random, parts[place].1, style))
+    let new = match parts[place].0 {
+        Term::Num(_) if random.percent(70) => numeral(random),
+        _ => variable(random, parts[place].1, style),
+    };
+    replace(term, place, &new)
 }

@@ -1,20 +1,23 @@
 //! Scripts for the replaying program.
 
-use crate::generate::damage::{changed_word, faulty_table, faulty_words, FAULTS};
+use crate::generate::damage::{
+    changed_word, faulty_numeral, faulty_table, faulty_words, wrong_numeral, FAULTS,
+};
 use crate::generate::inputs::{wrong_budget, wrong_capacity};
-use crate::generate::pairs::{trial, Trial};
+use crate::generate::pairs::{numeral_trial, trial, Trial};
 use crate::generate::tables::{term_table, Order};
 use crate::generate::terms::{term, Style};
 use crate::input::bytes;
-use crate::press::{Session, Side, LARGEST_BUDGET, LARGEST_TOTAL};
+use crate::press::{Session, Side, Verdict, LARGEST_BUDGET, LARGEST_TOTAL};
 use crate::random::Random;
+use crate::refusal::Refusal;
 use crate::replay::{Event, Machine, Operation, VERDICTS};
 use crate::table::{LONGEST_TABLE, RECORD};
 use crate::term::{var, Term, WORKSPACE};
-use crate::words::kind;
+use crate::words::{kind, kind_of};
 
 /// What a script is about; the cases of a run go through these in turn.
-const SUBJECTS: [fn(&mut Random) -> Composer; 8] = [
+const SUBJECTS: [fn(&mut Random) -> Composer; 9] = [
     press_list,
     refused_loads,
     wrong_words,
@@ -22,6 +25,7 @@ const SUBJECTS: [fn(&mut Random) -> Composer; 8] = [
     session_limits,
     writing,
     odd_workspaces,
+    numerals,
     press_list,
 ];
 
@@ -122,6 +126,13 @@ impl Composer {
         match side {
             Side::Left => self.lengths.0,
             Side::Right => self.lengths.1,
+        }
+    }
+
+    fn workspace(&self, side: Side) -> &[u32] {
+        match side {
+            Side::Left => &self.machine.left,
+            Side::Right => &self.machine.right,
         }
     }
 
@@ -326,14 +337,11 @@ fn wrong_words(random: &mut Random) -> Composer {
 /// Stores one wrong word in the term of a side.
 fn store_changed(random: &mut Random, composer: &mut Composer, side: Side) {
     let length = composer.length(side) as usize;
-    let workspace = match side {
-        Side::Left => &composer.machine.left,
-        Side::Right => &composer.machine.right,
-    };
+    let workspace = composer.workspace(side);
     if length > 0 {
         // Words with a range for their payload are few and taken more often.
         let ranged: Vec<usize> = (0..length)
-            .filter(|at| workspace[*at] % 8 >= kind::CONSTRUCTOR)
+            .filter(|at| kind_of(workspace[*at]) >= kind::CONSTRUCTOR)
             .collect();
         let at = match ranged.is_empty() || random.percent(50) {
             true => random.below(length),
@@ -355,6 +363,50 @@ fn store_faulty(random: &mut Random, composer: &mut Composer, side: Side) {
     match side {
         Side::Left => composer.lengths.0 = length,
         Side::Right => composer.lengths.1 = length,
+    }
+}
+
+/// Numerals in every call, and all that they can be refused by.
+fn numerals(random: &mut Random) -> Composer {
+    let any = random.pick(&VERDICTS);
+    let verdict = random.pick(&[any, any, Verdict::Full]);
+    let trial = numeral_trial(random, Some(verdict));
+    let mut composer = Composer::new(trial.capacity as u32, trial.capacity as u32);
+    composer.load_trial(random, &trial);
+    composer.show();
+    composer.write(random, Side::Left);
+    composer.write(random, Side::Right);
+    for fault in [Refusal::Value, Refusal::Structure] {
+        let side = any_side(random);
+        let table = faulty_numeral(random, fault, trial.capacity);
+        composer.add(Operation::Load { side, table });
+    }
+    composer.press(random.pick(&[1, 2, trial.budget]));
+    composer.print();
+    composer.press(trial.budget);
+    composer.budget = trial.budget.min(FEW_ROUNDS);
+    for _ in 0..2 {
+        let side = any_side(random);
+        store_numeral(random, &mut composer, side);
+        composer.show();
+        composer.write(random, side);
+        composer.press(composer.budget);
+    }
+    composer.print();
+    composer
+}
+
+/// Stores a numeral above its limit in place of a variable or numeral.
+fn store_numeral(random: &mut Random, composer: &mut Composer, side: Side) {
+    let length = composer.length(side) as usize;
+    let words = &composer.workspace(side)[..length];
+    let places: Vec<usize> = (0..length)
+        .filter(|at| matches!(kind_of(words[*at]), kind::VARIABLE | kind::NUMERAL))
+        .collect();
+    if !places.is_empty() {
+        let at = random.pick(&places) as u32;
+        let word = wrong_numeral(random);
+        composer.add(Operation::Store { side, at, word });
     }
 }
 

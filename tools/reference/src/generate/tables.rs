@@ -45,6 +45,7 @@ impl Node {
                 let children = std::iter::once(Node::of(scrutinee)).chain(arms).collect();
                 node(kind::CASE, 0, children)
             }
+            Term::Num(numeral) => node(kind::NUMERAL, *numeral, Vec::new()),
         }
     }
 

@@ -2,7 +2,8 @@
 
 use crate::random::Random;
 use crate::term::{
-    abs, app, branch, case, con, var, Branch, Term, LARGEST_FREE, MOST, TAGS, WORKSPACE,
+    abs, app, branch, case, con, num, var, Branch, Term, LARGEST_FREE, LARGEST_NUMERAL, MOST, TAGS,
+    WORKSPACE,
 };
 
 /// What a random term is rich in, each in per cent.
@@ -14,6 +15,8 @@ pub struct Style {
     pub data: usize,
     /// Variables that are free.
     pub free: usize,
+    /// Places of one word that become a numeral.
+    pub numerals: usize,
     /// Binders to which half of the variables point: how many binders stand
     /// around them, and their number.
     pub aim: Option<(u32, u32)>,
@@ -25,6 +28,7 @@ impl Style {
             redexes: random.pick(&[0, 5, 20, 50]),
             data: random.pick(&[0, 30, 50, 90]),
             free: random.pick(&[0, 20, 60]),
+            numerals: random.pick(&[0, 0, 10, 40]),
             aim: None,
         }
     }
@@ -46,6 +50,7 @@ pub fn term(random: &mut Random, size: usize, binders: u32, style: Style) -> Ter
     let data = random.percent(style.data);
     match size {
         0 | 1 if data && random.percent(30) => con(tag(random), Vec::new()),
+        0 | 1 if random.percent(style.numerals) => numeral(random),
         0 | 1 => variable(random, binders, style),
         4.. if random.percent(style.redexes) => redex(random, size, binders, style, data),
         _ if data && random.percent(50) => constructor(random, size, binders, style),
@@ -76,6 +81,13 @@ pub fn variable(random: &mut Random, binders: u32, style: Style) -> Term {
     let near = random.below(around.min(3));
     let any = random.below(around);
     var(random.pick(&[near, near, any]) as u32)
+}
+
+/// A numeral; small ones and the limits more often.
+pub fn numeral(random: &mut Random) -> Term {
+    let small = random.below(4) as u32;
+    let any = random.below(LARGEST_NUMERAL as usize + 1) as u32;
+    num(random.pick(&[small, small, any, 0, LARGEST_NUMERAL]))
 }
 
 fn tag(random: &mut Random) -> u32 {
@@ -216,7 +228,7 @@ pub fn subterms(term: &Term) -> Vec<(&Term, u32)> {
 fn collect<'a>(term: &'a Term, binders: u32, found: &mut Vec<(&'a Term, u32)>) {
     found.push((term, binders));
     match term {
-        Term::Var(_) => {}
+        Term::Var(_) | Term::Num(_) => {}
         Term::Abs(body) => collect(body, binders + 1, found),
         Term::App(function, argument) => {
             collect(function, binders, found);
@@ -262,5 +274,6 @@ fn replace_from(term: &Term, next: &mut usize, place: usize, new: &Term) -> Term
                 .map(|b| branch(b.tag, b.bound, inside(&b.body)))
                 .collect(),
         ),
+        Term::Num(numeral) => num(*numeral),
     }
 }

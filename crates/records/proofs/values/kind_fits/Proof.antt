@@ -22,10 +22,14 @@ returns-4 c = rw (c .before .match .keys3) (c .is-tagged .ensures)
 
 returns-5 : tie.Need-returns-5
 unfolding valueFits
-returns-5 c =
+returns-5 c = rw (c .match .keys4)
+
+returns-6 : tie.Need-returns-6
+unfolding valueFits
+returns-6 c =
     let r = c .match .rest in
-    rw (le-leb _ _ (c .before .if1 .left), ne-eqb _ 0 (r .0 .0 .1), ne-eqb _ 3 (r .0 .1), ne-eqb _ 5 (r .1))
+    rw (le-leb _ _ (c .before .if1 .left), ne-eqb _ 0 (r .0 .0 .0 .1), ne-eqb _ 3 (r .0 .0 .1), ne-eqb _ 5 (r .0 .1), ne-eqb _ 6 (r .1))
 
 pub kind-fits-spec : {M : Type 1} → statement M
 kind-fits-spec =
-    tie.close (tie.spec returns (λ c κs. search needs) (λ c κs. search needs) returns-2 returns-3 returns-4 returns-5)
+    tie.close (tie.spec returns (λ c κs. search needs) (λ c κs. search needs) returns-2 returns-3 returns-4 returns-5 returns-6)

@@ -112,8 +112,8 @@ module _ (c : tie.After-argument-end) where
         go (walked e) = e
         go (stays _ f g _) = absurd (elsewhere f g)
 
-    replaced : Plans ws (s .args .n) (record { rule = rule.Beta; at = s .args .at; body = body; stop = args; args = args; after = after; count = 1; end = after; length = s .args .at + (args - body - times + times * (after - args)) + (s .args .n - after) })
-    replaced = plans (s .pre .place) found refl (measures .ends) after-is (after-is ∙ end-is) (omega (arith, long, after-is))
+    replaced : Plans ws (s .args .n) (record { rule = rule.Beta (record { start = body; stop = args; args = args; after = after; count = 1 }); at = s .args .at; end = after; length = s .args .at + (args - body - times + times * (after - args)) + (s .args .n - after) })
+    replaced = plans (s .pre .place) found (measures .ends) after-is (after-is ∙ end-is) (omega (arith, long, after-is)) refl refl (λ p. p)
 
 -- The walk leaves the room.
 room : (c : tie.After-argument-end) → Room (s c .args .room .now) (c .before .before .before .before .measure .last .1 .1 .1 .0)

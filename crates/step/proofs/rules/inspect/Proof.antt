@@ -35,7 +35,7 @@ by-words c e =
 selected-requires : tie.Need-selected-requires
 selected-requires c κs =
     let s = c .before .before .before .before .before .before .before .before .before .before .before .before .before in
-    let r = c .before .before .body .given .1 in
+    let r = c .before .before .start .given .1 in
     record {
       place = s .pre .0 .place;
       parts-are = by-words (c .before .before .before .before) r;

@@ -12,7 +12,7 @@ use Rattle.step.proofs.rules.selected.Tie as tie
 measure-requires : tie.Need-measure-requires
 measure-requires c κs = let p = c .before .before .before .pre in measurable (p .place) (p .parts-are)
 
-contraction : (s : tie.Start) → Contraction (s .args .ws .now) (s .args .n) (s .args .at) (s .args .body) (s .args .at + 2) (s .args .count) (s .args .left)
+contraction : (s : tie.Start) → Contraction (s .args .ws .now) (s .args .n) (s .args .at) (s .args .start) (s .args .at + 2) (s .args .count) (s .args .left)
 contraction s = contracts (s .pre .place) (s .pre .parts-are)
 
 skip-requires : tie.Need-skip-requires
@@ -46,7 +46,7 @@ returns : tie.Need-returns
 returns c =
     let p = s c .pre in
     let m = c .before .before .before .before .measure .ensures in
-    ((plans (p .place) (p .parts-are) refl (m .0 .ends) (p .after-is) (end-is c) (omega (arith, c .substituted-length .ensures)), refl), m .1)
+    ((plans (p .place) (p .parts-are) (m .0 .ends) (p .after-is) (end-is c) (omega (arith, c .substituted-length .ensures)) refl refl (λ p. p), refl), m .1)
 
 pub selected-spec : {M : Type 1} → statement M
 selected-spec =

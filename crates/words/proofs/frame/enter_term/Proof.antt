@@ -63,6 +63,12 @@ returns c =
     rw (← k .before .payload .ensures, sym (k .kind .ensures) ∙ c .before .before .match .keys5, le-leb _ _ (c .before .if1 .taken), add-zero)
     (ap some (c .new5 .ensures))
 
+new-requires-6 : tie.Need-new-requires-6
+new-requires-6 c κs = search needs
+
+inside-if-requires-5 : tie.Need-inside-if-requires-5
+inside-if-requires-5 c κs = search needs
+
 returns-2 : tie.Need-returns-2
 unfolding startsTerm insideBy binding following
 returns-2 c =
@@ -97,11 +103,18 @@ unfolding startsTerm
 returns-6 c = rw (← c .before .before .before .payload .ensures, sym (c .before .before .kind .ensures) ∙ c .before .match .keys5, lt-leb _ _ (c .if1 .left))
 
 returns-7 : tie.Need-returns-7
-unfolding startsTerm
+unfolding startsTerm insideBy binding following
 returns-7 c =
+    let k = c .before .before .before in
+    c .inside-if5 .ensures
+    ∙ rw (c .before .new6 .ensures, k .before .payload .ensures, sym (k .kind .ensures) ∙ c .before .before .match .keys6) (simp add-zero)
+
+returns-8 : tie.Need-returns-8
+unfolding startsTerm
+returns-8 c =
     let r = c .match .rest in
     rw (← c .before .kind .ensures)
-    (simp (ne-eqb _ 0 (r .0 .0 .0 .0 .1), ne-eqb _ 1 (r .0 .0 .0 .1), ne-eqb _ 2 (r .0 .0 .1), ne-eqb _ 3 (r .0 .1), ne-eqb _ 4 (r .1)))
+    (simp (ne-eqb _ 0 (r .0 .0 .0 .0 .0 .1), ne-eqb _ 1 (r .0 .0 .0 .0 .1), ne-eqb _ 2 (r .0 .0 .0 .1), ne-eqb _ 3 (r .0 .0 .1), ne-eqb _ 4 (r .0 .1), ne-eqb _ 6 (r .1)))
 
 pub enter-term-spec : {M : Type 1} → statement M
 enter-term-spec =
@@ -123,9 +136,12 @@ enter-term-spec =
     inside-if-requires-4
     new-requires-5
     returns
+    new-requires-6
+    inside-if-requires-5
     returns-2
     returns-3
     returns-4
     returns-5
     returns-6
-    returns-7)
+    returns-7
+    returns-8)

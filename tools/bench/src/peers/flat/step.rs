@@ -10,8 +10,14 @@ use super::words::{skip, Binders};
 /// Room for the starts of a redex's arguments and the end of the last.
 const PLACES: usize = MAX_COUNT as usize + 1;
 
-/// A redex and its parts. Beta is the case of one argument.
-pub struct Redex {
+/// A redex by its rule.
+pub enum Redex {
+    Substitution(Substitution),
+    Numeral { at: usize, value: usize },
+}
+
+/// A redex whose arguments are put into a body. Beta is the case of one argument.
+pub struct Substitution {
     at: usize,
     end: usize,
     body: Range<usize>,
@@ -23,19 +29,25 @@ pub struct Redex {
 /// The leftmost outermost redex: the one whose first word comes earliest.
 pub fn leftmost(words: &[u32]) -> Option<Redex> {
     (0..words.len()).find_map(|at| match kind(words[at]) {
-        APPLICATION if kind(words[at + 1]) == ABSTRACTION => Some(beta(words, at)),
-        CASE if kind(words[at + 1]) == CONSTRUCTOR => case(words, at),
+        APPLICATION if kind(words[at + 1]) == ABSTRACTION => {
+            Some(Redex::Substitution(beta(words, at)))
+        }
+        CASE if kind(words[at + 1]) == CONSTRUCTOR => case(words, at).map(Redex::Substitution),
+        NUMERAL => {
+            let value = payload(words[at]) as usize;
+            Some(Redex::Numeral { at, value })
+        }
         _ => None,
     })
 }
 
-fn beta(words: &[u32], at: usize) -> Redex {
+fn beta(words: &[u32], at: usize) -> Substitution {
     let argument = skip(words, at + 1);
     let end = skip(words, argument);
     let mut arguments = [0; PLACES];
     arguments[0] = argument as u16;
     arguments[1] = end as u16;
-    Redex {
+    Substitution {
         at,
         end,
         body: at + 2..argument,
@@ -45,7 +57,7 @@ fn beta(words: &[u32], at: usize) -> Redex {
 }
 
 /// A case on a constructor, if a branch has its tag and count.
-fn case(words: &[u32], at: usize) -> Option<Redex> {
+fn case(words: &[u32], at: usize) -> Option<Substitution> {
     let subject = payload(words[at + 1]);
     let bound = count(subject) as usize;
     let mut end = at + 2;
@@ -63,7 +75,7 @@ fn case(words: &[u32], at: usize) -> Option<Redex> {
             body = Some(branch + 1..end);
         }
     }
-    Some(Redex {
+    Some(Substitution {
         at,
         end,
         body: body?,
@@ -73,6 +85,52 @@ fn case(words: &[u32], at: usize) -> Option<Redex> {
 }
 
 impl Redex {
+    /// The length of the term after the contraction.
+    pub fn next_length(&self, words: &[u32], binders: &mut Binders) -> usize {
+        match self {
+            Redex::Substitution(substitution) => substitution.next_length(words, binders),
+            Redex::Numeral { value, .. } => words.len() - 1 + church_length(*value),
+        }
+    }
+
+    /// Contracts the term of `length` words in place; its next length.
+    pub fn contract(
+        &self,
+        workspace: &mut [u32],
+        length: usize,
+        scratch: &mut [u32],
+        walks: &mut Walks,
+    ) -> usize {
+        let (at, end, written) = match self {
+            Redex::Substitution(substitution) => {
+                let written = substitution.contractum(&workspace[..length], scratch, walks);
+                (substitution.at, substitution.end, written)
+            }
+            Redex::Numeral { at, value } => (*at, at + 1, church(*value, scratch)),
+        };
+        let next = at + written;
+        workspace.copy_within(end..length, next);
+        workspace[at..next].copy_from_slice(&scratch[..written]);
+        next + length - end
+    }
+}
+
+fn church_length(value: usize) -> usize {
+    2 * value + 3
+}
+
+/// Writes the Church numeral into the scratch and returns its length.
+fn church(value: usize, scratch: &mut [u32]) -> usize {
+    let length = church_length(value);
+    scratch[..2].fill(word(ABSTRACTION, 0));
+    for words in scratch[2..length - 1].chunks_exact_mut(2) {
+        words.copy_from_slice(&[word(APPLICATION, 0), word(VARIABLE, 1)]);
+    }
+    scratch[length - 1] = word(VARIABLE, 0);
+    length
+}
+
+impl Substitution {
     /// The argument that replaces an index under `depth` binders of the body: the last is index 0.
     fn argument(&self, index: u32, depth: u32) -> Option<Range<usize>> {
         let number = index.checked_sub(depth)? as usize;
@@ -83,8 +141,7 @@ impl Redex {
         Some(usize::from(self.arguments[nth])..usize::from(self.arguments[nth + 1]))
     }
 
-    /// The length of the term after the contraction.
-    pub fn next_length(&self, words: &[u32], binders: &mut Binders) -> usize {
+    fn next_length(&self, words: &[u32], binders: &mut Binders) -> usize {
         let mut length = words.len() - (self.end - self.at);
         binders.start();
         for &word in &words[self.body.clone()] {
@@ -121,21 +178,6 @@ impl Redex {
             }
         }
         length
-    }
-
-    /// Contracts the term of `length` words in place; its next length.
-    pub fn contract(
-        &self,
-        workspace: &mut [u32],
-        length: usize,
-        scratch: &mut [u32],
-        walks: &mut Walks,
-    ) -> usize {
-        let written = self.contractum(&workspace[..length], scratch, walks);
-        let end = self.at + written;
-        workspace.copy_within(self.end..length, end);
-        workspace[self.at..end].copy_from_slice(&scratch[..written]);
-        end + length - self.end
     }
 }
 

@@ -1,6 +1,6 @@
 //! Words of a term, their extent, and the check that words are one whole term.
 
-use unit::limits::{MAX_COUNT, MAX_FREE, TAGS, WORKSPACE};
+use unit::limits::{MAX_COUNT, MAX_FREE, MAX_NUMERAL, TAGS, WORKSPACE};
 use unit::word::*;
 
 /// The most words in a workspace.
@@ -161,6 +161,7 @@ fn in_range(word: u32) -> bool {
         ABSTRACTION | APPLICATION => payload == 0,
         CONSTRUCTOR | BRANCH => TAGS.contains(&tag(payload)),
         CASE => payload <= MAX_COUNT,
+        NUMERAL => payload <= MAX_NUMERAL,
         _ => false,
     }
 }
@@ -196,6 +197,7 @@ mod tests {
             &[12, 0, 133, 2_040],
             &[12, 0, 253, 2_160],
             &[20, 0, 133, 0, 261, 0],
+            &[2, 6, 254],
         ] {
             assert!(is_whole(words), "{words:?}");
         }
@@ -212,8 +214,8 @@ mod tests {
             &[147, 0],
             &[12, 0],
             // Kinds, payloads, tags and counts out of range.
-            &[6],
             &[7],
+            &[262],
             &[9, 0],
             &[10, 0, 0],
             &[3],
@@ -223,6 +225,7 @@ mod tests {
             &[133, 0],
             &[12, 133, 0],
             &[12, 0, 0],
+            &[12, 0, 134],
             &[20, 0, 133, 0, 133, 0],
             &[20, 0, 261, 0, 133, 0],
             // Free numbers 256.

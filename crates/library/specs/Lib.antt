@@ -1,0 +1,2 @@
+-- What the contracts of the library's code cite beside the calculus.
+pub mod Entries
