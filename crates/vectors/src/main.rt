@@ -14,7 +14,7 @@ mod text;
 mod vector;
 
 // The most bytes that are read.
-const INPUT_MOST: usize = 131072;
+const INPUT_MOST: usize = 262144;
 
 fn main() {
     let mut input = [0u8; INPUT_MOST];
