@@ -20,7 +20,7 @@ use Rattle.calculus.specs.Equality.{equal?}
 use Rattle.calculus.specs.Numeral.{numeral}
 use Rattle.calculus.specs.Theorems.{closed, Closed}
 use Rattle.calculus.proofs.ReadLaws.{read-sound}
-use Rattle.words.proofs.Scan.{both}
+use Rattle.words.proofs.TestLaws.{both}
 use Rattle.library.specs.Entries.{entryAt, entryEnd, entry, Entry, Entries}
 
 unfoldable pub closed? : (t : Term) → Dec (Closed t)

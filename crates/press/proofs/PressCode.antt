@@ -19,7 +19,7 @@ use Rattle.calculus.specs.Rounds.{Outcome, Shown, rounds}
 use Rattle.calculus.proofs.WorkspaceLaws.{sized-most, sized-equal, first-equal, others-equal}
 use Rattle.step.specs.Held.{held, Holds}
 use Rattle.rounds.specs.Run.{Ready, Ran}
-use Rattle.words.specs.IsTerm.{isTerm}
+use Rattle.terms.specs.IsTerm.{isTerm}
 use Rattle.press.specs.State.{Session}
 use Rattle.press.specs.State.{budgetLimit, totalLimit, affordable}
 use Rattle.press.specs.Answer.{shown, Memory, Call, Pressed}

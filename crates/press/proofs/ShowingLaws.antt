@@ -7,7 +7,7 @@ use lib.ListN.{length}
 use borrow.Author.Tests.{le-leb, lt-leb}
 use Rattle.calculus.specs.Words.{workspaceMost}
 use Rattle.calculus.specs.Workspace.{sized, termAt}
-use Rattle.words.specs.IsTerm.{isTerm}
+use Rattle.terms.specs.IsTerm.{isTerm}
 use Rattle.calculus.proofs.WorkspaceLaws.{sized-most, sized-equal, first-equal, sized-two}
 use Rattle.press.specs.Showing.{left, right, nothing, shorter, showTerms, show}
 use Rattle.press.proofs.PressCode.{term-within, not-term, is-held}

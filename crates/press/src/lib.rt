@@ -72,10 +72,10 @@ pub fn press(
     if !budget_passes(budget, session.total) {
         return Pressed::refused(Refusal::OverBudget, session);
     }
-    if !words::is_term(left, left_length) {
+    if !terms::is_term(left, left_length) {
         return Pressed::refused(Refusal::NoTerm, session);
     }
-    if !words::is_term(right, right_length) {
+    if !terms::is_term(right, right_length) {
         return Pressed::refused(Refusal::NoTerm, session);
     }
     press_terms(

@@ -16,10 +16,10 @@ pub fn show<'a>(
     if !sized(left.len(), right.len(), left.len()) {
         return &left[..0];
     }
-    if !words::is_term(left, left_length) {
+    if !terms::is_term(left, left_length) {
         return &left[..0];
     }
-    if !words::is_term(right, right_length) {
+    if !terms::is_term(right, right_length) {
         return &left[..0];
     }
     if right_length < left_length {

@@ -8,7 +8,7 @@ use native.Mathlib.Omega.{arith}
 use lib.Dec.{leb, eqb}
 use lib.ListN.{length, getD}
 use borrow.Author.Tests.{le-leb, lt-leb, leb-true, eqb-true}
-use Rattle.words.proofs.Scan.{both}
+use Rattle.words.proofs.TestLaws.{both}
 use Rattle.replay.specs.declared.script.Operands.{Operands}
 use Rattle.replay.specs.declared.script.Operation.{Operation}
 use Rattle.replay.specs.declared.script.Read.{Read}

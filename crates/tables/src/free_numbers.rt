@@ -2,8 +2,8 @@
 use crate::reading::read_term;
 use records::Form;
 use records::root;
+use terms::is_term;
 use words::Word;
-use words::is_term;
 ghost use mathlib.Core.Path.{_≡_};
 ghost use Prim.Native.Nat.{_≤_};
 ghost use Rattle.records.specs.Types.{stored, viewed};

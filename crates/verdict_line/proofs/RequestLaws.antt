@@ -10,7 +10,7 @@ use lib.Dec.{leb, eqb}
 use lib.ListN.{length, take, drop}
 use lib.Seq.{take-all, length-take-le}
 use borrow.Author.Tests.{leb-true, leb-false, le-leb, lt-leb, eq-eqb, ne-eqb}
-use Rattle.words.proofs.Scan.{both}
+use Rattle.words.proofs.TestLaws.{both}
 use Rattle.verdict_line.specs.declared.request.Table.{Table}
 use Rattle.verdict_line.specs.declared.request.Found.{Found}
 use Rattle.verdict_line.specs.declared.request.Found.the-variants as found

@@ -1,8 +1,4 @@
+pub mod TestLaws
 pub mod Spans
-pub mod Frames
-pub mod Packed
-pub mod Scan
-pub mod Stack
-pub mod IsTerm
 pub mod PlacedLaws
 pub mod RoomLaws

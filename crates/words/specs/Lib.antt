@@ -1,9 +1,6 @@
 -- What the contracts of the words' code cite beside the calculus.
 pub mod Limits
 pub mod Bound
-pub mod Frames
-pub mod Packed
-pub mod IsTerm
 pub mod Placed
 pub mod Room
 pub mod Types

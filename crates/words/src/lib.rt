@@ -1,9 +1,5 @@
-// The word of a term: payload × 8 + kind ("Terms and words"), and what words alone tell: where an item ends, and whether words are one whole term.
-// The constants of `Word` are the only places of the code where the kinds and the limits of the word rules stand as numbers.
-mod frame;
-
-use frame::Entered;
-use frame::Frame;
+// The word of a term: payload × 8 + kind ("Terms and words"), and where an item ends. The constants of `Word` are the only places of the code where
+// the kinds and the limits of the word rules stand as numbers.
 use slices::fill;
 ghost use mathlib.Core.Path.{_≡_};
 ghost use mathlib.Core.List.{_++_};
@@ -15,7 +11,6 @@ ghost use Rattle.calculus.specs.Accepted.{tagLimit, argumentLimit, branchLimit,
 ghost use Rattle.calculus.specs.Skip.{arity, span};
 ghost use Rattle.words.specs.Limits.{payloadBound};
 ghost use Rattle.words.specs.Bound.{bound};
-ghost use Rattle.words.specs.IsTerm.{isTerm};
 
 pub mod refusal;
 pub mod slices;
@@ -156,64 +151,6 @@ pub fn skip(ws: &[u32], at: usize, items: usize) -> usize
         i += 1;
     }
     i
-}
-
-// Whether the first `n` words are one whole accepted term of at most as many words as a workspace has (refusal 10).
-pub fn is_term(ws: &[u32], n: usize) -> bool
-    ensures { λ r. ⌜ r ≡ isTerm (now (ws .entry)) n ⌝ }
-{
-    if n > Word::WORKSPACE_MOST {
-        return false;
-    }
-    if n > ws.len() {
-        return false;
-    }
-    is_whole(ws, n)
-}
-
-// The same for words of a workspace, by a scan from the left.
-fn is_whole(ws: &[u32], n: usize) -> bool
-    requires { ⌜ (n ≤ workspaceMost) × (n ≤ length (now ws)) ⌝ }
-    ensures { λ r. ⌜ r ≡ isTerm (now (ws .entry)) n ⌝ }
-{
-    // The frames are the current one, and the entries below `top`, which wait. Each word adds at most one.
-    let mut stack = [0; Frame::ROOM];
-    let mut top: usize = 0;
-    let mut frame = Frame::WHOLE;
-    let mut i: usize = 0;
-    while i < n {
-        if frame.is_filled() {
-            if top == 0 {
-                return false;
-            }
-            top -= 1;
-            frame = Frame(stack[top]);
-            continue;
-        }
-        let word = Word(ws[i]);
-        let Entered::Inside(inside) = frame.enter(word) else {
-            return false;
-        };
-        let rest = frame.rest(word);
-        i += 1;
-        if inside.is_filled() {
-            frame = rest;
-            continue;
-        }
-        frame = inside;
-        if !rest.is_filled() {
-            // Each frame that waits was opened by a word and has one to come: no term has words for more frames.
-            if top == Frame::ROOM {
-                return false;
-            }
-            stack[top] = rest.0;
-            top += 1;
-        }
-    }
-    if top == 0 {
-        return frame.is_filled();
-    }
-    false
 }
 
 // Zeros from a position to the end.

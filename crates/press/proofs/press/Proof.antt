@@ -6,7 +6,7 @@ use lib.ListN.{length}
 use borrow.Author.Needs.{needs}
 use borrow.Author.Tests.{not-true, not-false}
 use Rattle.calculus.specs.Workspace.{sized}
-use Rattle.words.specs.IsTerm.{isTerm}
+use Rattle.terms.specs.IsTerm.{isTerm}
 use Rattle.press.specs.State.{affordable}
 use Rattle.press.specs.Answer.{Memory, Call}
 use Rattle.press.specs.Types.{memoryOf, callOf}

@@ -19,8 +19,8 @@ use Rattle.calculus.specs.Workspace.{termAt}
 use Rattle.calculus.proofs.WordLaws.{accepted-scoped, accepted-packable}
 use Rattle.calculus.proofs.ReadLaws.{words-injective}
 use Rattle.calculus.proofs.WorkspaceLaws.{termAt-words}
-use Rattle.words.specs.IsTerm.{isTerm}
-use Rattle.words.proofs.IsTerm.{isTerm-some, isTerm-none}
+use Rattle.terms.specs.IsTerm.{isTerm}
+use Rattle.terms.proofs.IsTerm.{isTerm-some, isTerm-none}
 use Rattle.records.specs.Records.{Table, OfKind}
 use Rattle.tables.specs.Meaning.{Means, plain, case-of, no-term, a-term, no-branch, a-branch}
 use Rattle.records.specs.Values.{isTag, valueFits}

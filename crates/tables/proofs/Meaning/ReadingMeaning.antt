@@ -9,7 +9,7 @@ use lib.Seq.{sets-eq}
 use Rattle.calculus.specs.Term.{Sort, term, terms, branches, Exp, count}
 use Rattle.calculus.specs.Words.{caseKind, word, words, size, workspaceMost}
 use Rattle.calculus.proofs.WordLaws.{pack-of-parts}
-use Rattle.words.specs.IsTerm.{isTerm}
+use Rattle.terms.specs.IsTerm.{isTerm}
 use Rattle.words.specs.Placed.{Placed}
 use Rattle.words.proofs.PlacedLaws.{placed-length}
 use Rattle.records.specs.Records.{Table, Stored, view}

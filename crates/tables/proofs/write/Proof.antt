@@ -11,7 +11,7 @@ use borrow.Author.Tests.{ne-eqb, not-true, not-false}
 use Rattle.calculus.specs.Term.{Term}
 use Rattle.calculus.specs.Words.{workspaceMost}
 use Rattle.calculus.specs.Workspace.{termAt}
-use Rattle.words.proofs.IsTerm.{isTerm-some, isTerm-none}
+use Rattle.terms.proofs.IsTerm.{isTerm-some, isTerm-none}
 use Rattle.records.specs.Header.{wrongWorkspace}
 use Rattle.tables.specs.Write.{write}
 use Rattle.tables.proofs.Meaning.Held.{held}

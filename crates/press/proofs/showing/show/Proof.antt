@@ -8,7 +8,7 @@ use lib.Seq.{length-take-le}
 use borrow.Author.Needs.{needs}
 use borrow.Author.Tests.{not-true, not-false}
 use Rattle.calculus.specs.Workspace.{sized}
-use Rattle.words.specs.IsTerm.{isTerm}
+use Rattle.terms.specs.IsTerm.{isTerm}
 use Rattle.press.specs.Showing.{Part, partOf}
 use Rattle.press.proofs.ShowingLaws.{shows-nothing, shows-no-left, shows-no-right, left-fits, right-fits, shows-right, shows-left}
 use Rattle.press.proofs.showing.show.Statement.{statement}

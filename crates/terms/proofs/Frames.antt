@@ -1,0 +1,45 @@
+-- What a frame allows and what it leaves, by the tests that the code makes; and a bound on the binders of a word.
+use Prim.Native.Nat.{ℕ, zero, suc, _-_, _≤_, _<_}
+use mathlib.Core.Path.{_≡_, refl, ap}
+use mathlib.Core.Bool.{Bool, true, false, cond}
+use native.Mathlib.Omega.{arith}
+use lib.Dec.{eqb}
+use Rattle.calculus.specs.Words.{abstractionKind, branchKind, tagOf, countOf}
+use Rattle.calculus.specs.Accepted.{argumentLimit}
+use Rattle.words.specs.Bound.{binding}
+use Rattle.terms.specs.Frames.{frame, startsTerm, startsBranch, allowedBy, restBy}
+
+pub binding-bounded : (k p : ℕ) → binding k p ≤ argumentLimit
+unfolding binding
+binding-bounded k p = go (eqb k abstractionKind) (eqb k branchKind)
+  where
+    go : (a b : Bool) → cond a 1 (cond b (countOf p) 0) ≤ argumentLimit
+    go true b = omega arith
+    go false true = omega arith
+    go false false = omega arith
+
+-- Terms are to come.
+pub allowed-term : (n b d t k p : ℕ) → 0 < n → allowedBy n b d t k p ≡ startsTerm d k p
+allowed-term zero b d t k p h = absurd (omega arith)
+allowed-term (suc n) b d t k p h = refl
+
+pub rest-term : (n b d t p : ℕ) → 0 < n → restBy n b d t p ≡ frame (n - 1) b d t
+rest-term zero b d t p h = absurd (omega arith)
+rest-term (suc n) b d t p h = ap (λ m. frame m b d t) (omega arith)
+
+-- Only branches are to come.
+pub allowed-branch : (n b d t k p : ℕ) → n ≤ 0 → 0 < b → allowedBy n b d t k p ≡ startsBranch t k p
+allowed-branch zero zero d t k p h g = absurd (omega arith)
+allowed-branch zero (suc b) d t k p h g = refl
+allowed-branch (suc n) b d t k p h g = absurd (omega arith)
+
+pub rest-branch : (n b d t p : ℕ) → n ≤ 0 → 0 < b → restBy n b d t p ≡ frame 0 (b - 1) d (tagOf p)
+rest-branch zero zero d t p h g = absurd (omega arith)
+rest-branch zero (suc b) d t p h g = ap (λ m. frame 0 m d (tagOf p)) (omega arith)
+rest-branch (suc n) b d t p h g = absurd (omega arith)
+
+-- Nothing is to come.
+pub allowed-none : (n b d t k p : ℕ) → n ≤ 0 → b ≤ 0 → allowedBy n b d t k p ≡ false
+allowed-none zero zero d t k p h g = refl
+allowed-none zero (suc b) d t k p h g = absurd (omega arith)
+allowed-none (suc n) b d t k p h g = absurd (omega arith)

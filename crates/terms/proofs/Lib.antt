@@ -1,0 +1,5 @@
+pub mod Frames
+pub mod Packed
+pub mod Scan
+pub mod Stack
+pub mod IsTerm
