@@ -17,7 +17,7 @@ use Rattle.calculus.specs.Workspace.{sized, termAt, padded}
 use Rattle.calculus.specs.Refusal.{WrongWorkspace, OverBudget, NoTerm}
 use Rattle.calculus.specs.Rounds.{Outcome, Shown, rounds}
 use Rattle.calculus.proofs.WorkspaceLaws.{sized-most, sized-equal, first-equal, others-equal}
-use Rattle.step.specs.Held.{held, Holds}
+use Rattle.redex.specs.Held.{held, Holds}
 use Rattle.rounds.specs.Run.{Ready, Ran}
 use Rattle.terms.specs.IsTerm.{isTerm}
 use Rattle.press.specs.State.{Session}

@@ -3,7 +3,7 @@ ghost use mathlib.Core.Path.{_≡_};
 ghost use Prim.Native.Nat.{_+_, _≤_};
 ghost use lib.ListN.{length};
 ghost use Rattle.calculus.specs.Rounds.{rounds};
-ghost use Rattle.step.specs.Held.{held};
+ghost use Rattle.redex.specs.Held.{held};
 ghost use Rattle.rounds.specs.Run.{Ready};
 ghost use Rattle.press.specs.State.{totalLimit};
 ghost use Rattle.press.specs.Press.{press, conclude};

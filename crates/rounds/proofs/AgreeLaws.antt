@@ -21,8 +21,8 @@ use Rattle.calculus.proofs.Indices.{indices-bounded}
 use Rattle.calculus.proofs.PositionLaws.{contract-at-position}
 use Rattle.calculus.proofs.FirstLaws.{span-items}
 use Rattle.calculus.proofs.Focus.{Focus, focus}
-use Rattle.step.specs.Held.{held}
-use Rattle.step.proofs.HeldLaws.{Start, termAt-start}
+use Rattle.redex.specs.Held.{held}
+use Rattle.redex.proofs.HeldLaws.{Start, termAt-start}
 use Rattle.rounds.specs.Compare.{Agrees}
 use Rattle.calculus.specs.Rounds.{next}
 use Rattle.rounds.specs.Turn.{Plan, contract}

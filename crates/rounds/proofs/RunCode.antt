@@ -8,18 +8,19 @@ use lib.ListN.{drop}
 use Rattle.calculus.specs.Words.{words, size}
 use Rattle.calculus.specs.Position.{redexAt}
 use Rattle.calculus.specs.Rounds.{next}
-use Rattle.step.specs.declared.Redex.{Redex}
-use Rattle.step.specs.declared.Plan as code
-use Rattle.step.specs.declared.Plan.the-variants as plan
-use Rattle.step.specs.Held.{held, Holds}
-use Rattle.step.specs.Search.{Searched}
-use Rattle.step.specs.Plan as step
-use Rattle.step.specs.Next as stepNext
+use Rattle.redex.specs.declared.Redex.{Redex}
+use Rattle.search.specs.declared.Plan as code
+use Rattle.search.specs.declared.Plan.the-variants as plan
+use Rattle.redex.specs.Held.{held, Holds}
+use Rattle.search.specs.Search.{Searched}
+use Rattle.search.specs.Search as search
+use Rattle.step.specs.Contract as step
+use Rattle.redex.specs.Next as stepNext
 use Rattle.rounds.specs.Turn.{Plan, normal, contract, planAt, planned}
 use Rattle.rounds.specs.Types.{planOf}
 use Rattle.rounds.specs.Resume.{resumeAt}
 use Rattle.rounds.specs.Advance.{Advances, scratchAfter, Advanced}
-use Rattle.step.proofs.HeldLaws.{next-term, Start, termAt-start}
+use Rattle.redex.proofs.HeldLaws.{next-term, Start, termAt-start}
 use Rattle.rounds.proofs.TurnLaws.{Planned, is-normal, contracts, planned-tells, next-is, next-normal}
 
 -- The search may start at the first word.
@@ -38,7 +39,7 @@ module _ (ws : List ℕ) (n : ℕ) where
           rw same (next-term ws n q u c ∙ sym (next-is (held ws n) l))
 
   -- What the search found is the plan of the definition.
-  pub plan-is : (todo : code.Plan) → step.Planned ws n todo → planOf todo ≡ planned (held ws n)
+  pub plan-is : (todo : code.Plan) → search.Planned ws n todo → planOf todo ≡ planned (held ws n)
   plan-is plan.Normal e = sym (ap (planAt (held ws n)) e)
   plan-is (plan.Contract r) p =
       ap (contract (r .at)) (p .1 .length-is ∙ ap size (plan-next (p .0))) ∙ sym (ap (planAt (held ws n)) (p .0))
@@ -70,7 +71,7 @@ module _ {ws scratch room : List ℕ} {n : ℕ} {todo : code.Plan} (h : Advances
       by (contracts p u r c l) f = absurd (Option·some-ne-none p (ap contracts-at f))
 
   module _ {r : Redex} (e : todo ≡ plan.Contract r) where
-    found : step.Planned ws n (plan.Contract r)
+    found : search.Planned ws n (plan.Contract r)
     found = rw e at (h .plan)
 
     to : stepNext.next ws n (r .at) ≡ next (held ws n)

@@ -21,10 +21,10 @@ use Rattle.calculus.proofs.PositionLaws.{redex-first}
 use Rattle.calculus.proofs.ResumeLaws.{none-before, none-anywhere}
 use Rattle.calculus.proofs.AcceptedLaws.{leftmost-keeps-accepted}
 use Rattle.calculus.proofs.WorkspaceLaws.{termAt-words}
-use Rattle.step.specs.Held.{held, Holds}
-use Rattle.step.specs.declared.Plan as code
-use Rattle.step.specs.Plan as step
-use Rattle.step.specs.Search.{Searched}
+use Rattle.redex.specs.Held.{held, Holds}
+use Rattle.search.specs.declared.Plan as code
+use Rattle.search.specs.Search as search
+use Rattle.search.specs.Search.{Searched}
 use Rattle.rounds.specs.Compare.{common, Agrees, Compares}
 use Rattle.rounds.specs.Turn.{Plan, lengthIn, planned}
 use Rattle.rounds.specs.Resume.{resumeAt, agreeAfter, Agreeing}
@@ -32,7 +32,7 @@ use Rattle.rounds.specs.Advance.{Advances, Advanced}
 use Rattle.rounds.specs.Run.{Ready, Ran}
 use Rattle.rounds.proofs.CompareLaws.{agrees-none, common-agrees, common-whole, common-equal}
 use Rattle.words.proofs.RoomLaws.{room-of-length}
-use Rattle.step.proofs.HeldLaws.{held-term, holds-term, Start, termAt-start}
+use Rattle.redex.proofs.HeldLaws.{held-term, holds-term, Start, termAt-start}
 use Rattle.rounds.proofs.AgreeLaws.{agree-after}
 use Rattle.rounds.proofs.RunCode.{searched}
 use Rattle.calculus.proofs.RoundsLaws.{Goes, goes-on, goes-wider, Moves, here, further, rounds-end, rounds-go, walk-fits, after-zero, after-after}
@@ -200,7 +200,7 @@ module _ {left₀ right₀ scratch₀ : List ℕ} {l r budget : ℕ} {left right
         let rn : size (held right n) ≤ length left₀ = omega (arith, begins (g .ready .right-holds) .long, right-fits, g .left-kept, g .ready .right-length) in
         (omega (arith, f .0 lm, g .left-kept), omega (arith, f .1 rn, g .left-kept))
 
-    pub left-advances : {a : code.Plan} {scratch₁ : List ℕ} → length scratch₁ ≡ length scratch → step.Planned left m a → Advances left m a scratch₁ room
+    pub left-advances : {a : code.Plan} {scratch₁ : List ℕ} → length scratch₁ ≡ length scratch → search.Planned left m a → Advances left m a scratch₁ room
     left-advances kept e =
         record {
           holds = g .ready .left-holds;
@@ -212,7 +212,7 @@ module _ {left₀ right₀ scratch₀ : List ℕ} {l r budget : ℕ} {left right
 
     module _ {left′ scratch₁ scratch′ : List ℕ} {m′ i′ : ℕ} {a : code.Plan} (lk : length left′ ≡ length left) (sk : length scratch′ ≡ length scratch)
         (la : Advanced left m a scratch₁ m′ i′ left′ scratch′) where
-      pub right-advances : {b : code.Plan} {room′ : List ℕ} → 2 * length room′ ≡ workspaceMost → step.Planned right n b → Advances right n b scratch′ room′
+      pub right-advances : {b : code.Plan} {room′ : List ℕ} → 2 * length room′ ≡ workspaceMost → search.Planned right n b → Advances right n b scratch′ room′
       right-advances room-length e =
           record {
             holds = g .ready .right-holds;

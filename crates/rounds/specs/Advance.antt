@@ -6,10 +6,11 @@ use lib.ListN.{length, drop}
 use lib.Seq.{sets}
 use Rattle.calculus.specs.Words.{workspaceMost, words, size}
 use Rattle.calculus.specs.Rounds.{next}
-use Rattle.step.specs.declared.Plan.{Plan}
-use Rattle.step.specs.declared.Plan.the-variants.{Normal, Contract}
-use Rattle.step.specs.Held.{held, Holds}
-use Rattle.step.specs.Plan.{Planned, contractum}
+use Rattle.search.specs.declared.Plan.{Plan}
+use Rattle.search.specs.declared.Plan.the-variants.{Normal, Contract}
+use Rattle.redex.specs.Held.{held, Holds}
+use Rattle.redex.specs.Plan.{contractum}
+use Rattle.search.specs.Search.{Planned}
 use Rattle.rounds.specs.Turn.{planned}
 use Rattle.rounds.specs.Resume.{resumeAt}
 

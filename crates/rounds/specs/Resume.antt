@@ -6,7 +6,7 @@ use mathlib.Core.List.{List}
 use lib.Dec.{eqb, leb}
 use lib.ListN.{drop}
 use Rattle.calculus.specs.Skip.{span}
-use Rattle.step.specs.Held.{held, Holds}
+use Rattle.redex.specs.Held.{held, Holds}
 use Rattle.rounds.specs.Turn.{Plan, normal, contract, planned}
 
 -- From where the search goes on, on a side with a next term of `wordCount` words: no redex starts before.

@@ -6,7 +6,7 @@ use lib.ListN.{length}
 use Rattle.calculus.specs.Words.{words}
 use Rattle.calculus.specs.Rounds.{Outcome, Shown, shows}
 use Rattle.words.specs.Room.{Room}
-use Rattle.step.specs.Held.{Holds}
+use Rattle.redex.specs.Held.{Holds}
 
 -- Both workspaces hold terms, and the three lengths are equal.
 pub record Ready (left right scratch : List ℕ) (leftLength rightLength : ℕ) : Type 0 where

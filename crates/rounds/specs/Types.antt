@@ -1,7 +1,7 @@
 -- What the code's types stand for: the verdict's and the round's enum case by case, what is shown, and what a side would do.
 use Rattle.calculus.specs.Rounds.{Verdict, Same, Different, Budget, Full, Shown, Round, ends, goes}
-use Rattle.step.specs.declared.Plan as codePlan
-use Rattle.step.specs.declared.Plan.the-variants as plan
+use Rattle.search.specs.declared.Plan as codePlan
+use Rattle.search.specs.declared.Plan.the-variants as plan
 use Rattle.rounds.specs.declared.Verdict as code
 use Rattle.rounds.specs.declared.Verdict.the-variants as verdict
 use Rattle.rounds.specs.declared.Shown as codeShown

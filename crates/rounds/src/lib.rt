@@ -3,14 +3,14 @@ ghost use lib.ListN.{length};
 ghost use Rattle.calculus.specs.Rounds.{rounds};
 ghost use Rattle.rounds.specs.Run.{Ready, Ran};
 ghost use Rattle.rounds.specs.Types.{shownOf};
-ghost use Rattle.step.specs.Held.{held};
+ghost use Rattle.redex.specs.Held.{held};
 use crate::compare::agreeing;
 use crate::turn::Round;
 use crate::turn::Side;
 use crate::turn::advance;
 use crate::turn::agreed;
 use crate::turn::judge;
-use step::find;
+use search::find;
 use words::Word;
 
 mod compare;

@@ -11,7 +11,7 @@ ghost use Rattle.rounds.specs.Types.{roundOf, planOf};
 ghost use Rattle.rounds.specs.Advance.{Advances, Advanced};
 use crate::Verdict;
 use crate::compare::least;
-use step::Plan;
+use search::Plan;
 use words::extent;
 
 // A side between two rounds: its term has `length` words, and no redex starts before `from`.

@@ -9,11 +9,12 @@ use Rattle.calculus.specs.Words.{words, size}
 use Rattle.words.specs.Placed.{Placed, Copies}
 use Rattle.words.proofs.PlacedLaws.{sets-append, placed-length, placed-start}
 use Rattle.substitution.specs.Results.{Substitutes}
-use Rattle.step.specs.declared.Body.{Body}
-use Rattle.step.specs.declared.Redex.{Redex}
-use Rattle.step.specs.Next.{next, nextFrom}
-use Rattle.step.specs.Plan.{contractum, Substituting, Puttable, Fits, HasRoom, Contracted}
-use Rattle.step.proofs.NextLaws.{start, next-splits, next-size}
+use Rattle.redex.specs.declared.Body.{Body}
+use Rattle.redex.specs.declared.Redex.{Redex}
+use Rattle.redex.specs.Next.{next, nextFrom}
+use Rattle.redex.specs.Plan.{contractum, Substituting, Puttable}
+use Rattle.redex.proofs.NextLaws.{start, next-splits, next-size}
+use Rattle.step.specs.Contract.{Fits, HasRoom, Contracted}
 use Rattle.step.proofs.TailLaws.{set-sets}
 
 -- A body with its arguments may be substituted.

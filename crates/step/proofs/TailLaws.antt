@@ -7,7 +7,7 @@ use native.Mathlib.Omega.{arith}
 use lib.ListN.{length, getD, set, take, drop, take-append-drop}
 use lib.Seq.{sets, sets-eq, length-sets, slice, length-slice, slice-empty, slice-cons, set-comm, getD-drop, getD-take, drop-drop, drop-set-lt, take-set-le, take-take}
 use Rattle.words.specs.Placed.{Copies}
-use Rattle.words.proofs.PlacedLaws.{Copying, copying-starts, copying-turn}
+use Rattle.words.proofs.PlacedLaws.{taken-less, Copying, copying-starts, copying-turn}
 
 -- Down: from i on the slice is still as it was.
 pub record Lowering (ws : List ℕ) (from to out : ℕ) (now : List ℕ) (i o : ℕ) : Type 0 where
@@ -35,10 +35,6 @@ lowering-turn {ws} {now = now} {i} {o} v l =
       behind = omega (arith, v .behind);
       kept = drop-set-lt (i + 1) now o (getD ws i 0) (omega (arith, v .behind)) ∙ dropped-more ws now i (v .kept);
     })
-
--- Where two slices start with the same words, they do with fewer of them.
-pub taken-less : (xs ys : List ℕ) (j i : ℕ) → j ≤ i → take i xs ≡ take i ys → take j xs ≡ take j ys
-taken-less xs ys j i l e = sym (take-take j i xs l) ∙ ap (take j) e ∙ take-take j i ys l
 
 -- Up: the last words stand where they come, and before the first of them the slice is still as it was.
 pub record Raising (ws : List ℕ) (from to out : ℕ) (now : List ℕ) (left : ℕ) : Type 0 where

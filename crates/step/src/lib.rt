@@ -1,73 +1,16 @@
-// One contraction of the term in a workspace: the plan of the leftmost redex's contraction, with the length of the next term, and the contraction.
-mod ends;
-mod rules;
+// One contraction of the term in a workspace, as it was planned.
 mod tail;
 
-use ends::fill_ends;
-use rules::Seen;
-use rules::plan_at;
+use redex::Body;
+use redex::Redex;
+use redex::Rule;
 use substitution::substitute;
 use tail::move_words;
 use words::slices::copy;
-ghost use Prim.Native.Nat.{_≤_};
-ghost use lib.ListN.{length};
 ghost use Rattle.words.specs.Placed.{Placed};
 ghost use Rattle.words.specs.Room.{Room};
-ghost use Rattle.step.specs.Search.{Searched};
-ghost use Rattle.step.specs.Plan.{substitutedWords, putBy, Substituting, Puttable, Fits, Planned, HasRoom, Contracted};
-
-// A body that arguments are put into: where it starts and the word that its rewriting stops at, the arguments up to `after` (which means nothing where
-// none is put for a word before `stop`) and their number.
-pub struct Body {
-    pub start: usize,
-    pub stop: usize,
-    pub args: usize,
-    pub after: usize,
-    pub count: usize,
-}
-
-// The rule by which a redex contracts, with what it puts: a body with its arguments, or the entry of a numeral.
-pub enum Rule {
-    Beta(Body),
-    Case(Body),
-    Numeral(u32),
-}
-
-// A redex found once: its rule, where it starts, where the words start that stay behind the contractum, and the length of the next term.
-pub struct Redex {
-    pub rule: Rule,
-    pub at: usize,
-    pub end: usize,
-    pub length: usize,
-}
-
-// What a term does next: nothing where it is normal, or the contraction of its leftmost redex.
-pub enum Plan {
-    Normal,
-    Contract(Redex),
-}
-
-// The plan for the term, which has no redex before `from`. Nothing is written but the scratch: while the search goes on it is the table of ends, which
-// are known before `known`, and then the room of the walks over the redex. Its words mean nothing afterwards.
-pub fn find(ws: &[u32], n: usize, from: usize, scratch: &mut [u32]) -> Plan
-    requires { ⌜ Searched (now ws) n from × (n ≤ length (now scratch)) ⌝ }
-    ensures { λ r. ⌜ Planned (now (ws .entry)) n r ⌝ }
-    ensures { λ r. ⌜ Room (now (scratch .entry)) (now (scratch .exit)) ⌝ }
-{
-    let mut i = from;
-    let mut known: usize = 0;
-    while i < n {
-        match plan_at(ws, n, i, known, scratch) {
-            Seen::Redex(redex) => return Plan::Contract(redex),
-            Seen::Stuck => {
-                known = fill_ends(ws, i, scratch);
-                i += 1;
-            }
-            Seen::Nothing => i += 1,
-        }
-    }
-    Plan::Normal
-}
+ghost use Rattle.redex.specs.Plan.{substitutedWords, putBy, Substituting, Puttable};
+ghost use Rattle.step.specs.Contract.{Fits, HasRoom, Contracted};
 
 // Puts a body with its arguments at the start of the scratch, and returns the number of words.
 fn put_body(ws: &[u32], body: Body, scratch: &mut [u32], room: &mut [u32]) -> usize

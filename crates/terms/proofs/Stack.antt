@@ -13,7 +13,7 @@ use lib.Seq.{getD-set-same, getD-set-other, slice, slice-cons, slice-empty, leng
 use Rattle.calculus.specs.Words.{kindOf, payloadOf, workspaceMost}
 use Rattle.calculus.specs.Accepted.{argumentLimit}
 use Rattle.words.proofs.TestLaws.{both}
-use Rattle.terms.specs.Frames.{Frame, frame, isFilled, insideBy, inside, allowed, restBy, rest, entered}
+use Rattle.terms.specs.Frames.{Frame, isFilled, insideBy, inside, allowed, restBy, rest, entered}
 use Rattle.terms.specs.Packed.{unpacked}
 use Rattle.terms.proofs.Frames.{binding-bounded}
 use Rattle.terms.proofs.Scan.{pushBy, push, after, scan, whole}

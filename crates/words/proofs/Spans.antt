@@ -1,15 +1,16 @@
--- The walk of `extent` over the words: one turn of `span`, its ends, and a bound on how many items a word can add.
+-- The walk of `extent` over the words: one turn of `span`, its ends, several items by the first, and a bound on how many items a word can add.
 use Prim.Native.Nat.{ℕ, zero, suc, _+_, _-_, _≤_, _<_, _^_}
-use mathlib.Core.Path.{_≡_, refl}
+use mathlib.Core.Path.{_≡_, refl, ap}
 use mathlib.Core.Bool.{Bool, true, false, cond}
 use mathlib.Core.List.{List}
 use native.Mathlib.Numerals.{add-one}
 use native.Mathlib.Omega.{arith}
 use lib.Dec.{eqb}
 use lib.ListN.{length, getD, drop, drop-of-length-le}
-use lib.Seq.{drop-cons}
+use lib.Seq.{drop-cons, drop-drop}
 use Rattle.calculus.specs.Words.{abstractionKind, applicationKind, constructorKind, caseKind, branchKind, kindOf, payloadOf, countOf}
 use Rattle.calculus.specs.Skip.{following, arity, span}
+use Rattle.calculus.proofs.SkipLaws.{span-add}
 use Rattle.words.specs.Limits.{payloadBound}
 
 pub arity-bounded : (w : ℕ) → w < 2 ^ 32 → arity w ≤ payloadBound
@@ -35,3 +36,16 @@ span-step ws i (suc k) h n =
 
 pub span-past : (ws : List ℕ) (i k : ℕ) → length ws ≤ i → span k (drop i ws) ≡ 0
 span-past ws i k h = rw (drop-of-length-le ws h)
+
+-- Some items end where those behind the first do.
+pub span-first : (ws : List ℕ) (i k : ℕ) {j : ℕ} → j ≡ i + span 1 (drop i ws) → j + span k (drop j ws) ≡ i + span (suc k) (drop i ws)
+span-first ws i k e =
+    let one : 1 + k ≡ suc k = omega arith in
+    omega (
+      arith,
+      e,
+      ap (λ m. span m (drop i ws)) one,
+      span-add (drop i ws) 1 k,
+      ap (span k) (drop-drop (span 1 (drop i ws)) i ws),
+      ap (λ m. span k (drop m ws)) e,
+    )

@@ -3,7 +3,7 @@ use mathlib.Core.Path.{_∙_}
 use lib.ListN.{length}
 use borrow.Author.Needs.{needs}
 use Rattle.calculus.specs.Rounds.{rounds}
-use Rattle.step.specs.Held.{held}
+use Rattle.redex.specs.Held.{held}
 use Rattle.press.specs.Types.{sessionOf}
 use Rattle.press.proofs.PressCode.{ran-left-fits, ran-right-fits, ran-concludes}
 use Rattle.press.proofs.press_terms.Statement.{statement}

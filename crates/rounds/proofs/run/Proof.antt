@@ -6,7 +6,7 @@ use native.Mathlib.Omega.{arith}
 use lib.ListN.{length, take}
 use borrow.Author.Needs.{needs}
 use Rattle.calculus.specs.Rounds.{Round, goes, same, roundBy}
-use Rattle.step.specs.Held.{held}
+use Rattle.redex.specs.Held.{held}
 use Rattle.rounds.specs.Compare.{common}
 use Rattle.rounds.specs.Turn.{planned}
 use Rattle.rounds.specs.Types.{planOf, roundOf}

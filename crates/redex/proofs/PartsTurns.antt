@@ -1,0 +1,150 @@
+-- The parts of a redex, by the words at a position of a workspace: what each turn and each branch of the code finds.
+use Prim.Native.Nat.{ℕ, zero, suc, _+_, _-_, _≤_, _<_}
+use mathlib.Core.Path.{_≡_, refl, sym, _∙_, ap}
+use mathlib.Core.Bool.{Bool, true, false, cond}
+use mathlib.Core.List.{List, [], _∷_}
+use native.Mathlib.Nat.{add-zero}
+use native.Mathlib.Numerals.{add-one}
+use native.Mathlib.Omega.{arith}
+use lib.Dec.{eqb}
+use borrow.Author.Tests.{eq-eqb, ne-eqb}
+use lib.ListN.{length, getD, drop, drop-of-length-le, List·getD-eq-default}
+use lib.Seq.{drop-cons, drop-drop, getD-drop}
+use Rattle.calculus.specs.Words.{variableKind, abstractionKind, applicationKind, constructorKind, caseKind, numeralKind, kindOf, payloadOf, tagOf, countOf}
+use Rattle.calculus.specs.Skip.{skip, span}
+use Rattle.calculus.specs.Contraction.{by-beta}
+use Rattle.calculus.proofs.SkipLaws.{skip-drop}
+use Rattle.redex.specs.declared.Found.{Found}
+use Rattle.redex.specs.declared.Found.the-variants as found
+use Rattle.redex.specs.Rules.{nothing, parted, numbered, branchBody, withBody, caseParts, partsBehind, parts}
+
+pub branchBody-none : (t n i : ℕ) (ws : List ℕ) → branchBody zero t n i ws ≡ found.Nothing
+unfolding branchBody
+branchBody-none t n i ws = refl
+
+pub branchBody-past : (k t n i : ℕ) (ws : List ℕ) → length ws ≤ i → branchBody k t n i (drop i ws) ≡ found.Nothing
+unfolding branchBody
+branchBody-past zero t n i ws h = refl
+branchBody-past (suc k) t n i ws h = rw (drop-of-length-le ws h)
+
+-- The branch at i, or those behind it.
+branchBody-step : (k t n i : ℕ) (ws : List ℕ) → i < length ws → (k ≡ 0 → ⊥)
+    → branchBody k t n i (drop i ws)
+    ≡ cond (eqb t (tagOf (payloadOf (getD ws i 0))))
+    (cond (eqb n (countOf (payloadOf (getD ws i 0)))) (found.At (i + 1) (k - 1)) found.Nothing)
+    (branchBody (k - 1) t n (i + 1 + span 1 (drop (i + 1) ws)) (drop (i + 1 + span 1 (drop (i + 1) ws)) ws))
+unfolding branchBody
+branchBody-step zero t n i ws h z = absurd (z refl)
+branchBody-step (suc k) t n i ws h z =
+    let e : suc k - 1 ≡ k = omega arith in
+    rw (drop-cons ws i 0 h, e, ← drop-drop (span 1 (drop (i + 1) ws)) (i + 1) ws, ← skip-drop 1 (drop (i + 1) ws), add-one i)
+
+-- The branch at i has the tag and binds n variables, or another number; or it has another tag.
+module _ (k t n i : ℕ) (ws : List ℕ) (within : i < length ws) (left : k ≡ 0 → ⊥) where
+  pub branchBody-fits : t ≡ tagOf (payloadOf (getD ws i 0)) → n ≡ countOf (payloadOf (getD ws i 0)) → branchBody k t n i (drop i ws) ≡ found.At (i + 1) (k - 1)
+  branchBody-fits p q = branchBody-step k t n i ws within left ∙ rw (eq-eqb _ _ p, eq-eqb _ _ q)
+
+  pub branchBody-other : t ≡ tagOf (payloadOf (getD ws i 0)) → (n ≡ countOf (payloadOf (getD ws i 0)) → ⊥) → branchBody k t n i (drop i ws) ≡ found.Nothing
+  branchBody-other p q = branchBody-step k t n i ws within left ∙ rw (eq-eqb _ _ p, ne-eqb _ _ q)
+
+  pub branchBody-later : (t ≡ tagOf (payloadOf (getD ws i 0)) → ⊥) → {j : ℕ} → j ≡ i + 1 + span 1 (drop (i + 1) ws) → branchBody k t n i (drop i ws) ≡ branchBody (k - 1) t n j (drop j ws)
+  branchBody-later p q = branchBody-step k t n i ws within left ∙ rw (ne-eqb _ _ p, q)
+
+-- Fewer branches than all are behind the one that was found.
+data Behind (k : ℕ) : Found → Type 0 where
+  absent : Behind k found.Nothing
+  fewer : {b left : ℕ} → left < k → Behind k (found.At b left)
+
+behind-cond : {k : ℕ} (c : Bool) {r x : Found} → Behind k r → Behind k x → Behind k (cond c r x)
+behind-cond true r x = r
+behind-cond false r x = x
+
+behind-more : {k : ℕ} {r : Found} → Behind k r → Behind (suc k) r
+behind-more absent = absent
+behind-more (fewer {left = left} l) = fewer {left = left} (omega arith)
+
+branchBody-behind : (k t n i : ℕ) (ws : List ℕ) → Behind k (branchBody k t n i ws)
+unfolding branchBody
+branchBody-behind zero t n i ws = absent
+branchBody-behind (suc k) t n i [] = absent
+branchBody-behind (suc k) t n i (w ∷ ws) =
+    behind-cond (eqb t (tagOf (payloadOf w))) (behind-cond (eqb n (countOf (payloadOf w))) (fewer (omega arith)) absent) (behind-more (branchBody-behind k t n (i + 1 + span 1 ws) (skip 1 ws)))
+
+pub branchBody-left : (k t n i : ℕ) (ws : List ℕ) {b left : ℕ} → found.At b left ≡ branchBody k t n i ws → left < k
+branchBody-left k t n i ws e = go (rw (← e) at (branchBody-behind k t n i ws))
+  where
+    go : {b left : ℕ} → Behind k (found.At b left) → left < k
+    go (fewer l) = l
+
+-- The words from a position on, by the first, and by the first two.
+pub first-word : (i : ℕ) (ws : List ℕ) (j : ℕ) → i < length ws → j ≡ i + 1 → drop i ws ≡ getD ws i 0 ∷ drop j ws
+first-word i ws j h e = rw (e, add-one) (drop-cons ws i 0 h)
+
+pub first-two : (i : ℕ) (ws : List ℕ) → i + 1 < length ws → drop i ws ≡ getD ws i 0 ∷ getD ws (i + 1) 0 ∷ drop (i + 2) ws
+first-two i ws h = first-word i ws (i + 1) (omega arith) refl ∙ ap (_∷_ (getD ws i 0)) (first-word (i + 1) ws (i + 2) h (omega arith))
+
+-- A case of a constructor, by what its words and the search among its branches say.
+pub caseParts-found : (i w v : ℕ) (ws : List ℕ) {p t n j : ℕ} {r x : Found}
+    → p ≡ payloadOf w → t ≡ tagOf (payloadOf v) → n ≡ countOf (payloadOf v) → j ≡ i + 1 + span 1 (drop (i + 1) ws)
+    → r ≡ branchBody p t n j (drop j ws) → r ≡ x → caseParts i w v (drop (i + 1) ws) ≡ withBody (i + 2) n x
+unfolding caseParts
+caseParts-found i w v ws e₁ e₂ e₃ e₄ e₅ e₆ =
+    rw (← e₆, e₅, e₁, e₂, e₃, e₄, ← drop-drop (span 1 (drop (i + 1) ws)) (i + 1) ws, ← skip-drop 1 (drop (i + 1) ws))
+
+-- A numeral needs no word behind it.
+pub parts-numeral : (i : ℕ) (ws : List ℕ) → i < length ws → kindOf (getD ws i 0) ≡ numeralKind → parts i (drop i ws) ≡ numbered (payloadOf (getD ws i 0))
+unfolding parts
+parts-numeral i ws h k = rw (drop-cons ws i 0 h, k)
+
+-- The last word has none behind it.
+pub kind-last : (i : ℕ) (ws : List ℕ) → length ws ≤ i + 1 → kindOf (getD ws (i + 1) 0) ≡ variableKind
+kind-last i ws l = rw (List·getD-eq-default ws 0 {n = i + 1} l)
+
+pub kind-behind : (i k : ℕ) (ws : List ℕ) → kindOf (getD ws (i + 1) 0) ≡ k → 0 < k → i + 1 < length ws
+kind-behind i k ws e h = let none : ¬ (length ws ≤ i + 1) = λ l. omega (arith, kind-last i ws l) in omega arith
+
+-- By the first word and those behind it: what is no application of an abstraction, what is no case of a constructor, and other words.
+behind-applied : (i w : ℕ) (vs : List ℕ) → kindOf w ≡ applicationKind → (kindOf (getD vs 0 0) ≡ abstractionKind → ⊥) → partsBehind i w vs ≡ nothing
+unfolding partsBehind
+behind-applied i w [] p q = refl
+behind-applied i w (v ∷ vs) p q = rw (p, ne-eqb _ _ q)
+
+behind-stuck : (i w : ℕ) (vs : List ℕ) → kindOf w ≡ caseKind → (kindOf (getD vs 0 0) ≡ constructorKind → ⊥) → partsBehind i w vs ≡ nothing
+unfolding partsBehind
+behind-stuck i w [] p q = refl
+behind-stuck i w (v ∷ vs) p q = rw (p, ne-eqb _ _ q)
+
+behind-other : (i w : ℕ) (vs : List ℕ) → (kindOf w ≡ applicationKind → ⊥) → (kindOf w ≡ caseKind → ⊥) → partsBehind i w vs ≡ nothing
+unfolding partsBehind
+behind-other i w [] p q = refl
+behind-other i w (v ∷ vs) p q = rw (ne-eqb _ _ p, ne-eqb _ _ q)
+
+module _ (i : ℕ) (ws : List ℕ) (within : i < length ws) where
+  parts-first : (kindOf (getD ws i 0) ≡ numeralKind → ⊥) → parts i (drop i ws) ≡ partsBehind i (getD ws i 0) (drop (i + 1) ws)
+  unfolding parts
+  parts-first m = rw (first-word i ws (i + 1) within refl, ne-eqb _ _ m)
+
+  next-word : getD (drop (i + 1) ws) 0 0 ≡ getD ws (i + 1) 0
+  next-word = getD-drop (i + 1) ws 0 0 ∙ ap (λ k. getD ws k 0) (add-zero (i + 1))
+
+  pub parts-applied : kindOf (getD ws i 0) ≡ applicationKind → (kindOf (getD ws (i + 1) 0) ≡ abstractionKind → ⊥) → parts i (drop i ws) ≡ nothing
+  parts-applied p q = parts-first (λ e. omega arith) ∙ behind-applied i _ (drop (i + 1) ws) p (λ e. q (ap kindOf (sym next-word) ∙ e))
+
+  pub parts-stuck : kindOf (getD ws i 0) ≡ caseKind → (kindOf (getD ws (i + 1) 0) ≡ constructorKind → ⊥) → parts i (drop i ws) ≡ nothing
+  parts-stuck p q = parts-first (λ e. omega arith) ∙ behind-stuck i _ (drop (i + 1) ws) p (λ e. q (ap kindOf (sym next-word) ∙ e))
+
+  pub parts-other : (kindOf (getD ws i 0) ≡ applicationKind → ⊥) → (kindOf (getD ws i 0) ≡ caseKind → ⊥) → (kindOf (getD ws i 0) ≡ numeralKind → ⊥)
+      → parts i (drop i ws) ≡ nothing
+  parts-other p q m = parts-first m ∙ behind-other i _ (drop (i + 1) ws) p q
+
+-- The two first words are those of an application of an abstraction, or of a case of a constructor.
+module _ (i : ℕ) (ws : List ℕ) (within : i + 1 < length ws) where
+  pub parts-beta : kindOf (getD ws i 0) ≡ applicationKind → kindOf (getD ws (i + 1) 0) ≡ abstractionKind
+      → parts i (drop i ws) ≡ parted by-beta (i + 2) (i + 2 + span 1 (drop (i + 2) ws)) 1 1
+  unfolding parts partsBehind
+  parts-beta p q = rw (first-two i ws within, p, q)
+
+  pub parts-case : kindOf (getD ws i 0) ≡ caseKind → kindOf (getD ws (i + 1) 0) ≡ constructorKind
+      → parts i (drop i ws) ≡ caseParts i (getD ws i 0) (getD ws (i + 1) 0) (drop (i + 1) ws)
+  unfolding parts partsBehind
+  parts-case p q = rw (first-two i ws within, p, q, first-word (i + 1) ws (i + 2) within (omega arith))
