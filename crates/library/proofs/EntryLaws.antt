@@ -1,7 +1,7 @@
 -- The entries of a table by one test over it, which is computed: each entry is read by the word rules, and what is read is its numeral and closed.
 use Prim.Native.Nat.{ℕ, zero, suc, _+_, _*_, _≤_}
 use mathlib.Core.Path.{_≡_, refl, sym, _∙_, ap, subst}
-use mathlib.Core.Bool.{Bool, true, false, _&&_, false≢true}
+use mathlib.Core.Bool.{Bool, true, false, _&&_, false≢true, and-eq-true-iff}
 use mathlib.Core.List.{List}
 use mathlib.Core.Option.{Option, some, none}
 use native.Mathlib.Decide.{decLt}
@@ -20,7 +20,6 @@ use Rattle.calculus.specs.Equality.{equal?}
 use Rattle.calculus.specs.Numeral.{numeral}
 use Rattle.calculus.specs.Theorems.{closed, Closed}
 use Rattle.calculus.proofs.ReadLaws.{read-sound}
-use Rattle.words.proofs.TestLaws.{both}
 use Rattle.library.specs.Entries.{entryAt, entryEnd, entry, Entry, Entries}
 
 unfoldable pub closed? : (t : Term) → Dec (Closed t)
@@ -55,10 +54,10 @@ upTo (suc n) f = f (suc n) && upTo n f
 
 up-to : (m : ℕ) (f : ℕ → Bool) → upTo m f ≡ true → (n : ℕ) → n ≤ m → f n ≡ true
 up-to zero f e n h = let z : n ≡ zero = omega arith in ap f z ∙ e
-up-to (suc m) f e n h = go (eqb n (suc m)) refl (up-to m f (both (f (suc m)) (upTo m f) e .1) n)
+up-to (suc m) f e n h = go (eqb n (suc m)) refl (up-to m f (and-eq-true-iff (f (suc m)) (upTo m f) .0 e .1) n)
   where
     go : (b : Bool) → eqb n (suc m) ≡ b → (n ≤ m → f n ≡ true) → f n ≡ true
-    go true q below = ap f (eqb-true n (suc m) q) ∙ both (f (suc m)) (upTo m f) e .0
+    go true q below = ap f (eqb-true n (suc m) q) ∙ and-eq-true-iff (f (suc m)) (upTo m f) .0 e .0
     go false q below = below (omega (arith, eqb-false n (suc m) q))
 
 unfoldable pub tested : List ℕ → Bool
@@ -68,14 +67,14 @@ module _ (table : List ℕ) (test : tested table ≡ true) where
   entry-read : (n : ℕ) (o : Option Term) → read (entry table n) ≡ o → isNumeral n o ≡ true → Entry table n
   entry-read n none e q = absurd (false≢true q)
   entry-read n (some t) e q =
-      let h = both _ _ q in
+      let h = and-eq-true-iff _ _ .0 q in
       let same : t ≡ numeral n = held (equal? t (numeral n)) (h .0) in
       record { whole = e ∙ ap some same; closed = subst Closed same (held (closed? t) (h .1)) }
 
   pub entries-tested : Entries table
   unfolding tested
   entries-tested =
-      let t = both _ _ test in
+      let t = and-eq-true-iff _ _ .0 test in
       record {
         length-is = eqb-true _ _ (t .0);
         first-starts = refl;

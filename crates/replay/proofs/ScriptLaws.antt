@@ -1,14 +1,13 @@
 -- What words come to, by the tests in their order.
 use Prim.Native.Nat.{ℕ, zero, suc, _+_, _≤_, _<_}
 use mathlib.Core.Path.{_≡_, refl, _∙_, sym, ap, subst}
-use mathlib.Core.Bool.{Bool, true, false, cond, _&&_}
+use mathlib.Core.Bool.{Bool, true, false, cond, _&&_, and-eq-true-iff}
 use mathlib.Core.List.{List}
 use native.Mathlib.Decide.{decLt}
 use native.Mathlib.Omega.{arith}
 use lib.Dec.{leb, eqb}
 use lib.ListN.{length, getD}
 use borrow.Author.Tests.{le-leb, lt-leb, leb-true, eqb-true}
-use Rattle.words.proofs.TestLaws.{both}
 use Rattle.replay.specs.declared.script.Operands.{Operands}
 use Rattle.replay.specs.declared.script.Operation.{Operation}
 use Rattle.replay.specs.declared.script.Read.{Read}
@@ -61,9 +60,9 @@ module _ (words : List ℕ) (o : Operands) (from : ℕ) where
       let first = leb (o .first) (mostOf n 0) in
       let second = leb (o .second) (mostOf n 1) in
       let third = leb (o .third) (mostOf n 2) in
-      let three = both ((first && second) && third) (leb (o .fourth) (mostOf n 3)) h .0 in
-      let two = both (first && second) third three .0 in
-      (leb-true _ _ (both first second two .0), leb-true _ _ (both first second two .1), leb-true _ _ (both (first && second) third three .1))
+      let three = and-eq-true-iff ((first && second) && third) (leb (o .fourth) (mostOf n 3)) .0 h .0 in
+      let two = and-eq-true-iff (first && second) third .0 three .0 in
+      (leb-true _ _ (and-eq-true-iff first second .0 two .0), leb-true _ _ (and-eq-true-iff first second .0 two .1), leb-true _ _ (and-eq-true-iff (first && second) third .0 three .1))
 
   operation-fits : (n : ℕ) → within n o ≡ true → from + following n o ≤ length words → Fits words (operationOf n o from)
   operation-fits n h inside =

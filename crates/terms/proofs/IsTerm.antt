@@ -1,7 +1,7 @@
 -- What the scan tells of `isTerm`, and what `isTerm` tells of the term in a workspace.
 use Prim.Native.Nat.{ℕ, _≤_, _<_}
 use mathlib.Core.Path.{_≡_, refl, sym}
-use mathlib.Core.Bool.{Bool, true, false, _&&_, false≢true}
+use mathlib.Core.Bool.{Bool, true, false, _&&_, false≢true, and-eq-true-iff}
 use mathlib.Core.List.{List}
 use mathlib.Core.Option.{Option, some, none, Option·elim}
 use native.Mathlib.Omega.{arith}
@@ -11,7 +11,6 @@ use borrow.Author.Tests.{le-leb, lt-leb, leb-false}
 use Rattle.calculus.specs.Term.{Term}
 use Rattle.calculus.specs.Words.{workspaceMost}
 use Rattle.calculus.specs.Workspace.{termAt}
-use Rattle.words.proofs.TestLaws.{both}
 use Rattle.terms.specs.IsTerm.{isTerm}
 use Rattle.terms.proofs.Scan.{scan, whole, scan-exact}
 
@@ -34,7 +33,7 @@ isTerm-scan ws n h g = rw (le-leb n workspaceMost h, le-leb n (length ws) g) (sc
 -- In a workspace `isTerm` tells exactly whether there is a term.
 pub isTerm-some : (ws : List ℕ) (n : ℕ) → isTerm ws n ≡ true → (t : Term) × (termAt ws n ≡ some t)
 unfolding isTerm Option·elim
-isTerm-some ws n q = go (termAt ws n) refl (both (leb n workspaceMost) _ q .1)
+isTerm-some ws n q = go (termAt ws n) refl (and-eq-true-iff (leb n workspaceMost) _ .0 q .1)
   where
     go : (o : Option Term) → termAt ws n ≡ o → Option·elim o false (λ t. true) ≡ true → (t : Term) × (termAt ws n ≡ some t)
     go none e r = absurd (false≢true r)

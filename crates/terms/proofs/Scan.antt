@@ -2,7 +2,7 @@
 -- items off the frames, and words on which the scan succeeds are those of accepted expressions that fill the frames.
 use Prim.Native.Nat.{ℕ, zero, suc, _+_, _≤_, _<_}
 use mathlib.Core.Path.{_≡_, refl, sym, _∙_, ap, subst}
-use mathlib.Core.Bool.{Bool, true, false, cond, _&&_, false≢true}
+use mathlib.Core.Bool.{Bool, true, false, cond, _&&_, false≢true, and-eq-true-iff}
 use mathlib.Core.List.{List, [], _∷_, _++_, append-assoc, append-nil}
 use mathlib.Core.Option.{Option, some, none, Option·elim}
 use native.Mathlib.Nat.{add-zero}
@@ -18,7 +18,6 @@ use Rattle.calculus.specs.Skip.{following}
 use Rattle.calculus.proofs.WordLaws.{kindOf-word, payloadOf-word, word-of-parts, tagOf-pack, countOf-pack, pack-of-parts}
 use Rattle.calculus.proofs.ReadLaws.{read-exact}
 use Rattle.words.specs.Bound.{binding}
-use Rattle.words.proofs.TestLaws.{both}
 use Rattle.terms.specs.Frames.{Frame, frame, insideBy, inside, tagAbove, startsTerm, startsBranch, allowedBy, allowed, restBy, rest}
 
 -- A frame in front of others, left out if nothing is to come in it.
@@ -130,7 +129,7 @@ when-eqb {C} m n {x} {y} f g = go (eqb m n) refl
 pub branch-allowed : (n b d t k p : ℕ) → n ≤ 0 → allowedBy n b d t k p ≡ true → (0 < b) × (tagOf p ≤ tagLimit)
 unfolding startsBranch
 branch-allowed zero zero d t k p h q = absurd (false≢true q)
-branch-allowed zero (suc b) d t k p h q = (omega arith, leb-true _ _ (both (ltb t (tagOf p)) _ (both (eqb k branchKind) (tagAbove t (tagOf p)) q .1) .1))
+branch-allowed zero (suc b) d t k p h q = (omega arith, leb-true _ _ (and-eq-true-iff (ltb t (tagOf p)) _ .0 (and-eq-true-iff (eqb k branchKind) (tagAbove t (tagOf p)) .0 q .1) .1))
 branch-allowed (suc n) b d t k p h q = absurd (omega arith)
 
 -- A word that may start a term starts one, if what follows the word is filled; and so for a branch.
@@ -144,7 +143,7 @@ fill-term k p d P ws =
     (λ e q. rw (e, add-zero)
     (λ h.
     let g = gather-terms (countOf p) d P ws h in
-    let a = both _ _ q in
+    let a = and-eq-true-iff _ _ .0 q in
     (con (tagOf p) (g .0), g .1, (((ltb-true _ _ (a .0), leb-true _ _ (a .1)), omega arith), g .3), cc (pack-of-parts p), g .5)))
     (when-eqb k caseKind
     (λ e q. rw (e, add-zero)
@@ -157,8 +156,8 @@ fill-term k p d P ws =
 fill-branch : (k p n d t : ℕ) (P : List ℕ → Type 0) (ws : List ℕ) → startsBranch t k p ≡ true → FrameThen (insideBy d k p) (BranchesThen n d (tagOf p) P) ws → BranchesThen (suc n) d t P (word k p ∷ ws)
 unfolding insideBy binding startsBranch following
 fill-branch k p n d t P ws q =
-    let a = both _ _ q in
-    let b = both _ _ (a .1) in
+    let a = and-eq-true-iff _ _ .0 q in
+    let b = and-eq-true-iff _ _ .0 (a .1) in
     rw (eqb-true k branchKind (a .0))
     (λ h. (tagOf p, countOf p, h .0, h .1, ltb-true _ _ (b .0), leb-true _ _ (b .1), omega arith, h .2, cc (pack-of-parts p), h .4))
 
@@ -184,7 +183,7 @@ scan-fills [] [] q = refl
 scan-fills [] (f ∷ fs) q = absurd (false≢true q)
 scan-fills (w ∷ ws) [] q = absurd (false≢true q)
 scan-fills (w ∷ ws) (f ∷ fs) q =
-    let a = both _ _ q in
+    let a = and-eq-true-iff _ _ .0 q in
     let h = pushes-fill (inside (f .depth) w) (rest f w) fs ws (scan-fills ws _ (a .1)) in
     rw (← word-of-parts w) (fill (f .terms) (f .branches) (f .depth) (f .tag) _ _ (Fills fs) ws (a .0) h)
 

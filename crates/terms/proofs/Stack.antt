@@ -1,7 +1,7 @@
 -- The scan with its frames packed on a stack: what the loop of `is_term` keeps, and that a turn keeps it.
 use Prim.Native.Nat.{ℕ, zero, suc, _+_, _-_, _*_, _/_, _≤_, _<_}
 use mathlib.Core.Path.{_≡_, refl, sym, _∙_, ap}
-use mathlib.Core.Bool.{Bool, true, false, cond, _&&_, false≢true}
+use mathlib.Core.Bool.{Bool, true, false, cond, _&&_, false≢true, and-eq-true-iff}
 use mathlib.Core.List.{List, [], _∷_}
 use mathlib.Core.Option.{some, none}
 use native.Mathlib.Nat.{le-refl}
@@ -12,7 +12,6 @@ use lib.ListN.{length, getD, take, set, length-set}
 use lib.Seq.{getD-set-same, getD-set-other, slice, slice-cons, slice-empty, length-slice}
 use Rattle.calculus.specs.Words.{kindOf, payloadOf, workspaceMost}
 use Rattle.calculus.specs.Accepted.{argumentLimit}
-use Rattle.words.proofs.TestLaws.{both}
 use Rattle.terms.specs.Frames.{Frame, isFilled, insideBy, inside, allowed, restBy, rest, entered}
 use Rattle.terms.specs.Packed.{unpacked}
 use Rattle.terms.proofs.Frames.{binding-bounded}
@@ -50,7 +49,7 @@ frames-within [] [] q = omega arith
 frames-within [] (f ∷ fs) q = absurd (false≢true q)
 frames-within (w ∷ ws) [] q = omega arith
 frames-within (w ∷ ws) (f ∷ fs) q =
-    omega (arith, frames-within ws (after f w fs) (both (allowed f w) _ q .1), push-longer (rest f w) fs, push-longer (inside (f .depth) w) (push (rest f w) fs))
+    omega (arith, frames-within ws (after f w fs) (and-eq-true-iff (allowed f w) _ .0 q .1), push-longer (rest f w) fs, push-longer (inside (f .depth) w) (push (rest f w) fs))
 
 frames-above : (ws : List ℕ) (fs : List Frame) → length ws < length fs → false ≡ scan fs ws
 frames-above ws fs h = go (scan fs ws) refl

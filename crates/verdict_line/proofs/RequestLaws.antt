@@ -1,7 +1,7 @@
 -- The request that bytes are, by where its parts stand.
 use Prim.Native.Nat.{ℕ, zero, suc, _+_, _*_, _-_, _/_, _%_, _≤_, _<_}
 use mathlib.Core.Path.{_≡_, refl, sym, _∙_, ap, ap₂, subst}
-use mathlib.Core.Bool.{Bool, true, false, cond, _&&_, and-false}
+use mathlib.Core.Bool.{Bool, true, false, cond, _&&_, and-false, and-eq-true-iff}
 use mathlib.Core.List.{List}
 use mathlib.Core.Option.{Option, some, none, bind}
 use native.Mathlib.Omega.{arith}
@@ -10,7 +10,6 @@ use lib.Dec.{leb, eqb}
 use lib.ListN.{length, take, drop}
 use lib.Seq.{take-all, length-take-le}
 use borrow.Author.Tests.{leb-true, leb-false, le-leb, lt-leb, eq-eqb, ne-eqb}
-use Rattle.words.proofs.TestLaws.{both}
 use Rattle.verdict_line.specs.declared.request.Table.{Table}
 use Rattle.verdict_line.specs.declared.request.Found.{Found}
 use Rattle.verdict_line.specs.declared.request.Found.the-variants as found
@@ -39,7 +38,7 @@ pub there : (bytes : List ℕ) (at : ℕ) {t : Table} → tableAt bytes at ≡ f
 unfolding tableAt
 there bytes at {t} e =
     let s = same-table _ _ t e in
-    let later = both _ _ (both (leb (at + wordBytes) (length bytes)) _ (s .0) .1) in
+    let later = and-eq-true-iff _ _ .0 (and-eq-true-iff (leb (at + wordBytes) (length bytes)) _ .0 (s .0) .1) in
     subst (There bytes at) (s .1)
     (record {
       behind = refl;

@@ -1,4 +1,3 @@
-pub mod TestLaws
 pub mod Spans
 pub mod PlacedLaws
 pub mod RoomLaws
