@@ -13,7 +13,7 @@ use Rattle.calculus.specs.Words.{words, size}
 use Rattle.calculus.specs.Refusal.{Refusal}
 use Rattle.calculus.specs.Workspace.{padded}
 use Rattle.records.specs.Records.{Stored, view}
-use Rattle.tables.specs.Reading.{termWords, Readable}
+use Rattle.transcription.specs.Reading.{termWords, Readable}
 use Rattle.tables.specs.Load.{returned, Loaded, checks, firstMet, loadStored}
 use Rattle.tables.specs.Theorems.{Meant, NoneMet}
 use Rattle.words.specs.Placed.{Placed}

@@ -7,5 +7,4 @@ pub mod Exists
 pub mod Held
 pub mod Accepts
 pub mod SoundMeans
-pub mod ReadingLaws
 pub mod ReadingMeaning

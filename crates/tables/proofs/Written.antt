@@ -1,4 +1,4 @@
--- Tables that are written: records in prefix order, their words, and the writer.
+-- Tables that are written: records in prefix order, their words, and what writing puts.
 pub mod PrefixLinks
 pub mod Standing
 pub mod StandingFits
@@ -6,5 +6,4 @@ pub mod TableWords
 pub mod PrefixStanding
 pub mod WrittenTable
 pub mod EntriesLaws
-pub mod WritingLaws
 pub mod WriteLaws

@@ -1,10 +1,8 @@
 -- Stored tables ("The stored table"): what a table means, loading and writing.
 pub mod Types
 pub mod Meaning
-pub mod Reading
 pub mod FreeNumbers
 pub mod Load
 pub mod Write
-pub mod Writing
 pub mod PrefixOrder
 pub mod Theorems

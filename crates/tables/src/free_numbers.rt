@@ -1,13 +1,13 @@
 // Refusal 6: free numbers, in the words of the term that the records mean.
-use crate::reading::read_term;
 use records::Form;
 use records::root;
 use terms::is_term;
+use transcription::reading::read_term;
 use words::Word;
 ghost use mathlib.Core.Path.{_≡_};
 ghost use Prim.Native.Nat.{_≤_};
 ghost use Rattle.records.specs.Types.{stored, viewed};
-ghost use Rattle.tables.specs.Reading.{Readable};
+ghost use Rattle.transcription.specs.Reading.{Readable};
 ghost use Rattle.tables.specs.FreeNumbers.{wrongFree};
 
 // Everything else that is asked of a term holds by the refusals before, so the words are no accepted term only by a free number.

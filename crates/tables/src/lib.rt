@@ -1,10 +1,7 @@
 // Loading a stored table and writing one.
 mod free_numbers;
-mod reading;
-mod writing;
 
 use free_numbers::wrong_free;
-use reading::read_term;
 use records::Form;
 use records::Record;
 use records::children::wrong_children;
@@ -16,18 +13,19 @@ use records::links::wrong_links;
 use records::root;
 use records::values::wrong_values;
 use terms::is_term;
+use transcription::reading::read_term;
+use transcription::writing::put_table;
 use words::Word;
 use words::clear;
 use words::refusal::Refusal;
 use words::slices::copy;
-use writing::put_records;
 ghost use mathlib.Core.Path.{_≡_};
 ghost use mathlib.Core.Bool.{false};
 ghost use Prim.Native.Nat.{_≤_};
 ghost use lib.ListN.{length};
 ghost use Rattle.words.specs.Placed.{Placed};
 ghost use Rattle.records.specs.Header.{wrongLength, wrongHeader};
-ghost use Rattle.tables.specs.Reading.{termWords, Readable};
+ghost use Rattle.transcription.specs.Reading.{termWords, Readable};
 ghost use Rattle.tables.specs.Load.{recordChecks, checks, firstMet, load};
 ghost use Rattle.tables.specs.Write.{write};
 ghost use Rattle.records.specs.Types.{stored, viewed};
@@ -124,13 +122,6 @@ pub fn write(workspace: &[u32], length: usize, table: &mut [u32]) -> Answer
     if table.len() != Record::WORDS * (length + 1) {
         return Answer::Refused(Refusal::WrongLength);
     }
-    let header = Record {
-        kind: Record::FORM,
-        value: length as u32,
-        first: 1,
-        next: 0,
-    };
-    header.put(table, 0);
-    put_records(&workspace[..length], table);
+    put_table(&workspace[..length], table);
     Answer::Returned(length)
 }

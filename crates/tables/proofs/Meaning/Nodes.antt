@@ -20,10 +20,10 @@ use Rattle.calculus.proofs.All.{All, holds, nothing, all-eqb}
 use Rattle.tables.specs.Meaning.{Node, variable, abstraction, application, constructor, numeral, leafOf, onlyOne, applicationOf, valueless, termOf}
 use Rattle.records.specs.Values.{isTag, valueFits}
 use Rattle.records.specs.Children.{numberFits}
-use Rattle.tables.specs.Reading.{payload}
+use Rattle.transcription.specs.Reading.{payload}
 use Rattle.records.specs.Records.{entry}
 use Rattle.tables.specs.Write.{linkTo, records}
-use Rattle.tables.specs.Writing.{valueOf}
+use Rattle.transcription.specs.Writing.{valueOf}
 
 -- `termOf` finds the term of a node, and nothing else.
 of-leaf : {k v : ℕ} {t : Term} (xs : Terms) → Node k v nil t → All (Node k v xs) (leafOf t xs)

@@ -15,7 +15,7 @@ use Rattle.words.proofs.PlacedLaws.{placed-length}
 use Rattle.records.specs.Records.{Table, Stored, view}
 use Rattle.tables.specs.Meaning.{Means, plain, case-of, no-term, a-term, no-branch, a-branch}
 use Rattle.records.specs.Children.{children}
-use Rattle.tables.specs.Reading.{chainWords, termWords, Readable}
+use Rattle.transcription.specs.Reading.{chainWords, termWords, Readable}
 use Rattle.tables.specs.FreeNumbers.{freeAbove, wrongFree}
 use Rattle.records.proofs.LinkRules.{Linked, linked}
 use Rattle.records.proofs.Fits.{Valued, valued, Fitted, fitted}
@@ -25,7 +25,7 @@ use Rattle.tables.proofs.Meaning.ChainMeaning.{terms-chain, case-chain}
 use Rattle.tables.proofs.Meaning.SoundMeans.{Root, root-of}
 use Rattle.tables.proofs.Meaning.Accepts.{free-is-term}
 use Rattle.records.proofs.RecordLaws.{sized}
-use Rattle.tables.proofs.Meaning.ReadingLaws.{chainWords-end, chainWords-record}
+use Rattle.transcription.proofs.ReadingLaws.{chainWords-end, chainWords-record}
 
 module _ (T : Table) (L : Linked T) where
   abbrev Spelled : {s : Sort} → ℕ → Exp s → Type 0

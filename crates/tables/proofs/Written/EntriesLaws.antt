@@ -13,9 +13,9 @@ use Rattle.calculus.specs.Theorems.{counted, Packable}
 use Rattle.calculus.proofs.WordLaws.{kindOf-word, payloadOf-word}
 use Rattle.calculus.proofs.SkipLaws.{arity-case, arity-branch, span-words, span-zero}
 use Rattle.records.specs.Records.{Record, entry}
-use Rattle.tables.specs.Reading.{payload}
+use Rattle.transcription.specs.Reading.{payload}
 use Rattle.tables.specs.Write.{linkTo, records}
-use Rattle.tables.specs.Writing.{valueOf, linkIf, push, entries}
+use Rattle.transcription.specs.Writing.{valueOf, linkIf, push, entries}
 use Rattle.tables.proofs.Meaning.Nodes.{node-plain, node-words, node-size, node-arity, node-value, node-records, node-below, Built, plain, of-case, empty, listed, ended, branched, built}
 
 -- The record of a word in front, by its kind, payload, number of children and extent.

@@ -13,13 +13,13 @@ use Rattle.calculus.proofs.WorkspaceLaws.{termAt-words, length-padded, sized-mo
 use Rattle.records.specs.Records.{form1, recordsWords, entry}
 use Rattle.records.specs.Header.{wrongWorkspace}
 use Rattle.tables.specs.Load.{returned}
-use Rattle.tables.specs.Write.{tableOf, write, records, Written}
+use Rattle.tables.specs.Write.{tableOf, write, Written}
 use mathlib.Core.Option.{some}
 use lib.Seq.{sets}
 use Rattle.calculus.specs.Workspace.{termAt}
 use Rattle.calculus.proofs.WordLaws.{accepted-packable}
 use Rattle.words.proofs.PlacedLaws.{sets-whole}
-use Rattle.tables.specs.Writing.{entries}
+use Rattle.transcription.specs.Writing.{entries}
 use Rattle.tables.proofs.Meaning.Held.{Held, held}
 use Rattle.tables.proofs.Written.WrittenTable.{tableOf-length}
 use Rattle.tables.proofs.Written.EntriesLaws.{entries-records}
@@ -43,21 +43,18 @@ pub workspace-short : (C : ℕ) → wrongWorkspace C ≡ false → C ≤ workspa
 workspace-short C h = sized-most C [] (not-false _ h)
 
 -- The header and then the records, over the whole table.
-pub written : (ws table headed last : List ℕ) (n : ℕ) (t : Term) → wrongWorkspace (length ws) ≡ false → termAt ws n ≡ some t
-    → length table ≡ form1 .recordWords * (n + 1) → headed ≡ sets table 0 (recordsWords (entry (form1 .number) n 1 0 ∷ []))
-    → last ≡ sets headed (form1 .recordWords) (recordsWords (entries 1 (1 ∷ []) (take n ws)))
+pub written : (ws table last : List ℕ) (n : ℕ) (t : Term) → wrongWorkspace (length ws) ≡ false → termAt ws n ≡ some t
+    → length table ≡ form1 .recordWords * (n + 1)
+    → last ≡ sets (sets table 0 (recordsWords (entry (form1 .number) (length (take n ws)) 1 0 ∷ []))) (form1 .recordWords) (recordsWords (entries 1 (1 ∷ []) (take n ws)))
     → _≡_ {A = Written} (record { answer = returned n; table = last }) (write ws n table)
 unfolding write
-written ws table headed last n t w h e f g = rw (w, h, eq-eqb (length table) (form1 .recordWords * (n + 1)) e, all)
+written ws table last n t w h e f = rw (w, h, eq-eqb (length table) (form1 .recordWords * (n + 1)) e, all)
   where
     holds : Held ws n t
     holds = held ws n t h
-
-    found : entries 1 (1 ∷ []) (take n ws) ≡ records 1 0 t
-    found = rw (← holds .words-are) (entries-records t (accepted-packable 0 t (holds .accepted)))
 
     length-is : length (tableOf t) ≡ length table
     length-is = tableOf-length t ∙ rw (holds .size-is) (sym e)
 
     all : last ≡ tableOf t
-    all = g ∙ rw (f, found, ← holds .size-is) (sets-whole (tableOf t) table length-is)
+    all = f ∙ rw (← holds .words-are, entries-records t (accepted-packable 0 t (holds .accepted))) (sets-whole (tableOf t) table length-is)

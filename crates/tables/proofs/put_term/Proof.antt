@@ -8,7 +8,7 @@ use Rattle.calculus.specs.Words.{workspaceMost}
 use Rattle.records.specs.Types.{viewed}
 use Rattle.words.specs.Placed.{Placed}
 use Rattle.records.proofs.RecordLaws.{headed}
-use Rattle.tables.specs.Reading.{termWords}
+use Rattle.transcription.specs.Reading.{termWords}
 use Rattle.tables.proofs.Meaning.ReadingMeaning.{root-short}
 use Rattle.words.proofs.PlacedLaws.{placed-length, placed-start}
 use Rattle.tables.proofs.put_term.Statement.{statement}

@@ -1,4 +1,4 @@
--- `write` meets its contract: each refusal knows the tests before it, and otherwise the header and the records cover the whole table.
+-- `write` meets its contract: each refusal knows the tests before it, and otherwise what is put covers the whole table.
 use Prim.Native.Nat.{_≤_}
 use mathlib.Core.Path.{_≡_, sym, _∙_}
 use mathlib.Core.Bool.{false}
@@ -53,17 +53,15 @@ taken : (c : tie.Else2)
     ≡ c .before .before .before .before .before .before .args .length
 taken c = length-take-le _ _ (within c .0)
 
-put-records-requires : tie.Need-put-records-requires
-put-records-requires c κs =
-    let passed = c .before .before .before .before .before .before in
-    omega (arith, c .before .before .before .before .put .kept .1 .0, taken (passed .before), within (passed .before), passed .if3 .left)
+put-table-requires : tie.Need-put-table-requires
+put-table-requires c κs =
+    let passed = c .before .before in
+    omega (arith, taken (passed .before), within (passed .before), passed .if3 .left)
 
 returns-4 : tie.Need-returns-4
 returns-4 c =
-    let passed = c .before .before .before .before .before .before .before .before .before in
-    let headed = c .before .before .before .before .before .before .before .put in
-    written _ _ _ _ _ _ (workspace-fits (passed .before .before .before)) (term (passed .before) .1) (passed .if3 .left) (headed .ensures)
-    (c .before .before .put-records .ensures)
+    let passed = c .before .before .before .before .before in
+    written _ _ _ _ _ (workspace-fits (passed .before .before .before)) (term (passed .before) .1) (passed .if3 .left) (c .before .before .put-table .ensures)
 
 pub write-spec : {M : Type 1} → statement M
 write-spec =
@@ -76,9 +74,7 @@ write-spec =
     (λ c. omega (arith, within c))
     (λ c. omega (arith, within c))
     returns-3
-    (λ c. omega (arith, within (c .before)))
-    (λ c κs. search needs)
-    (λ c. sym (taken (c .before .before .before .before .before .before)))
-    put-records-requires
+    (λ c. sym (taken (c .before .before)))
+    put-table-requires
     (λ c. search needs)
     returns-4)

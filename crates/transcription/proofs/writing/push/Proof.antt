@@ -1,8 +1,8 @@
 -- `push` meets its contract.
 use borrow.Author.Needs.{needs}
-use Rattle.tables.proofs.Written.WritingLaws.{pushed-none, pushed-some}
-use Rattle.tables.proofs.writing.push.Statement.{statement}
-use Rattle.tables.proofs.writing.push.Tie as tie
+use Rattle.transcription.proofs.WritingLaws.{pushed-none, pushed-some}
+use Rattle.transcription.proofs.writing.push.Statement.{statement}
+use Rattle.transcription.proofs.writing.push.Tie as tie
 
 returns : tie.Need-returns
 returns c = pushed-none _ _ _ (c .if1 .taken)

@@ -14,7 +14,7 @@ use Rattle.words.specs.Limits.{payloadBound}
 use Rattle.records.specs.Records.{Record, Table, Stored, recordAt, view}
 use Rattle.records.specs.Values.{isTag, valueFits}
 use Rattle.records.specs.Children.{children, numberFits, subjectFirst, childrenFit, chainFrom}
-use Rattle.tables.specs.Reading.{ahead, payload, Wordable, chainWords, termWords, Readable}
+use Rattle.transcription.specs.Reading.{ahead, payload, Wordable, chainWords, termWords, Readable}
 use Rattle.records.proofs.LinkRules.{Ahead, Linked, linked}
 use Rattle.records.proofs.Fits.{valued, fitted}
 use Rattle.records.proofs.Hanging.{hanging-zero, hanging-record}

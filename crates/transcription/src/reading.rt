@@ -9,7 +9,7 @@ ghost use lib.ListN.{length};
 ghost use Rattle.calculus.specs.Words.{word, workspaceMost};
 ghost use Rattle.words.specs.Placed.{Placed};
 ghost use Rattle.records.specs.Types.{stored, viewed};
-ghost use Rattle.tables.specs.Reading.{payload, Wordable, chainWords, termWords, Readable};
+ghost use Rattle.transcription.specs.Reading.{payload, Wordable, chainWords, termWords, Readable};
 
 // Room for the words of every term that a workspace holds. The readers are lent an array and no slice: a reference to an array is one machine word, so each
 // level of a table takes less machine stack.

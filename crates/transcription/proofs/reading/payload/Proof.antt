@@ -1,8 +1,8 @@
 -- `payload` meets its contract: in each arm the kind is known, and `payload` computes there.
 use native.Mathlib.Omega.{arith}
 use borrow.Author.Tests.{ne-eqb}
-use Rattle.tables.proofs.reading.payload.Statement.{statement}
-use Rattle.tables.proofs.reading.payload.Tie as tie
+use Rattle.transcription.proofs.reading.payload.Statement.{statement}
+use Rattle.transcription.proofs.reading.payload.Tie as tie
 
 returns : tie.Need-returns
 returns c = rw (c .match .keys1)

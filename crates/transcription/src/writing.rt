@@ -9,9 +9,9 @@ ghost use lib.ListN.{length, getD, drop};
 ghost use lib.Seq.{sets};
 ghost use Rattle.calculus.specs.Words.{workspaceMost, kindOf, payloadOf};
 ghost use Rattle.calculus.specs.Skip.{span};
-ghost use Rattle.records.specs.Records.{form1, recordsWords};
+ghost use Rattle.records.specs.Records.{entry, form1, recordsWords};
 ghost use Rattle.records.specs.Types.{recordOf};
-ghost use Rattle.tables.specs.Writing.{valueOf, linkIf, entryOf, entries, Pushed, Descended};
+ghost use Rattle.transcription.specs.Writing.{valueOf, linkIf, entryOf, entries, Pushed, Descended};
 
 // Room for a level for each word and one around them.
 const LEVELS: usize = Word::WORKSPACE_MOST + 1;
@@ -74,7 +74,7 @@ fn descend(levels: &mut [usize], top: usize, items: usize) -> usize
 }
 
 // Puts the records of the term that starts the words, from index 1 on. The items still to come are counted level by level, the innermost first.
-pub fn put_records(ws: &[u32], table: &mut [u32])
+fn put_records(ws: &[u32], table: &mut [u32])
     requires { ⌜ (length (now ws) ≤ workspaceMost) × (length (now table) ≡ form1 .recordWords * (length (now ws) + 1)) ⌝ }
     ensures { λ _. ⌜ now (table .exit) ≡ sets (now (table .entry)) (form1 .recordWords) (recordsWords (entries 1 (1 ∷ []) (now (ws .entry)))) ⌝ }
 {
@@ -89,4 +89,19 @@ pub fn put_records(ws: &[u32], table: &mut [u32])
         top = descend(&mut levels, top, Word(ws[i]).arity());
         i += 1;
     }
+}
+
+// Puts the table of the term that the words are: the header, and behind it the records.
+pub fn put_table(ws: &[u32], table: &mut [u32])
+    requires { ⌜ (length (now ws) ≤ workspaceMost) × (length (now table) ≡ form1 .recordWords * (length (now ws) + 1)) ⌝ }
+    ensures { λ _. ⌜ now (table .exit) ≡ sets (sets (now (table .entry)) 0 (recordsWords (entry (form1 .number) (length (now (ws .entry))) 1 0 ∷ []))) (form1 .recordWords) (recordsWords (entries 1 (1 ∷ []) (now (ws .entry)))) ⌝ }
+{
+    let header = Record {
+        kind: Record::FORM,
+        value: ws.len() as u32,
+        first: 1,
+        next: 0,
+    };
+    header.put(table, 0);
+    put_records(ws, table);
 }

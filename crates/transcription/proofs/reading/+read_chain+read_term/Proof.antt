@@ -7,22 +7,22 @@ use lib.ListN.{length}
 use borrow.Fn.Kinds.{In}
 use borrow.Fn.PlainCycle.{Measures, is, falls, and}
 use Rattle.records.specs.Types.{stored, viewed, recordOf}
-use Rattle.tables.specs.Reading.{ahead, chainWords}
+use Rattle.transcription.specs.Reading.{ahead, chainWords}
 use Rattle.records.proofs.RecordLaws.{parts}
 use Rattle.records.proofs.Walks.{walk-inside}
-use Rattle.tables.proofs.Meaning.ReadingLaws.{chainWords-end, ReadOn, read-on, term-read}
+use Rattle.transcription.proofs.ReadingLaws.{chainWords-end, ReadOn, read-on, term-read}
 use Rattle.words.proofs.PlacedLaws.{placed-none, placed-cons, placed-append}
-use Rattle.tables.proofs.reading.read_chain.Reads as read-chain
-use Rattle.tables.proofs.reading.read_chain.Kinds as read-chain-kinds
-use Rattle.tables.proofs.reading.+read_chain+read_term.Lts-read_chain as read-chain-lts
-use Rattle.tables.proofs.reading.read_term.Reads as read-term
-use Rattle.tables.proofs.reading.read_term.Kinds as read-term-kinds
-use Rattle.tables.proofs.reading.+read_chain+read_term.Lts-read_term as read-term-lts
+use Rattle.transcription.proofs.reading.read_chain.Reads as read-chain
+use Rattle.transcription.proofs.reading.read_chain.Kinds as read-chain-kinds
+use Rattle.transcription.proofs.reading.+read_chain+read_term.Lts-read_chain as read-chain-lts
+use Rattle.transcription.proofs.reading.read_term.Reads as read-term
+use Rattle.transcription.proofs.reading.read_term.Kinds as read-term-kinds
+use Rattle.transcription.proofs.reading.+read_chain+read_term.Lts-read_term as read-term-lts
 use Rattle.records.proofs.Record.at.Reads as at-reads
-use Rattle.tables.proofs.reading.word.Reads as word-reads
+use Rattle.transcription.proofs.reading.word.Reads as word-reads
 use Rattle.records.proofs.children.chain_length.Reads as chain-length-reads
-use Rattle.tables.proofs.reading.+read_chain+read_term.{statement}
-use Rattle.tables.proofs.reading.+read_chain+read_term.Tie.{close}
+use Rattle.transcription.proofs.reading.+read_chain+read_term.{statement}
+use Rattle.transcription.proofs.reading.+read_chain+read_term.Tie.{close}
 
 -- The records still ahead fall at each call: a reader of a term has 2 for each of them, and a reader of a chain, which calls it at its own link,
 -- one more.

@@ -8,9 +8,9 @@ use borrow.Author.Needs.{needs}
 use Rattle.calculus.specs.Words.{workspaceMost}
 use Rattle.calculus.specs.Skip.{span}
 use Rattle.calculus.proofs.SkipLaws.{span-bounded}
-use Rattle.tables.proofs.Written.WritingLaws.{entry-puttable, Putting, putting-start, putting-end, putting-stops, some-item, putting-more}
-use Rattle.tables.proofs.writing.put_records.Statement.{statement}
-use Rattle.tables.proofs.writing.put_records.Tie as tie
+use Rattle.transcription.proofs.WritingLaws.{entry-puttable, Putting, putting-start, putting-end, putting-stops, some-item, putting-more}
+use Rattle.transcription.proofs.writing.put_records.Statement.{statement}
+use Rattle.transcription.proofs.writing.put_records.Tie as tie
 
 abbrev Inv-loop : tie.InvT-loop
 Inv-loop ws table₀ levels₀ top₀ i₀ table levels top i = Putting ws table₀ table levels top i

@@ -12,7 +12,7 @@ use Rattle.calculus.specs.Words.{workspaceMost}
 use Rattle.calculus.specs.Skip.{arity, span}
 use Rattle.words.proofs.PlacedLaws.{drop-set}
 use Rattle.records.specs.Records.{Record, form1, recordsWords, Puttable}
-use Rattle.tables.specs.Writing.{linkIf, push, entryOf, entries, Pushed, Descended}
+use Rattle.transcription.specs.Writing.{linkIf, push, entryOf, entries, Pushed, Descended}
 
 pub pushed-none : (levels : List ℕ) (top items : ℕ) → items ≡ 0 → Pushed levels top items levels top
 pushed-none levels top items e = record { levels = rw e; least = omega arith; most = omega arith }

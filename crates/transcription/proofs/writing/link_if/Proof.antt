@@ -1,7 +1,7 @@
 -- `link_if` meets its contract.
 use borrow.Author.Tests.{ne-eqb}
-use Rattle.tables.proofs.writing.link_if.Statement.{statement}
-use Rattle.tables.proofs.writing.link_if.Tie as tie
+use Rattle.transcription.proofs.writing.link_if.Statement.{statement}
+use Rattle.transcription.proofs.writing.link_if.Tie as tie
 
 returns : tie.Need-returns
 returns c = rw (c .if1 .taken)

@@ -1,8 +1,8 @@
 -- `descend` meets its contract.
 use borrow.Author.Needs.{needs}
-use Rattle.tables.proofs.Written.WritingLaws.{descended}
-use Rattle.tables.proofs.writing.descend.Statement.{statement}
-use Rattle.tables.proofs.writing.descend.Tie as tie
+use Rattle.transcription.proofs.WritingLaws.{descended}
+use Rattle.transcription.proofs.writing.descend.Statement.{statement}
+use Rattle.transcription.proofs.writing.descend.Tie as tie
 
 returns : tie.Need-returns
 returns c = descended _ _ _ _ _ _ _ (c .before .before .before .before .before .before .push .ensures) (c .before .before .push2 .ensures)

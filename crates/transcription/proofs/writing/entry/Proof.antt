@@ -6,10 +6,10 @@ use lib.ListN.{drop, length-drop}
 use borrow.Author.Needs.{needs}
 use Rattle.calculus.specs.Skip.{span}
 use Rattle.calculus.proofs.SkipLaws.{span-bounded}
-use Rattle.tables.specs.Writing.{linkIf}
+use Rattle.transcription.specs.Writing.{linkIf}
 use Rattle.records.proofs.RecordLaws.{entry-path}
-use Rattle.tables.proofs.writing.entry.Statement.{statement}
-use Rattle.tables.proofs.writing.entry.Tie as tie
+use Rattle.transcription.proofs.writing.entry.Statement.{statement}
+use Rattle.transcription.proofs.writing.entry.Tie as tie
 
 add-link-if-2 : tie.Need-add-link-if-2
 add-link-if-2 c =

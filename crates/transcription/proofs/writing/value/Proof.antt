@@ -2,9 +2,9 @@
 use mathlib.Core.Path.{sym, _∙_}
 use borrow.Author.Needs.{needs}
 use borrow.Author.Tests.{ne-eqb}
-use Rattle.tables.specs.Writing.{valueOf}
-use Rattle.tables.proofs.writing.value.Statement.{statement}
-use Rattle.tables.proofs.writing.value.Tie as tie
+use Rattle.transcription.specs.Writing.{valueOf}
+use Rattle.transcription.proofs.writing.value.Statement.{statement}
+use Rattle.transcription.proofs.writing.value.Tie as tie
 
 returns : tie.Need-returns
 unfolding valueOf
