@@ -11,15 +11,15 @@ use Rattle.calculus.specs.Words.{words, size}
 use Rattle.calculus.specs.Skip.{span}
 use Rattle.calculus.specs.First.{firstTerms}
 use Rattle.words.proofs.Spans.{span-first}
-use Rattle.substitution.specs.Depths.{depths}
-use Rattle.substitution.specs.Rewritten.{substituting, standing}
+use Rattle.walk.specs.Depths.{depths}
+use Rattle.walk.specs.Rewritten.{substituting, standing}
 use Rattle.substitution.specs.Results.{substituted, Replaced}
 use Rattle.substitution.specs.Measure.{Measurable, occurrences}
-use Rattle.substitution.proofs.DepthLaws.{span-depths}
+use Rattle.walk.proofs.DepthLaws.{span-depths}
 use Rattle.substitution.proofs.ItemLaws.{slice-taken}
 use Rattle.substitution.proofs.ResultLaws.{arguments-size}
 use Rattle.substitution.proofs.RewritingLaws.{standing-more, rewritten-alone, standing-substituted}
-use Rattle.substitution.proofs.RewrittenLaws.{place-argument}
+use Rattle.walk.proofs.RewrittenLaws.{place-argument}
 use Rattle.substitution.proofs.CountLaws.{occurs-twice}
 use Rattle.calculus.specs.Numeral.{numeral}
 use Rattle.calculus.specs.Contraction.{Rule as CalculusRule, by-beta}

@@ -17,7 +17,7 @@ use Rattle.calculus.specs.First.{firstTerms}
 use Rattle.calculus.specs.Contraction.{Rule as CalculusRule, by-beta, by-case, by-numeral}
 use Rattle.calculus.specs.Position.{stepAt}
 use Rattle.words.specs.Limits.{payloadBound}
-use Rattle.substitution.specs.Rewritten.{substituting, standing}
+use Rattle.walk.specs.Rewritten.{substituting, standing}
 use Rattle.substitution.specs.Results.{Substitutable, Replaced}
 use Rattle.redex.specs.declared.Body.{Body}
 use Rattle.redex.specs.declared.Rule.{Rule}

@@ -19,10 +19,10 @@ use Rattle.calculus.specs.Substitution.{argument}
 use Rattle.calculus.specs.Theorems.{Packable, IndicesWithin}
 use Rattle.calculus.proofs.SkipLaws.{span-words, span-zero}
 use Rattle.calculus.specs.Accepted.{indexLimit}
-use Rattle.substitution.specs.Index.{Moves}
-use Rattle.substitution.specs.Rewritten.{shifting, substituting, rewritten, place}
-use Rattle.substitution.proofs.MoveLaws.{moves-down}
-use Rattle.substitution.proofs.RewrittenLaws.{rewritten-variable, rewritten-other, shifting-length, place-argument, place-past, place-bound, place-other}
+use Rattle.walk.specs.Index.{Moves}
+use Rattle.walk.specs.Rewritten.{shifting, substituting, rewritten, place}
+use Rattle.walk.proofs.MoveLaws.{moves-down}
+use Rattle.walk.proofs.RewrittenLaws.{rewritten-variable, rewritten-other, shifting-length, place-argument, place-past, place-bound, place-other}
 use Rattle.substitution.proofs.Traversal.{MovableWord}
 
 -- The argument for index k of n stands after the n - 1 - k arguments before it.

@@ -15,9 +15,9 @@ use Rattle.calculus.specs.Shift.{shift}
 use Rattle.calculus.proofs.SkipLaws.{span-bounded, span-add}
 use Rattle.calculus.proofs.FirstLaws.{span-items}
 use Rattle.calculus.specs.Accepted.{indexLimit}
-use Rattle.substitution.specs.Rewritten.{substituting, rewritten, place}
+use Rattle.walk.specs.Rewritten.{substituting, rewritten, place}
 use Rattle.substitution.specs.Results.{shifted, Shiftable, Substitutable}
-use Rattle.substitution.proofs.MoveLaws.{movable-up}
+use Rattle.walk.proofs.MoveLaws.{movable-up}
 use Rattle.substitution.proofs.ResultLaws.{starts-split, shifted-at, shiftable-at}
 use Rattle.calculus.proofs.SizeLaws.{size-shift}
 use Rattle.substitution.proofs.StartLaws.{Offsets}

@@ -11,16 +11,16 @@ use borrow.Author.Tests.{lt-ltb, le-ltb, eq-eqb, ne-eqb, ltb-true, ltb-false}
 use lib.Dec.{ltb, eqb}
 use lib.ListN.{length, getD, drop, replicate, length-append, length-drop}
 use Rattle.calculus.specs.Term.{Term, Terms}
-use Rattle.calculus.specs.Words.{workspaceMost, countBase, words, size}
+use Rattle.calculus.specs.Words.{workspaceMost, countBase, size}
 use Rattle.calculus.specs.Skip.{arity, span}
 use Rattle.calculus.specs.First.{firstTerms}
 use Rattle.calculus.proofs.SkipLaws.{span-zero, span-bounded, span-add}
 use Rattle.words.specs.Bound.{bound}
-use Rattle.substitution.specs.Depths.{depths}
-use Rattle.substitution.specs.Rewritten.{substituting, rewritten, place}
+use Rattle.walk.specs.Depths.{depths}
+use Rattle.walk.specs.Rewritten.{substituting, rewritten, place}
 use Rattle.substitution.specs.Results.{substituted, Substitutable}
 use Rattle.substitution.specs.Measure.{occurrences, Measures}
-use Rattle.substitution.proofs.DepthLaws.{Bounded, bounded-word, length-items}
+use Rattle.walk.proofs.DepthLaws.{Bounded, bounded-word, length-items}
 use Rattle.substitution.proofs.Traversal.{marked, flat}
 use Rattle.substitution.proofs.ResultLaws.{subst-starts}
 use Rattle.substitution.proofs.StartLaws.{Offsets}

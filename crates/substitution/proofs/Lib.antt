@@ -1,10 +1,5 @@
-pub mod MoveLaws
-pub mod RewrittenLaws
-pub mod DepthLaws
 pub mod Traversal
 pub mod ResultLaws
-pub mod ScopeLaws
-pub mod EnterLaws
 pub mod WalkLaws
 pub mod Walking
 pub mod MeasureLaws

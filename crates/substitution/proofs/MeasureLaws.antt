@@ -13,11 +13,11 @@ use lib.Seq.{drop-cons, getD-set-same, getD-set-other}
 use Rattle.calculus.specs.Words.{variableKind, kindOf, payloadOf}
 use Rattle.calculus.specs.Accepted.{argumentLimit}
 use Rattle.calculus.specs.Skip.{span}
-use Rattle.substitution.specs.Depths.{depths}
-use Rattle.substitution.specs.Rewritten.{place}
+use Rattle.walk.specs.Depths.{depths}
+use Rattle.walk.specs.Rewritten.{place}
 use Rattle.substitution.specs.Measure.{occurrences, Measurable, Measures}
-use Rattle.substitution.specs.Scopes.{toCome, Entered}
-use Rattle.substitution.proofs.ScopeLaws.{come-first}
+use Rattle.walk.specs.Scopes.{toCome, Entered}
+use Rattle.walk.proofs.ScopeLaws.{come-first}
 use Rattle.substitution.proofs.WalkLaws.{starts-some}
 use Rattle.substitution.proofs.Walking.{Walking, walking-start, walking-done, walking-within, walking-number, walking-next, nothing-left}
 

@@ -15,9 +15,9 @@ use Rattle.calculus.specs.Substitution.{subst}
 use Rattle.calculus.specs.Theorems.{Packable, IndicesWithin}
 use Rattle.calculus.specs.Skip.{span}
 use Rattle.calculus.proofs.FirstLaws.{span-items, firstTerm-words, firstTerms-words}
-use Rattle.substitution.specs.Index.{Movable}
-use Rattle.substitution.specs.Depths.{depths}
-use Rattle.substitution.specs.Rewritten.{shifting, substituting}
+use Rattle.walk.specs.Index.{Movable}
+use Rattle.walk.specs.Depths.{depths}
+use Rattle.walk.specs.Rewritten.{shifting, substituting}
 use Rattle.substitution.specs.Results.{Starts, shifted, Shiftable, substituted, Substitutable}
 use Rattle.calculus.proofs.MarkedWords.{inside, Every}
 use Rattle.substitution.proofs.Traversal.{marked, marked-term, flat, flat-shift, flat-subst, MovableWord, movable-inside}

@@ -16,14 +16,14 @@ use Rattle.calculus.proofs.MarkedWords.{Every, every-first, every-rest}
 use Rattle.words.specs.Bound.{bound}
 use Rattle.words.specs.Placed.{Placed}
 use Rattle.words.proofs.PlacedLaws.{sets-append}
-use Rattle.substitution.specs.Depths.{depths}
-use Rattle.substitution.specs.Rewritten.{shifting, substituting, rewritten, standing}
+use Rattle.walk.specs.Depths.{depths}
+use Rattle.walk.specs.Rewritten.{shifting, substituting, rewritten, standing}
 use Rattle.substitution.specs.Results.{Starts, Shiftable, shifted, Substitutable, substituted}
-use Rattle.substitution.specs.Scopes.{toCome, Entered}
-use Rattle.substitution.proofs.DepthLaws.{length-items, span-depths}
+use Rattle.walk.specs.Scopes.{toCome, Entered}
+use Rattle.walk.proofs.DepthLaws.{length-items, span-depths}
 use Rattle.substitution.proofs.Traversal.{marked, flat, MovableWord}
 use Rattle.substitution.proofs.ResultLaws.{movable-starts, shift-starts, subst-starts}
-use Rattle.substitution.proofs.ScopeLaws.{come-first}
+use Rattle.walk.proofs.ScopeLaws.{come-first}
 use Rattle.substitution.proofs.Walking.{Walking, walking-start, walking-some, walking-within, walking-inside, walking-number, walking-next, walking-lent}
 
 pub placed-as : {before after vs us : List ℕ} {out end : ℕ} → vs ≡ us → Placed before out vs after end → Placed before out us after end

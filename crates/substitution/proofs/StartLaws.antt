@@ -1,13 +1,13 @@
 -- Where consecutive items start: the extents of the items before them add up.
-use Prim.Native.Nat.{ℕ, zero, suc, _+_, _≤_, _<_}
-use mathlib.Core.Path.{_≡_, refl, sym, _∙_, ap}
-use mathlib.Core.List.{List, [], _∷_}
+use Prim.Native.Nat.{ℕ, _+_, _≤_, _<_}
+use mathlib.Core.Path.{_≡_, sym, _∙_, ap}
+use mathlib.Core.List.{List}
 use mathlib.Core.Logic.{⊎-elim}
-use native.Mathlib.Nat.{zero-add, suc-add, add-assoc, eq-or-lt-of-le}
+use native.Mathlib.Nat.{eq-or-lt-of-le}
 use native.Mathlib.Omega.{arith}
 use lib.ListN.{length, getD, drop, set}
 use lib.Seq.{drop-drop, getD-set-same, getD-set-other}
-use Rattle.calculus.specs.Skip.{arity, span}
+use Rattle.calculus.specs.Skip.{span}
 use Rattle.calculus.proofs.SkipLaws.{span-zero, span-add}
 
 -- The positions at which the items from position `args` on start, written up to the j-th.

@@ -18,12 +18,12 @@ use Rattle.calculus.specs.Theorems.{Packable}
 use Rattle.calculus.proofs.WordLaws.{kindOf-word, payloadOf-word, countOf-pack}
 use Rattle.calculus.proofs.MarkedWords as marks
 use Rattle.calculus.proofs.MarkedWords.{inside, words-traverse, Every, IfVariable, everywhere-inside}
-use Rattle.substitution.specs.Index.{MayMove, Movable}
-use Rattle.substitution.specs.Depths.{depths}
-use Rattle.words.specs.Bound.{binding as bound, bound as binders}
-use Rattle.substitution.specs.Rewritten.{shifting, substituting, rewritten}
-use Rattle.substitution.proofs.DepthLaws.{depths-done}
-use Rattle.substitution.proofs.RewrittenLaws.{rewritten-variable, rewritten-other}
+use Rattle.walk.specs.Index.{MayMove, Movable}
+use Rattle.walk.specs.Depths.{depths}
+use Rattle.words.specs.Bound.{binding as bound}
+use Rattle.walk.specs.Rewritten.{shifting, substituting, rewritten}
+use Rattle.walk.proofs.DepthLaws.{depths-done}
+use Rattle.walk.proofs.RewrittenLaws.{rewritten-variable, rewritten-other}
 
 -- Words, each with the binders around it.
 abbrev pub marked : List ℕ → List ℕ → List (ℕ × ℕ)

@@ -15,9 +15,9 @@ use Rattle.calculus.proofs.WordLaws.{size-positive}
 use Rattle.calculus.proofs.SkipLaws.{span-zero, span-bounded}
 use Rattle.calculus.proofs.FirstLaws.{span-items}
 use Rattle.words.specs.Bound.{bound}
-use Rattle.substitution.specs.Depths.{depths}
+use Rattle.walk.specs.Depths.{depths}
 use Rattle.substitution.specs.Results.{Starts}
-use Rattle.substitution.proofs.DepthLaws.{Bounded, bounded-word, length-items}
+use Rattle.walk.proofs.DepthLaws.{Bounded, bounded-word, length-items}
 use Rattle.substitution.proofs.ResultLaws.{starts-split}
 
 -- The first j items end within the words.

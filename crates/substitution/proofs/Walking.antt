@@ -9,10 +9,10 @@ use Rattle.calculus.specs.Words.{workspaceMost}
 use Rattle.calculus.specs.Skip.{span}
 use Rattle.calculus.specs.First.{firstTerm}
 use Rattle.words.proofs.Spans.{arity-bounded}
-use Rattle.substitution.specs.Depths.{depths}
+use Rattle.walk.specs.Depths.{depths}
 use Rattle.substitution.specs.Results.{Starts}
-use Rattle.substitution.specs.Scopes.{scopeBase, expanded, toCome, Stands, Enters, Entered}
-use Rattle.substitution.proofs.ScopeLaws.{come-first}
+use Rattle.walk.specs.Scopes.{scopeBase, expanded, toCome, Stands, Enters, Entered}
+use Rattle.walk.proofs.ScopeLaws.{come-first}
 use Rattle.substitution.proofs.WalkLaws.{Walk, walk-start, walk-word, walk-few, walk-done, depth-bounded, depth-is, walk-inside}
 
 pub record Walking (src : List ℕ) (body : ℕ) (room₀ room : List ℕ) (i pending depth top : ℕ) : Type 0 where

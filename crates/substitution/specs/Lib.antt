@@ -1,7 +1,3 @@
--- What the contracts of shift and substitution cite beside the calculus.
-pub mod Index
-pub mod Depths
-pub mod Rewritten
+-- What the contracts of shift and substitution cite beside the walk.
 pub mod Results
 pub mod Measure
-pub mod Scopes

@@ -10,8 +10,8 @@ use Rattle.calculus.specs.Accepted.{argumentLimit}
 use Rattle.calculus.specs.Skip.{arity, span}
 use Rattle.calculus.specs.First.{firstTerm}
 use Rattle.words.specs.Bound.{bound}
-use Rattle.substitution.specs.Depths.{depths}
-use Rattle.substitution.specs.Rewritten.{place}
+use Rattle.walk.specs.Depths.{depths}
+use Rattle.walk.specs.Rewritten.{place}
 use Rattle.substitution.specs.Results.{Starts}
 
 -- How often the argument at place j of n stands for a word of the first items, given the binders around each of the items.

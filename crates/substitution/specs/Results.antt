@@ -12,9 +12,9 @@ use Rattle.calculus.specs.First.{firstTerm, firstTerms}
 use Rattle.calculus.specs.Shift.{shift}
 use Rattle.calculus.specs.Substitution.{subst}
 use Rattle.calculus.specs.Theorems.{Packable, IndicesWithin}
-use Rattle.substitution.specs.Index.{Movable}
-use Rattle.substitution.specs.Depths.{depths}
-use Rattle.substitution.specs.Rewritten.{place}
+use Rattle.walk.specs.Index.{Movable}
+use Rattle.walk.specs.Depths.{depths}
+use Rattle.walk.specs.Rewritten.{place}
 
 -- The words start with those of e.
 pub record Starts {s : Sort} (ws : List ℕ) (e : Exp s) : Type 0 where

@@ -1,14 +1,12 @@
 // Simultaneous substitution over lent words, and the one shift of free indices that it is made of ("Contraction").
-mod index;
 pub mod measure;
-mod scope;
 
-use index::argument;
-use index::down;
-use index::shift_word;
-use index::up;
-use scope::Scope;
-use scope::enter;
+use walk::index::argument;
+use walk::index::down;
+use walk::index::shift_word;
+use walk::index::up;
+use walk::scope::Scope;
+use walk::scope::enter;
 use words::Word;
 use words::extent;
 use words::slices::copy;
@@ -23,8 +21,8 @@ ghost use Rattle.calculus.specs.Skip.{span};
 ghost use Rattle.calculus.specs.First.{firstTerms};
 ghost use Rattle.words.specs.Placed.{Placed};
 ghost use Rattle.words.specs.Room.{Room};
-ghost use Rattle.substitution.specs.Index.{distanceBound};
-ghost use Rattle.substitution.specs.Rewritten.{substituting, standing};
+ghost use Rattle.walk.specs.Index.{distanceBound};
+ghost use Rattle.walk.specs.Rewritten.{substituting, standing};
 ghost use Rattle.substitution.specs.Results.{Shiftable, shifted, Substitutes};
 
 // A place for each argument of a redex, and one more.

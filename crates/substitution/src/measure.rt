@@ -1,9 +1,9 @@
 // What one walk over a body tells, and the length of the body with its arguments put in.
 use crate::PLACES;
-use crate::index::argument;
-use crate::scope::Scope;
-use crate::scope::enter;
 use crate::starts;
+use walk::index::argument;
+use walk::scope::Scope;
+use walk::scope::enter;
 use words::Word;
 ghost use mathlib.Core.Path.{_≡_};
 ghost use Prim.Native.Nat.{_+_};

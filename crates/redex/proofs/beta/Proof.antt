@@ -10,7 +10,7 @@ use Rattle.calculus.specs.Skip.{span}
 use Rattle.calculus.proofs.SkipLaws.{span-bounded}
 use Rattle.calculus.specs.Contraction.{by-beta}
 use Rattle.words.specs.Room.{Room}
-use Rattle.substitution.specs.Depths.{depths}
+use Rattle.walk.specs.Depths.{depths}
 use Rattle.substitution.specs.Measure.{occurrences, Measures}
 use Rattle.substitution.specs.Results.{substituted}
 use Rattle.substitution.proofs.WalkLaws.{starts-some}

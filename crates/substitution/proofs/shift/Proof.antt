@@ -10,10 +10,10 @@ use mir.Syntax.{w32}
 use mir.Val.{toZ, ofZ}
 use mir.ValLaws.{toZ-ofZ}
 use Rattle.calculus.specs.Words.{words}
-use Rattle.substitution.specs.Rewritten.{shifting, standing}
+use Rattle.walk.specs.Rewritten.{shifting, standing}
 use Rattle.substitution.specs.Results.{shifted}
 use Rattle.words.proofs.RoomLaws.{room-of-length}
-use Rattle.substitution.proofs.RewrittenLaws.{rewritten-other, shifting-length}
+use Rattle.walk.proofs.RewrittenLaws.{rewritten-other, shifting-length}
 use Rattle.substitution.proofs.Walking.{walking-enters}
 use Rattle.substitution.proofs.RewritingLaws.{placed-as, Rewriting, rewriting-start, rewriting-some, rewriting-within, rewriting-room, rewriting-next, rewriting-done, standing-shifted, moving-word}
 use Rattle.substitution.proofs.shift.Statement.{statement}

@@ -14,7 +14,7 @@ use Rattle.calculus.specs.Words.{workspaceMost, countBase, words}
 use Rattle.calculus.specs.Accepted.{argumentLimit}
 use Rattle.calculus.specs.First.{firstTerms}
 use Rattle.words.proofs.RoomLaws.{room-of-length}
-use Rattle.substitution.specs.Rewritten.{shifting, substituting, rewritten, place}
+use Rattle.walk.specs.Rewritten.{shifting, substituting, rewritten, place}
 use Rattle.substitution.specs.Results.{shifted}
 use Rattle.substitution.proofs.Walking.{walking-depth, walking-number, walking-enters, walking-free}
 use Rattle.substitution.proofs.RewritingLaws.{placed-as, Rewriting, rewriting-start, rewriting-some, rewriting-within, rewriting-room, rewriting-lent, rewriting-next, rewriting-done}

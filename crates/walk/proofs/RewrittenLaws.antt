@@ -10,7 +10,7 @@ use Rattle.calculus.specs.Term.{Term}
 use Rattle.calculus.specs.Words.{variableKind, kindOf, payloadOf, word, words}
 use Rattle.calculus.specs.Shift.{move}
 use Rattle.calculus.proofs.WordLaws.{word-of-parts}
-use Rattle.substitution.specs.Rewritten.{shifting, rewritten, place}
+use Rattle.walk.specs.Rewritten.{shifting, rewritten, place}
 
 pub rewritten-variable : (f : ℕ → ℕ → Term) (d w : ℕ) → kindOf w ≡ variableKind → rewritten f d w ≡ words (f d (payloadOf w))
 unfolding rewritten

@@ -1,13 +1,13 @@
 -- `enter` meets its contract, arm by arm.
 use Prim.Native.Nat.{_+_, _-_}
-use mathlib.Core.Path.{_≡_, sym, _∙_}
+use mathlib.Core.Path.{_≡_}
 use native.Mathlib.Omega.{arith}
 use Rattle.words.specs.Bound.{bound}
-use Rattle.substitution.proofs.DepthLaws.{bound-few}
-use Rattle.substitution.proofs.EnterLaws.{entered-plain, entered-back, entered-kept, entered-last}
+use Rattle.walk.proofs.DepthLaws.{bound-few}
+use Rattle.walk.proofs.EnterLaws.{entered-plain, entered-back, entered-kept, entered-last}
 use borrow.Author.Needs.{needs}
-use Rattle.substitution.proofs.scope.enter.Statement.{statement}
-use Rattle.substitution.proofs.scope.enter.Tie as tie
+use Rattle.walk.proofs.scope.enter.Statement.{statement}
+use Rattle.walk.proofs.scope.enter.Tie as tie
 
 bound-requires : tie.Need-bound-requires
 bound-requires c κs = search needs

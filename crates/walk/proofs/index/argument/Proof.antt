@@ -9,12 +9,12 @@ use mir.Val.{toZ, ofZ}
 use mir.ValLaws.{toZ-ofZ}
 use Rattle.calculus.specs.Words.{variableKind, kindOf, payloadOf}
 use Rattle.calculus.specs.Shift.{move}
-use Rattle.substitution.specs.Index.{Moves}
+use Rattle.walk.specs.Index.{Moves}
 use Rattle.calculus.proofs.Move.{move-down}
-use Rattle.substitution.proofs.MoveLaws.{moves-down}
-use Rattle.substitution.proofs.RewrittenLaws.{place-argument, place-past, place-bound, place-other}
-use Rattle.substitution.proofs.index.argument.Statement.{statement}
-use Rattle.substitution.proofs.index.argument.Tie as tie
+use Rattle.walk.proofs.MoveLaws.{moves-down}
+use Rattle.walk.proofs.RewrittenLaws.{place-argument, place-past, place-bound, place-other}
+use Rattle.walk.proofs.index.argument.Statement.{statement}
+use Rattle.walk.proofs.index.argument.Tie as tie
 
 payload-requires : tie.Need-payload-requires
 payload-requires c κs = search needs

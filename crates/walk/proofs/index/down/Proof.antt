@@ -5,9 +5,9 @@ use lib.IntN.{pos, negℤ, _-ℤ_, +ℤ-idl}
 use mir.Syntax.{w32}
 use mir.Val.{toZ}
 use mir.ValLaws.{toZ-pos, toZ-ofZ}
-use Rattle.substitution.proofs.MoveLaws.{negation-fits}
-use Rattle.substitution.proofs.index.down.Statement.{statement}
-use Rattle.substitution.proofs.index.down.Tie as tie
+use Rattle.walk.proofs.MoveLaws.{negation-fits}
+use Rattle.walk.proofs.index.down.Statement.{statement}
+use Rattle.walk.proofs.index.down.Tie as tie
 
 cast-result : tie.Need-cast-result
 cast-result c = search needs

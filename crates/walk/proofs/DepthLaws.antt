@@ -9,7 +9,7 @@ use lib.ListN.{length, take, replicate, length-append, length-replicate}
 use lib.Seq.{take-nil}
 use Rattle.calculus.specs.Words.{abstractionKind, branchKind, countBase, kindOf, payloadOf, countOf}
 use Rattle.calculus.specs.Skip.{arity, span}
-use Rattle.substitution.specs.Depths.{depths}
+use Rattle.walk.specs.Depths.{depths}
 use Rattle.words.specs.Bound.{binding as bound, bound as binders}
 
 pub depths-done : (ws : List ℕ) → depths [] ws ≡ []

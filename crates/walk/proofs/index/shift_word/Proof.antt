@@ -9,10 +9,10 @@ use mir.Val.{toZ, ofZ}
 use mir.ValLaws.{toZ-ofZ}
 use Rattle.calculus.specs.Words.{variableKind, kindOf, payloadOf, word}
 use Rattle.calculus.specs.Shift.{move}
-use Rattle.substitution.specs.Rewritten.{shifting}
-use Rattle.substitution.proofs.RewrittenLaws.{rewritten-other, shifting-free, shifting-bound}
-use Rattle.substitution.proofs.index.shift_word.Statement.{statement}
-use Rattle.substitution.proofs.index.shift_word.Tie as tie
+use Rattle.walk.specs.Rewritten.{shifting}
+use Rattle.walk.proofs.RewrittenLaws.{rewritten-other, shifting-free, shifting-bound}
+use Rattle.walk.proofs.index.shift_word.Statement.{statement}
+use Rattle.walk.proofs.index.shift_word.Tie as tie
 
 payload-requires : tie.Need-payload-requires
 payload-requires c κs = search needs

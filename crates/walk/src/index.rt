@@ -7,8 +7,8 @@ ghost use lib.IntN.{pos, negℤ};
 ghost use Rattle.calculus.specs.Term.{var};
 ghost use Rattle.calculus.specs.Words.{variableKind, kindOf, payloadOf};
 ghost use Rattle.calculus.specs.Shift.{move};
-ghost use Rattle.substitution.specs.Index.{distanceBound, Moves, Movable};
-ghost use Rattle.substitution.specs.Rewritten.{shifting, rewritten, place};
+ghost use Rattle.walk.specs.Index.{distanceBound, Moves, Movable};
+ghost use Rattle.walk.specs.Rewritten.{shifting, rewritten, place};
 
 // The index moved by a signed distance: their sum as integers. No other code adds to an index or takes from it.
 fn moved(index: u32, distance: i32) -> u32

@@ -5,7 +5,7 @@ use mathlib.Core.List.{List, _∷_, _++_, append-assoc}
 use native.Mathlib.Omega.{arith}
 use lib.ListN.{length, drop, set, replicate, length-set, replicate-append-replicate}
 use lib.Seq.{drop-cons, getD-set-same, drop-set-lt}
-use Rattle.substitution.specs.Scopes.{scopeBase, expanded, toCome}
+use Rattle.walk.specs.Scopes.{scopeBase, expanded, toCome}
 
 -- The next item is the first of the pending ones.
 pub come-first : (p d : ℕ) (ss : List ℕ) → 1 ≤ p → toCome p d ss ≡ d ∷ toCome (p - 1) d ss

@@ -10,7 +10,7 @@ use Rattle.calculus.proofs.EverywhereLaws.{everywhere-implies}
 use mir.Syntax.{w32}
 use mir.Val.{SFits}
 use Rattle.words.specs.Limits.{payloadBound}
-use Rattle.substitution.specs.Index.{distanceBound, Moves, Movable}
+use Rattle.walk.specs.Index.{distanceBound, Moves, Movable}
 
 pub moves-up : (n i : ℕ) → i + n < payloadBound → Moves (pos n) i
 moves-up n i h = record { exact = refl; fits = h }

@@ -8,8 +8,8 @@ use mir.Syntax.{w32, w64}
 use mir.Val.{SFits, toZ, ofZ}
 use mir.ValLaws.{toZ-pos, toZ-ofZ}
 use Rattle.calculus.specs.Shift.{move}
-use Rattle.substitution.proofs.index.moved.Statement.{statement}
-use Rattle.substitution.proofs.index.moved.Tie as tie
+use Rattle.walk.proofs.index.moved.Statement.{statement}
+use Rattle.walk.proofs.index.moved.Tie as tie
 
 cast-result : tie.Need-cast-result
 cast-result c = search needs

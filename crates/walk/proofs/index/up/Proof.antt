@@ -2,8 +2,8 @@
 use borrow.Author.Needs.{needs}
 use mir.Syntax.{w32}
 use mir.ValLaws.{toZ-pos}
-use Rattle.substitution.proofs.index.up.Statement.{statement}
-use Rattle.substitution.proofs.index.up.Tie as tie
+use Rattle.walk.proofs.index.up.Statement.{statement}
+use Rattle.walk.proofs.index.up.Tie as tie
 
 cast-result : tie.Need-cast-result
 cast-result c = search needs

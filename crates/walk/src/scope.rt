@@ -1,6 +1,6 @@
 // The scopes of a walk over words.
 use words::Word;
-ghost use Rattle.substitution.specs.Scopes.{Enters, Entered};
+ghost use Rattle.walk.specs.Scopes.{Enters, Entered};
 
 // Where a walk stands: how many items come next, under how many binders, and from where on its room holds the scopes that were left with items.
 pub struct Scope {

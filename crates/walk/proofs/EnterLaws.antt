@@ -12,8 +12,8 @@ use lib.Seq.{drop-cons}
 use Rattle.calculus.specs.Words.{abstractionKind, branchKind, kindOf, payloadOf}
 use Rattle.calculus.specs.Skip.{following, arity}
 use Rattle.words.specs.Bound.{binding, bound}
-use Rattle.substitution.specs.Scopes.{scopeBase, toCome, Enters, Entered}
-use Rattle.substitution.proofs.ScopeLaws.{come-plain, come-kept, come-last, come-back, room-kept}
+use Rattle.walk.specs.Scopes.{scopeBase, toCome, Enters, Entered}
+use Rattle.walk.proofs.ScopeLaws.{come-plain, come-kept, come-last, come-back, room-kept}
 
 -- A binder has one item behind it.
 binder-one : (w : ℕ) → (bound w ≡ 0 → ⊥) → arity w ≡ 1

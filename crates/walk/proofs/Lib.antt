@@ -1,0 +1,5 @@
+pub mod MoveLaws
+pub mod RewrittenLaws
+pub mod DepthLaws
+pub mod ScopeLaws
+pub mod EnterLaws
