@@ -19,9 +19,9 @@ use Rattle.records.specs.Children.{childrenFit, wrongChildren}
 use Rattle.tables.specs.Meaning.{termOf, meantTerm, meantTerms, meantBranch, meantBranches, meant, meaning}
 use Rattle.tables.specs.Load.{loadStored}
 use Rattle.tables.specs.Write.{write}
-use Rattle.vectors.specs.Text.{pastSpace, startsWith, after, digits, numberAt, settingAt}
-use Rattle.vectors.specs.Lists.{itemAt, withMore, items, listAt, comparedAt}
-use Rattle.vectors.specs.Compared.{agree, areWords}
+use Rattle.vector_text.specs.Text.{pastSpace, startsWith, after, digits, numberAt, settingAt}
+use Rattle.vector_text.specs.Lists.{itemAt, withMore, items, listAt, comparedAt}
+use Rattle.vector_text.specs.Compared.{agree, areWords}
 use Rattle.vectors.specs.Pair.{verdictAt, givenAt, lentAt, refusedAfter, countedAfter, checked, pressStep, shownAfter, stepped, stepsFrom, openedAt, pairRun, pairHolds}
 use Rattle.vectors.specs.Stored.{chainFrom, tableAt, isTable, writesInto, writesBack, loadedAs, loading, loadHolds, writesWords, writeHolds}
 use Rattle.vectors.specs.Vector.{passes, shareOf}

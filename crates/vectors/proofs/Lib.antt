@@ -1,6 +1,3 @@
-pub mod ComparedLaws
-pub mod TextLaws
-pub mod ListLaws
 pub mod StepLaws
 pub mod StoredLaws
 pub mod TallyLaws

@@ -10,15 +10,15 @@ use lib.Seq.{sets, sets-eq}
 use borrow.Author.Tests.{eq-eqb, ne-eqb}
 use Rattle.tables.specs.Load.{Loaded}
 use Rattle.tables.specs.Write.{Written}
-use Rattle.vectors.specs.Text.{nowhere, after, numberAt}
+use Rattle.vector_text.specs.Text.{nowhere, after, numberAt}
 use Rattle.vectors.specs.Keywords.{refusedWord, givesWord}
-use Rattle.vectors.specs.Compared.{areWords}
-use Rattle.vectors.specs.Lists.{Listed, comparedAt}
+use Rattle.vector_text.specs.Compared.{areWords}
+use Rattle.vector_text.specs.Lists.{Listed, comparedAt}
 use Rattle.vectors.specs.Answers.{isReturned}
 use Rattle.vectors.specs.Pair.{junk}
 use Rattle.vectors.specs.Stored.{refusedLast, chainWord, chainFrom, chain, givesTerm, loadedAs, isTable, writtenAs, junkTable, writesInto, writesListed}
-use Rattle.vectors.specs.declared.text.Compared.{Compared}
-use Rattle.vectors.specs.declared.text.Number.{Number}
+use Rattle.vector_text.specs.declared.Compared.{Compared}
+use Rattle.vector_text.specs.declared.Number.{Number}
 
 module _ (records index : ℕ) where
   chain-length : (place n : ℕ) → length (chainFrom records index place n) ≡ n

@@ -1,14 +1,31 @@
 -- The lines of a text, one after the other.
 use Prim.Native.Nat.{ℕ, zero, suc, _+_, _-_, _≤_, _<_}
+use native.Mathlib.Numerals.{add-one}
 use native.Mathlib.Omega.{arith}
 use mathlib.Core.Path.{_≡_, refl}
 use mathlib.Core.Bool.{Bool, true, false, cond, _&&_}
 use mathlib.Core.List.{List}
 use lib.Dec.{eqb, ltb}
-use lib.ListN.{length, getD, take, drop}
-use borrow.Author.Tests.{le-leb, lt-leb}
-use Rattle.vectors.specs.Vector.{lineEnd, passes, comment, nothing, counted, shareOf, tallyFrom}
+use lib.ListN.{length, getD, take, drop, drop-of-length-le}
+use lib.Seq.{drop-cons}
+use borrow.Author.Tests.{le-leb, lt-leb, eq-eqb, ne-eqb}
+use Rattle.vectors.specs.Vector.{newline, endFrom, lineEnd, passes, comment, nothing, counted, shareOf, tallyFrom}
 use Rattle.vectors.specs.declared.vector.Tally.{Tally}
+
+-- A line's end.
+module _ (text : List ℕ) (i : ℕ) where
+  pub end-over : length text ≤ i → endFrom i (drop i text) ≡ i
+  unfolding endFrom
+  end-over over = rw (drop-of-length-le text over)
+
+  module _ (inside : i < length text) where
+    pub end-here : getD text i 0 ≡ newline → endFrom i (drop i text) ≡ i
+    unfolding endFrom
+    end-here e = rw (drop-cons text i 0 inside, eq-eqb (getD text i 0) newline e)
+
+    pub end-next : (getD text i 0 ≡ newline → ⊥) → endFrom i (drop i text) ≡ endFrom (i + 1) (drop (i + 1) text)
+    unfolding endFrom
+    end-next n = rw (drop-cons text i 0 inside, ne-eqb (getD text i 0) newline n, add-one)
 
 -- A line has at most one vector, and it passes at most once.
 abbrev Small : Tally → Type 0

@@ -11,10 +11,10 @@ use Rattle.calculus.specs.Refusal.{WrongLength, NoTerm}
 use Rattle.press.specs.State.{Session, fresh}
 use Rattle.press.specs.Answer.{Answer, refused, shown}
 use Rattle.tables.specs.Load as tables
-use Rattle.vectors.specs.Text.{nowhere, after, numberAt, settingAt}
+use Rattle.vector_text.specs.Text.{nowhere, after, numberAt, settingAt}
 use Rattle.vectors.specs.Keywords.{pairWord, loadWord, writeWord, leftWord, pressWord, showWord}
 use Rattle.vectors.specs.Keywords.{sameWord, differentWord, refusedWord, givesWord, writesWord}
-use Rattle.vectors.specs.Lists.{listAt}
+use Rattle.vector_text.specs.Lists.{listAt}
 use Rattle.vectors.specs.Answers.{isSession, isShown, isRefused}
 use Rattle.vectors.specs.Pair.{junk, lentAt, Stage, refusedAfter, countedAfter}
 use Rattle.vectors.specs.Stored.{chain, writtenAs, loadedAs}

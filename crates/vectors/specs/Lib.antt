@@ -1,7 +1,4 @@
 -- What a vector's line says, and when it passes.
-pub mod Text
-pub mod Compared
-pub mod Lists
 pub mod Keywords
 pub mod Answers
 pub mod Pair

@@ -13,13 +13,13 @@ use Rattle.press.specs.Press.{press}
 use Rattle.press.specs.Showing.{show, partBy}
 use Rattle.rounds.specs.Types.{verdictOf}
 use Rattle.press.specs.Types.{sessionOf, callOf}
-use Rattle.vectors.specs.Text.{nowhere, after, numberAt, settingAt}
+use Rattle.vector_text.specs.Text.{nowhere, after, numberAt, settingAt}
 use Rattle.vectors.specs.Keywords.{totalWord, leftWord, rightWord, scratchWord, pressWord, showWord}
 use Rattle.vectors.specs.Keywords.{sameWord, differentWord, budgetWord, fullWord, refusedWord}
-use Rattle.vectors.specs.Compared.{areWords}
-use Rattle.vectors.specs.Lists.{Listed, comma, listAt, comparedAt}
+use Rattle.vector_text.specs.Compared.{areWords}
+use Rattle.vector_text.specs.Lists.{Listed, comma, listAt, comparedAt}
 use Rattle.vectors.specs.Answers.{isSession, isShown, isRefused}
-use Rattle.vectors.specs.declared.text.Compared.{Compared}
+use Rattle.vector_text.specs.declared.Compared.{Compared}
 use Rattle.vectors.specs.declared.pair.Named.{Named}
 use Rattle.vectors.specs.declared.pair.Given.{Given}
 use Rattle.vectors.specs.declared.pair.Lent.{Lent}

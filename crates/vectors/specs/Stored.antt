@@ -7,13 +7,13 @@ use lib.ListN.{length, take, replicate}
 use Rattle.calculus.specs.Refusal.{number}
 use Rattle.tables.specs.Load.{Answer, refused, returned, Loaded, load}
 use Rattle.tables.specs.Write.{Written, write}
-use Rattle.vectors.specs.Text.{nowhere, after, numberAt}
+use Rattle.vector_text.specs.Text.{nowhere, after, numberAt}
 use Rattle.vectors.specs.Keywords.{refusedWord, chainKeyword, givesWord, writesWord}
-use Rattle.vectors.specs.Compared.{areWords}
-use Rattle.vectors.specs.Lists.{listMost, recordWords, Listed, listAt, comparedAt}
+use Rattle.vector_text.specs.Compared.{areWords}
+use Rattle.vector_text.specs.Lists.{listMost, recordWords, Listed, listAt, comparedAt}
 use Rattle.vectors.specs.Answers.{isReturned}
 use Rattle.vectors.specs.Pair.{junk, junkWords}
-use Rattle.vectors.specs.declared.text.Compared.{Compared}
+use Rattle.vector_text.specs.declared.Compared.{Compared}
 
 -- Whether a call went as the line says, and the words that it left in what it was lent.
 pub record Verified : Type 0 where

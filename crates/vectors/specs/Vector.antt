@@ -4,7 +4,7 @@ use mathlib.Core.Bool.{Bool, cond, _&&_}
 use mathlib.Core.List.{List, [], _∷_}
 use lib.Dec.{eqb, leb, ltb}
 use lib.ListN.{length, getD, take, drop}
-use Rattle.vectors.specs.Text.{nowhere, after}
+use Rattle.vector_text.specs.Text.{nowhere, after}
 use Rattle.vectors.specs.Keywords.{pairWord, loadWord, writeWord}
 use Rattle.vectors.specs.Pair.{pairHolds}
 use Rattle.vectors.specs.Stored.{loadHolds, writeHolds}

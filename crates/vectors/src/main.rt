@@ -7,10 +7,8 @@ use crate::vector::tally_all;
 use libc::STDIN_FILENO;
 use libc::STDOUT_FILENO;
 
-mod lent;
 mod pair;
 mod stored;
-mod text;
 mod vector;
 
 // The most bytes that are read.

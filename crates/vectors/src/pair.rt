@@ -11,20 +11,20 @@
 //
 // and gets the terms' lengths, and a scratch of C words, unless `left n`, `right n` or `scratch n` stand in front of it, in this order. After a press
 // the session and every word of both workspaces and the scratch are compared too.
-use crate::lent::filled;
-use crate::lent::lent;
-use crate::text::NOWHERE;
-use crate::text::after;
-use crate::text::compare;
-use crate::text::read_list;
-use crate::text::read_number;
-use crate::text::read_setting;
 use press::answer::Answer;
 use press::answer::Pressed;
 use press::show;
 use press::state::Session;
 use rounds::Verdict;
 use session::press_owned;
+use vector_text::NOWHERE;
+use vector_text::after;
+use vector_text::compare;
+use vector_text::lent::filled;
+use vector_text::lent::lent;
+use vector_text::read_list;
+use vector_text::read_number;
+use vector_text::read_setting;
 use words::Word;
 ghost use mathlib.Core.Path.{_≡_};
 ghost use lib.ListN.{length};

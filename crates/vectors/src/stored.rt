@@ -8,28 +8,28 @@
 //
 // The workspace has C words, and the table that is written `size`: all junk before the call, and every word is compared after it. In place of a
 // table, `chain n index` is the table of n - 1 abstractions around a variable.
-use crate::lent::filled;
-use crate::lent::holds;
-use crate::lent::lent;
 use crate::pair::JUNK;
 use crate::pair::ROOM;
-use crate::text::LIST_MOST;
-use crate::text::List;
-use crate::text::NOWHERE;
-use crate::text::RECORD_WORDS;
-use crate::text::after;
-use crate::text::compare;
-use crate::text::read_list;
-use crate::text::read_number;
 use tables::Answer;
 use tables::load;
 use tables::write;
+use vector_text::LIST_MOST;
+use vector_text::List;
+use vector_text::NOWHERE;
+use vector_text::RECORD_WORDS;
+use vector_text::after;
+use vector_text::compare;
+use vector_text::lent::filled;
+use vector_text::lent::holds;
+use vector_text::lent::lent;
+use vector_text::read_list;
+use vector_text::read_number;
 ghost use mathlib.Core.Path.{_≡_};
 ghost use Prim.Native.Nat.{_≤_};
 ghost use lib.ListN.{length};
 ghost use Rattle.tables.specs.Types.{answerOf};
 ghost use Rattle.vectors.specs.Answers.{isReturned};
-ghost use Rattle.vectors.specs.Lists.{listMost, listedOf};
+ghost use Rattle.vector_text.specs.Lists.{listMost, listedOf};
 ghost use Rattle.vectors.specs.Stored.{verifiedOf, refusedLast, chainWord, chain, tableAt, isTable, writesInto, writesBack, loading, loadHolds, writesWords, writeHolds};
 
 fn returns_count(answer: Answer, count: usize) -> bool

@@ -2,9 +2,9 @@
 use crate::pair::pair_holds;
 use crate::stored::load_holds;
 use crate::stored::write_holds;
-use crate::text::NOWHERE;
-use crate::text::after;
 use libc::STDOUT_FILENO;
+use vector_text::NOWHERE;
+use vector_text::after;
 ghost use mathlib.Core.Path.{_≡_};
 ghost use Prim.Native.Nat.{_≤_};
 ghost use lib.ListN.{length};

@@ -1,7 +1,7 @@
 -- `pair_holds` meets its contract.
 use mathlib.Core.Path.{_∙_, ap, ap₂}
 use Rattle.vectors.specs.Pair.{room, junk, pairRun, pairHolds}
-use Rattle.vectors.proofs.ListLaws.{lent-words, lent-length}
+use Rattle.vector_text.proofs.ListLaws.{lent-words, lent-length}
 use borrow.Author.Needs.{needs}
 use Rattle.vectors.proofs.pair.pair_holds.Statement.{statement}
 use Rattle.vectors.proofs.pair.pair_holds.Tie as tie

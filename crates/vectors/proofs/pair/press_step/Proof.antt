@@ -3,7 +3,7 @@ use mathlib.Core.Path.{_∙_, ap}
 use Rattle.press.specs.Press.{press}
 use Rattle.press.specs.Types.{memoryOf, callOf, pressedOf}
 use Rattle.vectors.specs.Pair.{room, junk, Stage, stageOf, Stepped, checked, steppedAfter, pressStep}
-use Rattle.vectors.proofs.ListLaws.{lent-words, lent-length, lent-again}
+use Rattle.vector_text.proofs.ListLaws.{lent-words, lent-length, lent-again}
 use borrow.Author.Needs.{needs}
 use Rattle.vectors.proofs.pair.press_step.Statement.{statement}
 use Rattle.vectors.proofs.pair.press_step.Tie as tie

@@ -1,7 +1,7 @@
 -- `run` meets its contract.
 use mathlib.Core.Path.{_∙_, ap}
 use lib.ListN.{length}
-use Rattle.vectors.specs.Lists.{listedOf, listAt}
+use Rattle.vector_text.specs.Lists.{listedOf, listAt}
 use Rattle.vectors.specs.Pair.{stepsFrom, startAt, runFrom, pairRun}
 use borrow.Author.Needs.{needs}
 use Rattle.vectors.proofs.pair.run.Statement.{statement}

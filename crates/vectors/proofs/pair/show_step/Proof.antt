@@ -1,6 +1,6 @@
 -- `show_step` meets its contract.
 use mathlib.Core.Path.{_∙_, ap}
-use Rattle.vectors.specs.Lists.{comparedAt}
+use Rattle.vector_text.specs.Lists.{comparedAt}
 use Rattle.vectors.specs.Pair.{shownBy, shownAfter}
 use borrow.Author.Needs.{needs}
 use Rattle.vectors.proofs.pair.show_step.Statement.{statement}

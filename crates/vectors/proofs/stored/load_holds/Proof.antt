@@ -2,10 +2,10 @@
 use Prim.Native.Nat.{min}
 use mathlib.Core.Path.{_∙_, ap, ap₂}
 use lib.ListN.{take}
-use Rattle.vectors.specs.Lists.{listMost}
+use Rattle.vector_text.specs.Lists.{listMost}
 use Rattle.vectors.specs.Pair.{room, junk, junkWords}
 use Rattle.vectors.specs.Stored.{loading, loadHolds}
-use Rattle.vectors.proofs.ListLaws.{lent-words, lent-length, part-length}
+use Rattle.vector_text.proofs.ListLaws.{lent-words, lent-length, part-length}
 use borrow.Author.Needs.{needs}
 use Rattle.vectors.proofs.stored.load_holds.Statement.{statement}
 use Rattle.vectors.proofs.stored.load_holds.Tie as tie

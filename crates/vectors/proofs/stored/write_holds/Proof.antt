@@ -2,7 +2,7 @@
 use mathlib.Core.Path.{_∙_, ap}
 use Rattle.vectors.specs.Pair.{room, junk}
 use Rattle.vectors.specs.Stored.{writesWords, writeHolds}
-use Rattle.vectors.proofs.ListLaws.{lent-words, lent-length}
+use Rattle.vector_text.proofs.ListLaws.{lent-words, lent-length}
 use borrow.Author.Needs.{needs}
 use Rattle.vectors.proofs.stored.write_holds.Statement.{statement}
 use Rattle.vectors.proofs.stored.write_holds.Tie as tie

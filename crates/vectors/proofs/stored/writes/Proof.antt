@@ -1,10 +1,10 @@
 -- `writes` meets its contract.
 use mathlib.Core.Path.{_∙_, ap}
-use Rattle.vectors.specs.Lists.{listMost}
+use Rattle.vector_text.specs.Lists.{listMost}
 use Rattle.vectors.specs.Pair.{junk}
 use Rattle.vectors.specs.Stored.{writesInto, writesBack}
 use lib.ListN.{length}
-use Rattle.vectors.proofs.ListLaws.{lent-words, lent-length}
+use Rattle.vector_text.proofs.ListLaws.{lent-words, lent-length}
 use borrow.Author.Needs.{needs}
 use Rattle.vectors.proofs.stored.writes.Statement.{statement}
 use Rattle.vectors.proofs.stored.writes.Tie as tie

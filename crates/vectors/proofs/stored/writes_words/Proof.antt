@@ -1,10 +1,10 @@
 -- `writes_words` meets its contract.
 use mathlib.Core.Path.{sym, _∙_, ap}
 use mathlib.Core.List.{[]}
-use Rattle.vectors.specs.Lists.{listMost, listedOf}
+use Rattle.vector_text.specs.Lists.{listMost, listedOf}
 use Rattle.vectors.specs.Pair.{junk}
 use Rattle.vectors.specs.Stored.{verifiedOf, writesInto, writesListed, writesWords}
-use Rattle.vectors.proofs.ListLaws.{lent-words, lent-length}
+use Rattle.vector_text.proofs.ListLaws.{lent-words, lent-length}
 use Rattle.vectors.proofs.StoredLaws.{listed-of}
 use borrow.Author.Needs.{needs}
 use Rattle.vectors.proofs.stored.writes_words.Statement.{statement}

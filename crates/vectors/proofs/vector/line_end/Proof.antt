@@ -4,7 +4,7 @@ use mathlib.Core.Path.{_≡_, refl, sym, _∙_}
 use native.Mathlib.Omega.{arith}
 use lib.ListN.{length, drop}
 use Rattle.vectors.specs.Vector.{endFrom, lineEnd}
-use Rattle.vectors.proofs.TextLaws.{end-over, end-here, end-next}
+use Rattle.vectors.proofs.TallyLaws.{end-over, end-here, end-next}
 use borrow.Author.Needs.{needs}
 use Rattle.vectors.proofs.vector.line_end.Statement.{statement}
 use Rattle.vectors.proofs.vector.line_end.Tie as tie
