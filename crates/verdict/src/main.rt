@@ -1,8 +1,8 @@
 // Reads a request from standard input, and prints its line.
 use libc::STDIN_FILENO;
 use libc::STDOUT_FILENO;
+use request::INPUT_MOST;
 use verdict_line::print::LINE_MOST;
-use verdict_line::request::INPUT_MOST;
 
 fn main() {
     // One byte more than a request can have shows that an input is longer.

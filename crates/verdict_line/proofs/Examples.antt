@@ -19,7 +19,7 @@ use Rattle.tables.specs.Meaning.{termOf, meantTerm, meantTerms, meantBranch, me
 use Rattle.tables.specs.Load.{loadStored}
 use Rattle.text.specs.Bytes.{wordsOf}
 use Rattle.text.specs.Decimal.{digits, decimal}
-use Rattle.verdict_line.specs.Request.{request}
+use Rattle.request.specs.Request.{request}
 use Rattle.verdict_line.specs.Line.{printed}
 use Rattle.verdict_line.specs.Examples.{bytesOf, Printed-examples}
 

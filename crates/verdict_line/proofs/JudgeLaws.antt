@@ -19,7 +19,7 @@ use Rattle.tables.specs.declared.Answer.the-variants as answer
 use Rattle.tables.specs.Load.{load}
 use Rattle.tables.specs.Types.{loadedOf}
 use Rattle.verdict_line.specs.Line.{refuses, lineOf, loadedLeft, loadedRight, judged}
-use Rattle.verdict_line.specs.Request.{Request}
+use Rattle.request.specs.Request.{Request}
 use Rattle.verdict_line.specs.Judge.{lentMost}
 use Rattle.words.proofs.RoomLaws.{take-replicate}
 

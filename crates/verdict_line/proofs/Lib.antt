@@ -1,4 +1,3 @@
-pub mod RequestLaws
 pub mod LineLaws
 pub mod JudgeLaws
 pub mod Examples

@@ -14,7 +14,7 @@ use Rattle.verdict_line.specs.Line.{Line, input, refuses, shows, judged,
 use Rattle.calculus.specs.Words.{workspaceMost}
 use Rattle.calculus.specs.Refusal.{WrongWorkspace, number}
 use Rattle.tables.specs.Load.{refused, loadStored, load}
-use Rattle.verdict_line.specs.Request.{Request, request}
+use Rattle.request.specs.Request.{Request, request}
 use Rattle.words.specs.Placed.{Placed}
 use Rattle.text.proofs.DecimalLaws.{length-decimal}
 use Rattle.verdict_line.specs.Judge.{lentMost}

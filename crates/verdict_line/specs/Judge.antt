@@ -2,9 +2,9 @@
 use Prim.Native.Nat.{ℕ, suc}
 use mathlib.Core.List.{List}
 use Rattle.calculus.specs.Words.{workspaceMost}
-use Rattle.verdict_line.specs.declared.request.Table.{Table}
-use Rattle.verdict_line.specs.Request.{Request}
-use Rattle.verdict_line.specs.Parse.{wordsOfTable}
+use Rattle.request.specs.declared.Table.{Table}
+use Rattle.request.specs.Request.{Request}
+use Rattle.request.specs.Parse.{wordsOfTable}
 
 -- A workspace is lent by at most one word more than it may have.
 abbrev pub lentMost : ℕ

@@ -1,6 +1,4 @@
 -- What the verdict program prints for the bytes that it reads.
-pub mod Request
-pub mod Parse
 pub mod Line
 pub mod Types
 pub mod Judge

@@ -10,7 +10,7 @@ use Rattle.press.specs.State.{fresh}
 use Rattle.press.specs.Press.{press}
 use Rattle.press.specs.Answer as press
 use Rattle.tables.specs.Load.{Answer, refused, returned, load}
-use Rattle.verdict_line.specs.Request.{Request, request}
+use Rattle.request.specs.Request.{Request, request}
 use Rattle.text.specs.Decimal.{digitsMost, field, newline}
 
 -- What is printed.

@@ -1,11 +1,11 @@
 // What a request comes to: left is loaded, then right, then one press with a fresh session.
 use crate::print::Line;
-use crate::request::Parsed;
-use crate::request::TABLE_MOST;
-use crate::request::Table;
-use crate::request::parse;
 use press::answer::Answer;
 use press::state::Session;
+use request::Parsed;
+use request::TABLE_MOST;
+use request::Table;
+use request::parse;
 use session::press_owned;
 use text::bytes::words_from;
 use words::Word;
@@ -15,8 +15,8 @@ ghost use Prim.Native.Nat.{min};
 ghost use Rattle.press.specs.Types.{answerOf};
 ghost use Rattle.tables.specs.Load.{load};
 ghost use Rattle.tables.specs.Types.{loadedOf};
-ghost use Rattle.verdict_line.specs.Request.{request};
-ghost use Rattle.verdict_line.specs.Parse.{wordsOfTable, Stands};
+ghost use Rattle.request.specs.Request.{request};
+ghost use Rattle.request.specs.Parse.{wordsOfTable, Stands};
 ghost use Rattle.verdict_line.specs.Line.{lineOf, judged};
 ghost use Rattle.verdict_line.specs.Types.{printedLine};
 ghost use Rattle.verdict_line.specs.Judge.{lentMost, requestFor};

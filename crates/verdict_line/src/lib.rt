@@ -1,15 +1,11 @@
 // The verdict program's work on slices: bytes in, the printed line out.
 use crate::print::LINE_MOST;
-use crate::request::INPUT_MOST;
-use crate::request::TABLE_MOST;
 ghost use mathlib.Core.Path.{_≡_};
-ghost use Rattle.verdict_line.specs.Request.{tableLimit, inputMost};
 ghost use Rattle.verdict_line.specs.Line.{lineMost, printed};
 ghost use Rattle.words.specs.Placed.{Placed};
 
 pub mod judge;
 pub mod print;
-pub mod request;
 
 // Puts what is printed for the bytes at the start of `out`, and returns its length.
 pub fn line(bytes: &[u8], out: &mut [u8; LINE_MOST]) -> usize
@@ -19,9 +15,7 @@ pub fn line(bytes: &[u8], out: &mut [u8; LINE_MOST]) -> usize
     print::put_line(line, out)
 }
 
-// Does nothing. Its contract says that each constant is the number that the definitions give its name.
+// Does nothing. Its contract says that the constant is the number that the definitions give its name.
 fn constants()
-    ensures { λ r. do ⌜ (← ⟦TABLE_MOST⟧ .entry) ≡ tableLimit ⌝ }
-    ensures { λ r. do ⌜ (← ⟦INPUT_MOST⟧ .entry) ≡ inputMost ⌝ }
     ensures { λ r. do ⌜ (← ⟦LINE_MOST⟧ .entry) ≡ lineMost ⌝ }
 {}

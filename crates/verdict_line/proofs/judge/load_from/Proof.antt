@@ -4,7 +4,7 @@ use lib.ListN.{length}
 use lib.Seq.{length-take-le, take-at}
 use Rattle.tables.specs.Load.{load}
 use Rattle.text.specs.Decode.{wordsFrom}
-use Rattle.verdict_line.specs.Parse.{wordsOfTable}
+use Rattle.request.specs.Parse.{wordsOfTable}
 use Rattle.text.proofs.Storing.{front-fits, front-length}
 use borrow.Author.Needs.{needs}
 use Rattle.verdict_line.proofs.judge.load_from.Statement.{statement}

@@ -5,7 +5,8 @@ use words::Word;
 ghost use mathlib.Core.Path.{_≡_};
 ghost use Prim.Native.Nat.{_≤_};
 ghost use lib.ListN.{length};
-ghost use Rattle.verdict_line.specs.Parse.{tableAt, Parses};
+ghost use Rattle.request.specs.Request.{tableLimit, inputMost};
+ghost use Rattle.request.specs.Parse.{tableAt, Parses};
 
 // The words of a record.
 const RECORD_WORDS: usize = 4;
@@ -91,3 +92,9 @@ pub fn parse(bytes: &[u8]) -> Parsed
         right,
     }
 }
+
+// Does nothing. Its contract says that each constant is the number that the definitions give its name.
+fn constants()
+    ensures { λ r. do ⌜ (← ⟦TABLE_MOST⟧ .entry) ≡ tableLimit ⌝ }
+    ensures { λ r. do ⌜ (← ⟦INPUT_MOST⟧ .entry) ≡ inputMost ⌝ }
+{}

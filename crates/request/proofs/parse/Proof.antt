@@ -1,12 +1,12 @@
 -- `parse` meets its contract: its tests are those of the laws that say which request bytes are.
 use mathlib.Core.Path.{_≡_, sym, _∙_}
 use native.Mathlib.Omega.{arith}
-use Rattle.verdict_line.specs.declared.request.Found.the-variants as found
-use Rattle.verdict_line.specs.Parse.{end, tableAt}
-use Rattle.verdict_line.proofs.RequestLaws.{leftCount, There, there, count-missing, no-left, no-right, surplus, asked}
+use Rattle.request.specs.declared.Found.the-variants as found
+use Rattle.request.specs.Parse.{end, tableAt}
+use Rattle.request.proofs.RequestLaws.{leftCount, There, there, count-missing, no-left, no-right, surplus, asked}
 use borrow.Author.Needs.{needs}
-use Rattle.verdict_line.proofs.request.parse.Statement.{statement}
-use Rattle.verdict_line.proofs.request.parse.Tie as tie
+use Rattle.request.proofs.parse.Statement.{statement}
+use Rattle.request.proofs.parse.Tie as tie
 
 returns : tie.Need-returns
 returns c = record { meaning = no-left _ (count-missing _ leftCount (omega arith)); standing = tt }

@@ -10,13 +10,13 @@ use lib.Dec.{leb, eqb}
 use lib.ListN.{length, take, drop}
 use lib.Seq.{take-all, length-take-le}
 use borrow.Author.Tests.{leb-true, leb-false, le-leb, lt-leb, eq-eqb, ne-eqb}
-use Rattle.verdict_line.specs.declared.request.Table.{Table}
-use Rattle.verdict_line.specs.declared.request.Found.{Found}
-use Rattle.verdict_line.specs.declared.request.Found.the-variants as found
+use Rattle.request.specs.declared.Table.{Table}
+use Rattle.request.specs.declared.Found.{Found}
+use Rattle.request.specs.declared.Found.the-variants as found
 use Rattle.text.specs.Bytes.{wordBytes, wordsOf}
 use Rattle.text.specs.Decode.{wordAt, wordsFrom}
-use Rattle.verdict_line.specs.Request.{Request, tableLimit, inputMost, counted, complete, requestOf, request}
-use Rattle.verdict_line.specs.Parse.{end, tableAt, wordsOfTable, Stands}
+use Rattle.request.specs.Request.{Request, tableLimit, inputMost, counted, complete, requestOf, request}
+use Rattle.request.specs.Parse.{end, tableAt, wordsOfTable, Stands}
 use Rattle.text.proofs.DecodeLaws.{length-wordsFrom, take-wordsFrom, drop-wordsFrom, wordsOf-whole, wordsOf-part}
 
 -- What is made of the table, if it is there.

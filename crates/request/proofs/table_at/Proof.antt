@@ -1,10 +1,10 @@
 -- `table_at` meets its contract.
 use mathlib.Core.Path.{sym}
 use native.Mathlib.Omega.{arith}
-use Rattle.verdict_line.proofs.RequestLaws.{count-missing, too-many, words-missing, stands-there}
+use Rattle.request.proofs.RequestLaws.{count-missing, too-many, words-missing, stands-there}
 use borrow.Author.Needs.{needs}
-use Rattle.verdict_line.proofs.request.table_at.Statement.{statement}
-use Rattle.verdict_line.proofs.request.table_at.Tie as tie
+use Rattle.request.proofs.table_at.Statement.{statement}
+use Rattle.request.proofs.table_at.Tie as tie
 
 sub-ahead : tie.Need-sub-ahead
 sub-ahead c = search needs

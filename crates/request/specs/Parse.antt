@@ -6,14 +6,14 @@ use mathlib.Core.List.{List}
 use mathlib.Core.Option.{Option, some, none}
 use lib.Dec.{leb}
 use lib.ListN.{length}
-use Rattle.verdict_line.specs.declared.request.Table.{Table}
-use Rattle.verdict_line.specs.declared.request.Found.{Found}
-use Rattle.verdict_line.specs.declared.request.Found.the-variants as found
-use Rattle.verdict_line.specs.declared.request.Parsed.{Parsed}
-use Rattle.verdict_line.specs.declared.request.Parsed.the-variants as parsed
+use Rattle.request.specs.declared.Table.{Table}
+use Rattle.request.specs.declared.Found.{Found}
+use Rattle.request.specs.declared.Found.the-variants as found
+use Rattle.request.specs.declared.Parsed.{Parsed}
+use Rattle.request.specs.declared.Parsed.the-variants as parsed
 use Rattle.text.specs.Bytes.{wordBytes}
 use Rattle.text.specs.Decode.{wordAt, wordsFrom}
-use Rattle.verdict_line.specs.Request.{Request, tableLimit, request}
+use Rattle.request.specs.Request.{Request, tableLimit, request}
 
 -- The position after a table.
 abbrev pub end : Table → ℕ
