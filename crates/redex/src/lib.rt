@@ -36,7 +36,7 @@ pub struct Redex {
     pub length: usize,
 }
 
-// The body of a branch with the number of branches behind it, or that there is none.
+// What a search among the branches of a case finds: the body of one with the number of branches behind it, or that there is none.
 pub enum Found {
     At(usize, u32),
     Nothing,
