@@ -9,6 +9,7 @@ pub mod SkipLaws
 pub mod ReadLaws
 pub mod FirstLaws
 pub mod PrefixFree
+pub mod ComparisonLaws
 pub mod Move
 pub mod Indices
 pub mod Site

@@ -1,4 +1,4 @@
--- The edges of the rounds, of the word rules and of closed terms, each with the neighbour that just passes: what the starred bench pairs do not touch.
+-- The edges of the rounds, of the position that is shown, of the word rules and of closed terms, each with the neighbour that just passes: what the starred bench pairs do not touch.
 use mathlib.Core.Path.{_≡_}
 use Prim.Native.Nat.{ℕ}
 use mathlib.Core.List.{List, [], _∷_}
@@ -6,6 +6,7 @@ use mathlib.Core.Option.{some, none, Option·map}
 use Rattle.calculus.specs.Term.{var, lam}
 use Rattle.calculus.specs.Words.{words}
 use Rattle.calculus.specs.Read.{read}
+use Rattle.calculus.specs.Comparison.{equal, differ, compareWords}
 use Rattle.calculus.specs.Rounds.{Same, Different, Budget, Full}
 use Rattle.calculus.specs.Theorems.{Closed}
 use Rattle.calculus.specs.Bench.{contracted, judged, shown}
@@ -15,16 +16,26 @@ abbrev pub ww : List ℕ
 ww = 2 ∷ 1 ∷ 2 ∷ 2 ∷ 0 ∷ 0 ∷ 0 ∷ 1 ∷ 2 ∷ 2 ∷ 0 ∷ 0 ∷ 0 ∷ []
 
 pub record Boundaries : Type 0 where
-  pub both-move-within-budget : judged (2 ∷ 1 ∷ 0 ∷ 0 ∷ []) (2 ∷ 1 ∷ 0 ∷ 8 ∷ []) 16 2 ≡ some (shown Different 2 1 1)
-  pub both-move-one-short : judged (2 ∷ 1 ∷ 0 ∷ 0 ∷ []) (2 ∷ 1 ∷ 0 ∷ 8 ∷ []) 16 1 ≡ some (shown Budget 0 4 4)
-  pub right-alone-moves : judged (8 ∷ []) (2 ∷ 1 ∷ 0 ∷ 0 ∷ []) 16 1 ≡ some (shown Different 1 1 1)
-  pub budget-before-full : judged ww (0 ∷ []) 16 0 ≡ some (shown Budget 0 13 1)
-  pub full : judged ww (0 ∷ []) 16 1 ≡ some (shown Full 0 13 1)
-  pub next-term-of-C-words : judged ww (0 ∷ []) 20 1 ≡ some (shown Budget 1 20 1)
-  pub left-too-long : judged ww (2 ∷ 1 ∷ 0 ∷ 0 ∷ []) 16 2 ≡ some (shown Full 0 13 4)
-  pub right-too-long : judged (2 ∷ 1 ∷ 0 ∷ 0 ∷ []) ww 16 2 ≡ some (shown Full 0 4 13)
-  pub right-too-long-one-short : judged (2 ∷ 1 ∷ 0 ∷ 0 ∷ []) ww 16 1 ≡ some (shown Budget 0 4 13)
-  pub right-alone-too-long : judged (0 ∷ []) ww 16 1 ≡ some (shown Full 0 1 13)
+  pub both-move-within-budget : judged (2 ∷ 1 ∷ 0 ∷ 0 ∷ []) (2 ∷ 1 ∷ 0 ∷ 8 ∷ []) 16 2 ≡ some (shown Different 2 1 1 0)
+  pub both-move-one-short : judged (2 ∷ 1 ∷ 0 ∷ 0 ∷ []) (2 ∷ 1 ∷ 0 ∷ 8 ∷ []) 16 1 ≡ some (shown Budget 0 4 4 0)
+  pub right-alone-moves : judged (8 ∷ []) (2 ∷ 1 ∷ 0 ∷ 0 ∷ []) 16 1 ≡ some (shown Different 1 1 1 0)
+  pub budget-before-full : judged ww (0 ∷ []) 16 0 ≡ some (shown Budget 0 13 1 0)
+  pub full : judged ww (0 ∷ []) 16 1 ≡ some (shown Full 0 13 1 0)
+  pub next-term-of-C-words : judged ww (0 ∷ []) 20 1 ≡ some (shown Budget 1 20 1 0)
+  pub left-too-long : judged ww (2 ∷ 1 ∷ 0 ∷ 0 ∷ []) 16 2 ≡ some (shown Full 0 13 4 0)
+  pub right-too-long : judged (2 ∷ 1 ∷ 0 ∷ 0 ∷ []) ww 16 2 ≡ some (shown Full 0 4 13 0)
+  pub right-too-long-one-short : judged (2 ∷ 1 ∷ 0 ∷ 0 ∷ []) ww 16 1 ≡ some (shown Budget 0 4 13 0)
+  pub right-alone-too-long : judged (0 ∷ []) ww 16 1 ≡ some (shown Full 0 1 13 0)
+  pub differ-at-the-last-word-of-the-shorter : judged (2 ∷ 0 ∷ 8 ∷ []) (2 ∷ 0 ∷ 2 ∷ 8 ∷ 8 ∷ []) 16 0 ≡ some (shown Different 0 3 5 2)
+  pub differ-before-a-second-difference : judged (2 ∷ 0 ∷ 8 ∷ []) (2 ∷ 8 ∷ 0 ∷ []) 16 0 ≡ some (shown Different 0 3 3 1)
+  pub position-of-the-current-terms : judged (2 ∷ 1 ∷ 2 ∷ 0 ∷ 16 ∷ 0 ∷ []) (2 ∷ 0 ∷ 16 ∷ []) 16 1 ≡ some (shown Different 1 3 3 2)
+  pub no-position-with-same : judged (2 ∷ 0 ∷ 8 ∷ []) (2 ∷ 0 ∷ 8 ∷ []) 16 0 ≡ some (shown Same 0 3 3 0)
+  pub no-position-with-budget : judged (2 ∷ 0 ∷ 2 ∷ 1 ∷ 0 ∷ 0 ∷ []) (2 ∷ 0 ∷ 8 ∷ []) 16 0 ≡ some (shown Budget 0 6 3 0)
+  pub no-position-with-full : judged (2 ∷ 0 ∷ ww) (2 ∷ 0 ∷ 8 ∷ []) 16 1 ≡ some (shown Full 0 15 3 0)
+  pub no-words-compared : compareWords [] [] ≡ equal
+  pub equal-words-compared : compareWords (0 ∷ 8 ∷ []) (0 ∷ 8 ∷ []) ≡ equal
+  pub left-is-the-start : compareWords (0 ∷ []) (0 ∷ 8 ∷ []) ≡ differ 1
+  pub right-is-the-start : compareWords (0 ∷ 8 ∷ []) (0 ∷ []) ≡ differ 1
   pub free-255 : Option·map words (read (2040 ∷ [])) ≡ some (2040 ∷ [])
   pub free-256 : read (2048 ∷ []) ≡ none
   pub tag-1 : Option·map words (read (131 ∷ [])) ≡ some (131 ∷ [])
@@ -66,10 +77,10 @@ pub record Boundaries : Type 0 where
   pub numeral-behind-a-redex : contracted (2 ∷ 1 ∷ 14 ∷ 0 ∷ []) ≡ some (some (14 ∷ []))
   pub numeral-under-a-binder : contracted (2 ∷ 1 ∷ 1 ∷ 14 ∷ 0 ∷ []) ≡ some (some (1 ∷ 14 ∷ []))
   pub numeral-put-under-a-binder : contracted (2 ∷ 1 ∷ 1 ∷ 8 ∷ 14 ∷ []) ≡ some (some (1 ∷ 14 ∷ []))
-  pub numeral-against-its-term : judged (14 ∷ []) (1 ∷ 1 ∷ 2 ∷ 8 ∷ 0 ∷ []) 16 1 ≡ some (shown Same 1 5 5)
-  pub numeral-against-itself : judged (14 ∷ []) (14 ∷ []) 16 0 ≡ some (shown Same 0 1 1)
-  pub numeral-is-not-normal : judged (14 ∷ []) (6 ∷ []) 16 0 ≡ some (shown Budget 0 1 1)
-  pub numeral-of-C-words : judged (1 ∷ 54 ∷ []) (0 ∷ []) 16 1 ≡ some (shown Different 1 16 1)
-  pub numeral-too-long : judged (62 ∷ []) (0 ∷ []) 16 1 ≡ some (shown Full 0 1 1)
+  pub numeral-against-its-term : judged (14 ∷ []) (1 ∷ 1 ∷ 2 ∷ 8 ∷ 0 ∷ []) 16 1 ≡ some (shown Same 1 5 5 0)
+  pub numeral-against-itself : judged (14 ∷ []) (14 ∷ []) 16 0 ≡ some (shown Same 0 1 1 0)
+  pub numeral-is-not-normal : judged (14 ∷ []) (6 ∷ []) 16 0 ≡ some (shown Budget 0 1 1 0)
+  pub numeral-of-C-words : judged (1 ∷ 54 ∷ []) (0 ∷ []) 16 1 ≡ some (shown Different 1 16 1 0)
+  pub numeral-too-long : judged (62 ∷ []) (0 ∷ []) 16 1 ≡ some (shown Full 0 1 1 0)
   pub closed-under-two : Closed (lam (lam (var 1)))
   pub open-under-two : Closed (lam (lam (var 2))) → ⊥

@@ -9,6 +9,7 @@ use Rattle.calculus.specs.Accepted.{Accepted}
 use Rattle.calculus.specs.Numeral.{numeral}
 use Rattle.calculus.specs.Contraction.{by-beta, by-case, by-numeral, Contracts}
 use Rattle.calculus.specs.Conversion.{Contracts₁, Reaches, Joined, Normal}
+use Rattle.calculus.specs.Comparison.{differ, compare}
 use Rattle.calculus.specs.Theorems.{Packable}
 
 -- The identity applied to f1; a function that forgets its argument, applied to f0 for f1; both become f1.
@@ -50,6 +51,10 @@ pub record Instances : Type 0 where
   -- Contraction-keeps-accepted and Indices-bounded.
   pub accepted : Accepted 0 inner-redex
   pub accepted-short : size inner-redex ≤ workspaceMost
+  -- No-term-starts-another, Equal-terms-compared, Unequal-terms-differ: another accepted term, which differs from it first where the redex starts.
+  pub other-accepted : Accepted 0 inner-contracted
+  pub unequal : inner-redex ≡ inner-contracted → ⊥
+  pub differ-at-the-redex : compare inner-redex inner-contracted ≡ differ 3
   -- Normal-reaches-itself, Joined-normal-equal: f1 is normal, reaches itself and joins itself.
   pub normal : Normal (var 1)
   pub reaches-itself : Reaches (var 1) (var 1)

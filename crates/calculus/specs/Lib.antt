@@ -20,6 +20,7 @@ pub mod Step
 pub mod Leftmost
 pub mod Position
 pub mod Equality
+pub mod Comparison
 pub mod Rounds
 pub mod Unlimited
 pub mod Bench

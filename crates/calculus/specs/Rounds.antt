@@ -11,6 +11,7 @@ use Rattle.calculus.specs.Term.{Term}
 use Rattle.calculus.specs.Words.{size}
 use Rattle.calculus.specs.Leftmost.{leftmost}
 use Rattle.calculus.specs.Equality.{equal?}
+use Rattle.calculus.specs.Comparison.{Comparison, compare, positionOf}
 
 pub data Verdict : Type 0 where
   Same Different Budget Full : Verdict
@@ -26,19 +27,34 @@ pub record Outcome : Type 0 where
   pub left : Term
   pub right : Term
 
--- What is shown of it: verdict, spent and both lengths.
+-- What is shown of it: verdict, spent, both lengths and a position.
 pub record Shown : Type 0 where
   pub verdict : Verdict
   pub spent : ℕ
   pub left : ℕ
   pub right : ℕ
+  pub position : ℕ
+
+-- With Different the position is the smallest one where the two current terms differ; with every other verdict it is 0.
+abbrev pub shownPosition : Verdict → Comparison → ℕ
+shownPosition Same compared = 0
+shownPosition Different compared = positionOf compared
+shownPosition Budget compared = 0
+shownPosition Full compared = 0
 
 abbrev pub shows : Outcome → Shown
-shows o = record { verdict = o .verdict; spent = o .spent; left = size (o .left); right = size (o .right) }
+shows o =
+    record {
+      verdict = o .verdict;
+      spent = o .spent;
+      left = size (o .left);
+      right = size (o .right);
+      position = shownPosition (o .verdict) (compare (o .left) (o .right));
+    }
 
 -- The same with another spent.
 abbrev pub withSpent : ℕ → Shown → Shown
-withSpent n a = record { verdict = a .verdict; spent = n; left = a .left; right = a .right }
+withSpent n a = record { verdict = a .verdict; spent = n; left = a .left; right = a .right; position = a .position }
 
 -- What a side would do in a round is told by the length of its next term, none where it is normal: how many contractions it makes, and the length
 -- of the longest next term.

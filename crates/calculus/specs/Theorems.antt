@@ -5,7 +5,7 @@ use mathlib.Core.List.{List, [], _∷_, _++_}
 use mathlib.Core.Logic.{_↔_, _⊎_}
 use mathlib.Core.Option.{some, none, bind}
 use lib.IntN.{ℤ, pos, _+ℤ_}
-use lib.ListN.{getD}
+use lib.ListN.{length, take, getD}
 use Rattle.calculus.specs.Term.{Sort, term, Exp, Term}
 use Rattle.calculus.specs.Words.{applicationKind, caseKind, numeralKind, kindOf, countBase, words, size, workspaceMost}
 use Rattle.calculus.specs.Everywhere.{binders, anywhere, Asked, variables, Everywhere}
@@ -17,6 +17,7 @@ use Rattle.calculus.specs.Contraction.{Rule, by-beta, by-case, by-numera
 use Rattle.calculus.specs.Conversion.{Contracts₁, Reaches, Joined, Normal}
 use Rattle.calculus.specs.Leftmost.{Contracts-leftmost, leftmost}
 use Rattle.calculus.specs.Position.{contractAt, redexAt}
+use Rattle.calculus.specs.Comparison.{equal, differ, compareWords, compare, FirstDifference}
 
 -- `read` gives t exactly for the words of t where t is accepted.
 abbrev pub Read-exact : Type 0
@@ -42,6 +43,31 @@ Packable e = Everywhere counted tt e
 abbrev pub Words-prefix-free : Type 0
 Words-prefix-free =
     (t u : Term) (ws vs : List ℕ) → Packable t → Packable u → words t ++ ws ≡ words u ++ vs → (t ≡ u) × (ws ≡ vs)
+
+-- Comparing two lists of words gives `equal` exactly if they are equal, and a position exactly if so many first words are the same and one more are not:
+-- the smallest position where they differ.
+abbrev pub Comparison-exact : Type 0
+Comparison-exact =
+    (ws vs : List ℕ) → ((compareWords ws vs ≡ equal) ↔ (ws ≡ vs))
+    × ((p : ℕ) → (compareWords ws vs ≡ differ p) ↔ ((take p ws ≡ take p vs) × (take (suc p) ws ≡ take (suc p) vs → ⊥)))
+
+-- Two lists of words have their first difference at a position exactly if comparing them gives it and it is below both lengths.
+abbrev pub First-difference-exact : Type 0
+First-difference-exact =
+    (p : ℕ) (ws vs : List ℕ) → FirstDifference p ws vs ↔ ((compareWords ws vs ≡ differ p) × (p < length ws) × (p < length vs))
+
+-- Two unequal whole terms are never one the start of the other.
+abbrev pub No-term-starts-another : Type 0
+No-term-starts-another =
+    (t u : Term) → Accepted 0 t → Accepted 0 u → (t ≡ u → ⊥) → (ws : List ℕ) → words t ++ ws ≡ words u → ⊥
+
+-- So comparing them tells whether they are equal, and otherwise where within both the first difference is.
+abbrev pub Equal-terms-compared : Type 0
+Equal-terms-compared = (t u : Term) → Accepted 0 t → Accepted 0 u → (compare t u ≡ equal) ↔ (t ≡ u)
+
+abbrev pub Unequal-terms-differ : Type 0
+Unequal-terms-differ =
+    (t u : Term) → Accepted 0 t → Accepted 0 u → (t ≡ u → ⊥) → (p : ℕ) × (compare t u ≡ differ p) × FirstDifference p (words t) (words u)
 
 -- Every variable is bound.
 abbrev pub closed : Asked ℕ

@@ -3,7 +3,7 @@ use Rattle.press.specs.Presses.{history}
 use Rattle.press.specs.Claim.{Every-list-of-presses}
 use Rattle.press.proofs.PressLaws.{stands-first}
 use Rattle.press.proofs.PressesLaws.{reached-by, replies-answered, each-leaves, all-refused, in-one-go}
-use Rattle.press.proofs.Settled.{stopped-by, settled-stays, settled-on-first-terms, settled-agree, settled-same, settled-different}
+use Rattle.press.proofs.Settled.{stopped-by, settled-stays, settled-on-first-terms, settled-agree, settled-same, settled-different, settled-first-difference, settled-no-position}
 
 pub every-list-of-presses : Every-list-of-presses
 every-list-of-presses C t u start lh rh calls =
@@ -20,4 +20,6 @@ every-list-of-presses C t u start lh rh calls =
           settled-agree (stopped-by lh rh calls e) (stopped-by lh′ rh′ calls′ e′) d d′;
       same = λ a e. settled-same (stopped-by lh rh calls e);
       different = λ a e. settled-different (stopped-by lh rh calls e);
+      first-difference = λ a e. settled-first-difference (stopped-by lh rh calls e) lh rh;
+      no-position = λ a e. settled-no-position (stopped-by lh rh calls e);
     }

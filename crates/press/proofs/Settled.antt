@@ -10,7 +10,8 @@ use lib.Seq.{take-append-seam}
 use Rattle.calculus.specs.Term.{Term}
 use Rattle.calculus.specs.Words.{words, size}
 use Rattle.calculus.specs.Workspace.{padded}
-use Rattle.calculus.specs.Rounds.{Verdict, Same, Different, Decided, Shown, shows, withSpent, same, ended, rounds}
+use Rattle.calculus.specs.Comparison.{Comparison, compare, FirstDifference}
+use Rattle.calculus.specs.Rounds.{Verdict, Same, Different, Budget, Full, Decided, Shown, shownPosition, shows, withSpent, same, ended, rounds}
 use Rattle.calculus.specs.Refusal.{Refusal}
 use Rattle.calculus.specs.Conversion.{Reaches, Joined}
 use Rattle.calculus.specs.Unlimited.{Exact}
@@ -18,9 +19,11 @@ use Rattle.press.specs.Answer.{refused, shown, Memory, Call, Pressed}
 use Rattle.press.specs.Press.{press}
 use Rattle.press.specs.Presses.{final, history, spentIn}
 use Rattle.press.specs.Claim.{Contains, Reply, Progress, Again, Ended, SameTerms}
+use Rattle.calculus.proofs.ChurchRosser.{church-rosser}
+use Rattle.calculus.proofs.ComparisonLaws.{unequal-terms-differ}
 use Rattle.calculus.proofs.RoundsLaws.{walked}
 use Rattle.calculus.proofs.UnlimitedLaws.{rounds-stable, rounds-agree, rounds-again, rounds-same, verdicts-exact, same-sound}
-use Rattle.press.proofs.Verdicts.{reached}
+use Rattle.press.proofs.Verdicts.{walk-accepted, reached}
 use Rattle.press.proofs.PressLaws.{Answered, turned-down, made, answered, concluded, stands-first, stands-concluded, refused≢shown, shown-injective}
 use Rattle.press.proofs.PressesLaws.{Reached, untouched, ran, reached-by}
 
@@ -39,6 +42,9 @@ module _ {C : ℕ} {t u : Term} {start : Memory} {spent : ℕ} {m : Memory} {a :
 
   right-is : a .right ≡ size (rounds C (h .budget) t u .right)
   right-is = ap (λ a. a .right) (h .shown-is)
+
+  position-is : (let o = rounds C (h .budget) t u in a .position ≡ shownPosition (o .verdict) (compare (o .left) (o .right)))
+  position-is = ap (λ a. a .position) (h .shown-is)
 
 stopped : {C : ℕ} {t u : Term} {start : Memory} {spent : ℕ} {found : Option ℕ} {last : Option Shown} {m : Memory} {a : Shown}
     → Reached C t u start spent found last m → last ≡ some a → Stopped C t u start spent m a
@@ -136,3 +142,33 @@ module _ {C : ℕ} {t u : Term} {start : Memory} {spent : ℕ} {m : Memory} {a :
   settled-different e =
       let v : rounds C (h .budget) t u .verdict ≡ Different = sym (verdict-is h) ∙ e in
       subst (λ k. Exact k t u) v (verdicts-exact same same-sound C (h .budget) t u (inr v))
+
+  -- The two terms that stand there are not one.
+  settled-unequal : a .verdict ≡ Different → rounds C (h .budget) t u .left ≡ rounds C (h .budget) t u .right → ⊥
+  settled-unequal e q =
+      let (f, g) = reached (walked same C (h .budget) t u) in
+      settled-different e (church-rosser t u .1 (rounds C (h .budget) t u .left, f, subst (Reaches u) (sym q) g))
+
+  -- Their words are the first words of the workspaces.
+  left-words : take (a .left) (m .left) ≡ words (rounds C (h .budget) t u .left)
+  left-words = rw (left-is h, h .memory-is) (take-append-seam (words (rounds C (h .budget) t u .left)) _)
+
+  right-words : take (a .right) (m .right) ≡ words (rounds C (h .budget) t u .right)
+  right-words = rw (right-is h, h .memory-is) (take-append-seam (words (rounds C (h .budget) t u .right)) _)
+
+  pub settled-first-difference : Contains C t (start .left) → Contains C u (start .right) → a .verdict ≡ Different
+      → FirstDifference (a .position) (take (a .left) (m .left)) (take (a .right) (m .right))
+  settled-first-difference lh rh e =
+      let o = rounds C (h .budget) t u in
+      let (f, g) = walk-accepted (walked same C (h .budget) t u) in
+      let (p, c, apart) = unequal-terms-differ (o .left) (o .right) (f (lh .accepted)) (g (rh .accepted)) (settled-unequal e) in
+      rw (position-is h ∙ ap₂ shownPosition (sym (verdict-is h) ∙ e) c, left-words, right-words) apart
+
+  pub settled-no-position : (a .verdict ≡ Different → ⊥) → a .position ≡ 0
+  settled-no-position other = position-is h ∙ by _ (rounds C (h .budget) t u .verdict) (λ e. other (verdict-is h ∙ e))
+    where
+      by : (c : Comparison) (v : Verdict) → (v ≡ Different → ⊥) → shownPosition v c ≡ 0
+      by c Same d = refl
+      by c Different d = absurd (d refl)
+      by c Budget d = refl
+      by c Full d = refl

@@ -5,7 +5,7 @@ use Rattle.calculus.specs.Refusal.{Refusal}
 use Rattle.calculus.specs.Rounds.{Shown}
 use Rattle.press.specs.State.{Session}
 
--- A press's answer: a refusal, or verdict, spent and both lengths.
+-- A press's answer: a refusal, or verdict, spent, both lengths and the position.
 pub data Answer : Type 0 where
   refused : Refusal → Answer
   shown : Shown → Answer

@@ -15,6 +15,7 @@ use Rattle.calculus.specs.Workspace.{sized}
 use Rattle.calculus.specs.Accepted.{Accepted}
 use Rattle.calculus.specs.Refusal.{Refusal, WrongWorkspace, OverBudget, NoTerm}
 use Rattle.calculus.specs.Conversion.{Reaches, Joined}
+use Rattle.calculus.specs.Comparison.{FirstDifference}
 use Rattle.calculus.specs.Rounds.{Same, Different, Decided, Outcome, Shown, shows, withSpent, rounds}
 use Rattle.press.specs.State.{budgetLimit, totalLimit}
 use Rattle.press.specs.Answer.{Answer, refused, shown, Memory, Call, Pressed}
@@ -120,18 +121,19 @@ pub record Claim (C : ℕ) (t u : Term) (start : Memory) (calls : List Call) : T
   -- Otherwise all is as in one go, with a budget of what the unrefused presses but the last spent, plus the last one's budget.
   pub in-one-go : (B : ℕ) → budgetInOneGo (history start calls) ≡ some B
       → InOneGo C (rounds C B t u) start (final start calls) (history start calls)
-  -- After Same or Different every later unrefused press spends 0, gives it again and leaves all as it was.
+  -- After Same or Different every later unrefused press spends 0, gives it again, with that position, and leaves all as it was.
   pub stays : (last : Shown) → Ended start calls last → Decided (last .verdict)
       → (later : List Call)
       → Again (withSpent 0 last) (history (final start calls) later) × (final (final start calls) later ≡ final start calls)
   -- An unrefused press on the first terms, with any session, at least that spent as budget and workspaces of at least C words, gives that
-  -- verdict, that spent and the same terms.
+  -- verdict, that spent, that position and the same terms.
   pub on-first-terms : (last : Shown) → Ended start calls last → Decided (last .verdict)
       → (C′ : ℕ) (memory : Memory) (call : Call) → C ≤ C′ → Contains C′ t (memory .left) → Contains C′ u (memory .right)
       → spentIn (history start calls) ≤ call .budget
       → (last′ : Shown) → press memory call .answer ≡ shown last′
       → (last′ ≡ inAll start calls last) × SameTerms last (press memory call .memory) (final start calls)
-  -- Two lists from the same first terms, whatever their budgets and their C, that each give Same or Different agree in verdict, spent and terms.
+  -- Two lists from the same first terms, whatever their budgets and their C, that each give Same or Different agree in verdict, spent, position and
+  -- terms.
   pub agree : (last : Shown) → Ended start calls last → Decided (last .verdict)
       → (C′ : ℕ) (start′ : Memory) (calls′ : List Call) → Contains C′ t (start′ .left) → Contains C′ u (start′ .right)
       → (last′ : Shown) → Ended start′ calls′ last′ → Decided (last′ .verdict)
@@ -142,14 +144,18 @@ pub record Claim (C : ℕ) (t u : Term) (start : Memory) (calls : List Call) : T
       × (final start calls .right ≡ words w ++ replicate (C - size w) 0) × (last .left ≡ size w) × (last .right ≡ size w)
   -- Different: no chain joins the first terms.
   pub different : (last : Shown) → Ended start calls last → last .verdict ≡ Different → Joined t u → ⊥
+  -- With Different the position is that of the first difference of the two terms that stand there. With every other verdict it is 0.
+  pub first-difference : (last : Shown) → Ended start calls last → last .verdict ≡ Different
+      → FirstDifference (last .position) (take (last .left) (final start calls .left)) (take (last .right) (final start calls .right))
+  pub no-position : (last : Shown) → Ended start calls last → (last .verdict ≡ Different → ⊥) → last .position ≡ 0
 
 -- Demand 3: over every length C, first terms, workspaces that hold them, session and list of calls.
 abbrev pub Every-list-of-presses : Type 0
 Every-list-of-presses =
     (C : ℕ) (t u : Term) (start : Memory) → Contains C t (start .left) → Contains C u (start .right) → (calls : List Call) → Claim C t u start calls
 
--- Two presses, neither refused, the second on what the first left and with the lengths it returned, end in the terms, verdict and session of one
--- press whose budget is the first's spent plus the second's budget, if that is at most 1,000,000. Its scratch may be any of that length.
+-- Two presses, neither refused, the second on what the first left and with the lengths it returned, end in the terms, verdict, position and session of
+-- one press whose budget is the first's spent plus the second's budget, if that is at most 1,000,000. Its scratch may be any of that length.
 abbrev pub together : Call → (scratch : List ℕ) (spent budget : ℕ) → Call
 together call scratch spent budget =
     record { scratch = scratch; leftLength = call .leftLength; rightLength = call .rightLength; budget = spent + budget }

@@ -15,7 +15,7 @@ abbrev pub sessionOf : codeSession.Session → Session
 sessionOf session =
     record { total = session .total; left = session .left; right = session .right; verdict = verdictOf (session .verdict) }
 
--- A refusal, or verdict, spent and both lengths.
+-- A refusal, or verdict, spent, both lengths and the position.
 abbrev pub answerOf : codeAnswer.Answer → Answer
 answerOf (answer.Refused why) = refused (refusalOf why)
 answerOf (answer.Shown what) = shown (shownOf what)

@@ -63,7 +63,7 @@ fn print_table(name: &[u8], answer: tables::Answer, words: &[u32], count: usize)
     print_words(words, count);
 }
 
-// Verdict, spent and lengths, or the refusal's number.
+// Verdict, spent, lengths and position, or the refusal's number.
 fn print_answer(answer: Answer) {
     match answer {
         Answer::Refused(refusal) => print_refused(refusal),
@@ -73,6 +73,7 @@ fn print_answer(answer: Answer) {
             print_word(shown.spent);
             print_number(shown.left);
             print_number(shown.right);
+            print_number(shown.position);
         }
     }
     print(b"\n");

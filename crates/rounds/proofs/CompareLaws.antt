@@ -1,57 +1,43 @@
--- How many first words two lists share: more of them word by word, and what it tells of the words of two terms.
-use Prim.Native.Nat.{ℕ, zero, suc, _+_, _≤_, _<_, min}
+-- Comparing two terms word by word, from words that are known to be the same on.
+use Prim.Native.Nat.{ℕ, suc, _+_, _≤_, _<_, min}
 use mathlib.Core.Path.{_≡_, refl, sym, _∙_, ap}
-use mathlib.Core.Bool.{Bool, true, false, cond}
-use mathlib.Core.List.{List, [], _∷_, _++_, append-nil}
-use native.Mathlib.Nat.{le-refl}
+use mathlib.Core.Bool.{Bool, true, false}
+use mathlib.Core.List.{List}
 use native.Mathlib.Numerals.{add-one}
 use native.Mathlib.Omega.{arith}
-use lib.Dec.{eqb, leb}
-use lib.ListN.{length, take, drop, getD, drop-of-length-le, take-append-drop}
-use lib.Seq.{drop-cons, take-suc, take-all, length-take-le, getD-take}
-use borrow.Author.Tests.{eq-eqb, ne-eqb, eqb-true, leb-true, leb-false}
-use Rattle.calculus.specs.Term.{Term}
-use Rattle.calculus.specs.Words.{words, size}
-use Rattle.calculus.specs.Theorems.{Packable}
-use Rattle.calculus.proofs.PrefixFree.{words-prefix-free}
-use Rattle.rounds.specs.Compare.{common, Agrees, Compares}
+use lib.Dec.{leb}
+use lib.ListN.{length, take, getD, length-take}
+use lib.Seq.{take-suc, take-all, length-take-le, getD-take}
+use borrow.Author.Tests.{leb-true, leb-false}
+use Rattle.calculus.specs.Comparison.{Comparison, equal, differ, compareWords, positionOf}
+use Rattle.calculus.proofs.ComparisonLaws.{comparison-exact}
+use Rattle.rounds.specs.Compare.{Agrees, Compares}
 
 pub agrees-none : (ws vs : List ℕ) → Agrees 0 ws vs
 agrees-none ws vs = record { left-has = omega arith; right-has = omega arith; same = refl }
 
-agrees-cons : (k : ℕ) {w v : ℕ} {ws vs : List ℕ} → w ≡ v → Agrees k ws vs → Agrees (suc k) (w ∷ ws) (v ∷ vs)
-agrees-cons k e a = record { left-has = omega (arith, a .left-has); right-has = omega (arith, a .right-has); same = rw (e, a .same) }
-
-pub common-agrees : (ws vs : List ℕ) → Agrees (common ws vs) ws vs
-common-agrees [] vs = agrees-none [] vs
-common-agrees (w ∷ ws) [] = agrees-none (w ∷ ws) []
-common-agrees (w ∷ ws) (v ∷ vs) = go (eqb w v) refl (common-agrees ws vs)
+-- A list that ends before the first difference is the other one.
+within : (p : ℕ) (ws vs : List ℕ) → take p ws ≡ take p vs → (take (suc p) ws ≡ take (suc p) vs → ⊥) → p ≤ length ws
+within p ws vs same apart = by (leb p (length ws)) refl
   where
-    go : (b : Bool) → eqb w v ≡ b → Agrees (common ws vs) ws vs → Agrees (cond b (suc (common ws vs)) 0) (w ∷ ws) (v ∷ vs)
-    go true e a = agrees-cons (common ws vs) (eqb-true w v e) a
-    go false e a = agrees-none (w ∷ ws) (v ∷ vs)
+    by : (b : Bool) → leb p (length ws) ≡ b → p ≤ length ws
+    by true e = leb-true p (length ws) e
+    by false e =
+        let short = leb-false p (length ws) e in
+        let short′ : length vs ≤ p = omega (arith, length-take p ws, length-take p vs, ap length same) in
+        absurd (apart (ap (take (suc p)) (sym (take-all p ws (omega arith)) ∙ same ∙ take-all p vs short′)))
 
-common-self : (ws : List ℕ) → common ws ws ≡ length ws
-common-self [] = refl
-common-self (w ∷ ws) = rw (eq-eqb w w refl) (ap suc (common-self ws))
+-- The words before the position where two lists differ are the same.
+pub compared-agrees : (ws vs : List ℕ) → Agrees (positionOf (compareWords ws vs)) ws vs
+compared-agrees ws vs = by (compareWords ws vs) refl
+  where
+    by : (c : Comparison) → compareWords ws vs ≡ c → Agrees (positionOf c) ws vs
+    by equal e = agrees-none ws vs
+    by (differ p) e =
+        let (same, apart) = comparison-exact ws vs .1 p .0 e in
+        record { left-has = within p ws vs same apart; right-has = within p vs ws (sym same) (λ q. apart (sym q)); same = same }
 
--- Words that are shared may be left out.
-common-from : (k : ℕ) (ws vs : List ℕ) → Agrees k ws vs → common ws vs ≡ k + common (drop k ws) (drop k vs)
-common-from zero ws vs a = omega arith
-common-from (suc k) [] vs a = absurd (omega (arith, a .left-has))
-common-from (suc k) (w ∷ ws) [] a = absurd (omega (arith, a .right-has))
-common-from (suc k) (w ∷ ws) (v ∷ vs) a =
-    let e : w ≡ v = cc (a .same) in
-    let s : take k ws ≡ take k vs = cc (a .same) in
-    let r = common-from k ws vs (record { left-has = omega (arith, a .left-has); right-has = omega (arith, a .right-has); same = s }) in
-    rw (eq-eqb w v e) (omega (arith, r))
-
-common-end : (ws vs : List ℕ) → length vs ≤ 0 → common ws vs ≡ 0
-common-end [] vs h = refl
-common-end (w ∷ ws) [] h = refl
-common-end (w ∷ ws) (v ∷ vs) h = absurd (omega arith)
-
--- The first n words of one workspace and the first m of another, up to i.
+-- The first n words of one workspace and the first m of another, of which the first i are the same.
 module _ {ws vs : List ℕ} {n m from : ℕ} (c : Compares ws n vs m from) (i : ℕ) (a : Agrees i (take n ws) (take m vs)) where
   left-long : length (take n ws) ≡ n
   left-long = length-take-le n ws (c .left-fits)
@@ -70,37 +56,33 @@ module _ {ws vs : List ℕ} {n m from : ℕ} (c : Compares ws n vs m from) (i : 
               (rw (getD-take n ws i 0 l, getD-take m vs i 0 r, e, a .same));
         }
 
-    pub compare-other : (getD ws i 0 ≡ getD vs i 0 → ⊥) → i ≡ common (take n ws) (take m vs)
+    -- The word at i of the first words, one more than i.
+    word-at : (k : ℕ) (us : List ℕ) → i < k → getD (take (suc i) (take k us)) i 0 ≡ getD us i 0
+    word-at k us h = getD-take (suc i) (take k us) i 0 (omega arith) ∙ getD-take k us i 0 h
+
+    pub compare-other : (getD ws i 0 ≡ getD vs i 0 → ⊥) → compareWords (take n ws) (take m vs) ≡ differ i
     compare-other d =
-        let z : common (drop i (take n ws)) (drop i (take m vs)) ≡ 0 =
-        rw (drop-cons (take n ws) i 0 (omega (arith, left-long)), drop-cons (take m vs) i 0 (omega (arith, right-long)))
-        (rw (getD-take n ws i 0 l, getD-take m vs i 0 r, ne-eqb _ _ d)) in
-        omega (arith, common-from i (take n ws) (take m vs) a, z)
+        comparison-exact (take n ws) (take m vs) .1 i .1
+        (a .same, λ e. d (sym (word-at n ws l) ∙ ap (λ us. getD us i 0) e ∙ word-at m vs r))
 
-  compare-left : n ≤ i → i ≡ common (take n ws) (take m vs)
-  compare-left h =
-      let z : common (drop i (take n ws)) (drop i (take m vs)) ≡ 0 = rw (drop-of-length-le (take n ws) {i = i} (omega (arith, left-long))) in
-      omega (arith, common-from i (take n ws) (take m vs) a, z)
+  module _ (ended : min n m ≤ i) where
+    pub compare-equal : n ≡ m → compareWords (take n ws) (take m vs) ≡ equal
+    compare-equal e =
+        comparison-exact (take n ws) (take m vs) .0 .1
+        (sym (take-all i (take n ws) (omega (arith, left-long))) ∙ a .same ∙ take-all i (take m vs) (omega (arith, right-long)))
 
-  compare-right : m ≤ i → i ≡ common (take n ws) (take m vs)
-  compare-right h =
-      let z = common-end (drop i (take n ws)) (drop i (take m vs)) (rw (drop-of-length-le (take m vs) {i = i} (omega (arith, right-long))) (omega arith)) in
-      omega (arith, common-from i (take n ws) (take m vs) a, z)
-
-  pub compare-end : min n m ≤ i → i ≡ common (take n ws) (take m vs)
-  compare-end h = go (leb n m) refl
-    where
-      go : (b : Bool) → leb n m ≡ b → i ≡ common (take n ws) (take m vs)
-      go true e = compare-left (omega (arith, leb-true n m e))
-      go false e = compare-right (omega (arith, leb-false n m e))
-
--- A term whose words are all shared is the other term, since no term's words are the start of another's.
-pub common-whole : (t u : Term) → Packable t → Packable u → common (words t) (words u) ≡ size t → t ≡ u
-common-whole t u h k e =
-    let a = common-agrees (words t) (words u) in
-    let s : take (size t) (words u) ≡ words t = sym (rw (e, take-all (size t) (words t) (le-refl (size t))) at (a .same)) in
-    words-prefix-free t u (drop (size t) (words u)) [] h k
-    (ap (λ ws. ws ++ drop (size t) (words u)) (sym s) ∙ take-append-drop (size t) (words u) ∙ sym (append-nil (words u))) .0
-
-pub common-equal : (t u : Term) → t ≡ u → common (words t) (words u) ≡ size t
-common-equal t u e = ap (λ v. common (words t) (words v)) (sym e) ∙ common-self (words t)
+    pub compare-longer : (n ≡ m → ⊥) → compareWords (take n ws) (take m vs) ≡ differ i
+    compare-longer d =
+        comparison-exact (take n ws) (take m vs) .1 i .1 (
+          a .same,
+          λ e. d (omega (
+            arith,
+            a .left-has,
+            a .right-has,
+            left-long,
+            right-long,
+            length-take (suc i) (take n ws),
+            length-take (suc i) (take m vs),
+            ap length e,
+          )),
+        )

@@ -2,21 +2,18 @@
 -- end in what all the rounds end in.
 use Prim.Native.Nat.{ℕ, _+_, _-_, _*_, _≤_, _<_}
 use mathlib.Core.Path.{_≡_, refl, sym, _∙_, ap, subst, subst⁻¹}
-use mathlib.Core.Bool.{true, false, cond}
 use mathlib.Core.List.{List, _++_}
 use mathlib.Core.Option.{some, none}
 use native.Mathlib.Omega.{arith}
-use lib.Dec.{eqb}
 use lib.ListN.{length, take, drop}
 use lib.Seq.{length-take-le}
-use borrow.Author.Tests.{eqb-true, eqb-false}
 use Rattle.calculus.specs.Term.{Term}
 use Rattle.calculus.specs.Words.{workspaceMost, words, size}
 use Rattle.calculus.specs.Accepted.{Accepted}
 use Rattle.calculus.specs.Workspace.{termAt}
 use Rattle.calculus.specs.Position.{contractAt}
-use Rattle.calculus.specs.Rounds.{Verdict, Same, shows, Round, ends, goes, round, next, nextLength, same, roundBy, ended, after, rounds}
-use Rattle.calculus.proofs.WordLaws.{accepted-packable}
+use Rattle.calculus.specs.Comparison.{Comparison, compareWords, compare, positionOf}
+use Rattle.calculus.specs.Rounds.{Verdict, shownPosition, shows, Round, ends, goes, round, next, nextLength, same, roundBy, ended, after, rounds}
 use Rattle.calculus.proofs.PositionLaws.{redex-first}
 use Rattle.calculus.proofs.ResumeLaws.{none-before, none-anywhere}
 use Rattle.calculus.proofs.AcceptedLaws.{leftmost-keeps-accepted}
@@ -25,12 +22,12 @@ use Rattle.redex.specs.Held.{held, Holds}
 use Rattle.search.specs.declared.Plan as code
 use Rattle.search.specs.Search as search
 use Rattle.search.specs.Search.{Searched}
-use Rattle.rounds.specs.Compare.{common, Agrees, Compares}
-use Rattle.rounds.specs.Turn.{Plan, lengthIn, planned}
+use Rattle.rounds.specs.Compare.{Agrees, Compares}
+use Rattle.rounds.specs.Turn.{Plan, lengthIn, planned, atOnce}
 use Rattle.rounds.specs.Resume.{resumeAt, agreeAfter, Agreeing}
 use Rattle.rounds.specs.Advance.{Advances, Advanced}
 use Rattle.rounds.specs.Run.{Ready, Ran}
-use Rattle.rounds.proofs.CompareLaws.{agrees-none, common-agrees, common-whole, common-equal}
+use Rattle.rounds.proofs.CompareLaws.{agrees-none, compared-agrees}
 use Rattle.words.proofs.RoomLaws.{room-of-length}
 use Rattle.redex.proofs.HeldLaws.{held-term, holds-term, Start, termAt-start}
 use Rattle.rounds.proofs.AgreeLaws.{agree-after}
@@ -43,16 +40,11 @@ begins {ws} {n} h = termAt-start ws n (held ws n) (h .term)
 
 -- Comparing the words compares the terms.
 module _ {ws vs : List ℕ} {n m : ℕ} (h : Holds ws n) (k : Holds vs m) where
-  shares : common (take n ws) (take m vs) ≡ common (words (held ws n)) (words (held vs m))
-  shares = rw (begins h .taken, begins k .taken)
+  compares-terms : compareWords (take n ws) (take m vs) ≡ compare (held ws n) (held vs m)
+  compares-terms = rw (begins h .taken, begins k .taken)
 
-  same-terms : eqb (common (take n ws) (take m vs)) n ≡ true → held ws n ≡ held vs m
-  same-terms e =
-      common-whole (held ws n) (held vs m) (accepted-packable 0 (held ws n) (begins h .accepted)) (accepted-packable 0 (held vs m) (begins k .accepted))
-      (sym shares ∙ eqb-true _ n e ∙ sym (begins h .long))
-
-  other-terms : eqb (common (take n ws) (take m vs)) n ≡ false → held ws n ≡ held vs m → ⊥
-  other-terms e q = eqb-false _ n e (shares ∙ common-equal (held ws n) (held vs m) q ∙ begins h .long)
+  same-asked : atOnce (compareWords (take n ws) (take m vs)) ≡ same (held ws n) (held vs m)
+  same-asked = ap atOnce compares-terms ∙ asked (held ws n) (held vs m) (begins h .accepted) (begins k .accepted)
 
 next-accepted : (t : Term) → Accepted 0 t → Accepted 0 (next t)
 next-accepted t h = by (planned-tells t)
@@ -139,40 +131,44 @@ module _ {left₀ right₀ scratch₀ : List ℕ} {l r budget : ℕ} {left right
   pub compares : Compares left m right n agree
   compares = record { left-fits = left-fits; right-fits = right-fits; agrees = g .agrees }
 
-  -- What the calls before the judgement tell: the words that both sides share, and both plans.
-  module _ {shared : ℕ} {a b : Plan} (s : shared ≡ common (take m left) (take n right)) (p : a ≡ planned (held left m)) (q : b ≡ planned (held right n)) where
-    pub judged : {x : Round} → x ≡ round (cond (eqb shared m) (some Same) none) (length left) (budget - spent) (lengthIn a) (lengthIn b)
+  -- What the calls before the judgement tell: the two terms compared, and both plans.
+  module _ {c : Comparison} {a b : Plan} (s : c ≡ compareWords (take m left) (take n right)) (p : a ≡ planned (held left m)) (q : b ≡ planned (held right n)) where
+    pub judged : {x : Round} → x ≡ round (atOnce c) (length left) (budget - spent) (lengthIn a) (lengthIn b)
         → roundBy same (length left₀) (budget - spent) (held left m) (held right n) ≡ x
     judged e =
-        let first = asked (eqb (common (take m left) (take n right)) m) (same-terms (g .ready .left-holds) (g .ready .right-holds)) (other-terms (g .ready .left-holds) (g .ready .right-holds)) in
+        let first = same-asked (g .ready .left-holds) (g .ready .right-holds) in
         sym (rw (e, p, q, g .left-kept, s, first, planned-length (held left m), planned-length (held right n)))
 
-    shared-agrees : Agrees shared (take m left) (take n right)
-    shared-agrees = rw s (common-agrees (take m left) (take n right))
+    -- The words before the position where they differ agree.
+    module _ {shared : ℕ} (at : shared ≡ positionOf c) where
+      shared-agrees : Agrees shared (take m left) (take n right)
+      shared-agrees = rw (at, s) (compared-agrees (take m left) (take n right))
 
-    pub agreeing : Agreeing left m shared a
-    agreeing =
-        record { holds = g .ready .left-holds; within = omega (arith, shared-agrees .left-has, length-take-le m left left-fits); plan-is = p }
+      pub agreeing : Agreeing left m shared a
+      agreeing =
+          record { holds = g .ready .left-holds; within = omega (arith, shared-agrees .left-has, length-take-le m left left-fits); plan-is = p }
 
-    -- The words that agree after both sides' parts.
-    agrees-next : Agrees (agreeAfter left m shared a b) (words (next (held left m))) (words (next (held right n)))
-    agrees-next =
-        let ls = begins (g .ready .left-holds) in
-        let rs = begins (g .ready .right-holds) in
-        rw (p, q)
-        (agree-after ls rs (omega (arith, left-fits, g .ready .left-holds .limit)) (omega (arith, right-fits, g .ready .right-holds .limit))
-        (rw (ls .taken, rs .taken) shared-agrees) (planned-tells (held left m)) (planned-tells (held right n)))
+      -- The words that agree after both sides' parts.
+      agrees-next : Agrees (agreeAfter left m shared a b) (words (next (held left m))) (words (next (held right n)))
+      agrees-next =
+          let ls = begins (g .ready .left-holds) in
+          let rs = begins (g .ready .right-holds) in
+          rw (p, q)
+          (agree-after ls rs (omega (arith, left-fits, g .ready .left-holds .limit)) (omega (arith, right-fits, g .ready .right-holds .limit))
+          (rw (ls .taken, rs .taken) shared-agrees) (planned-tells (held left m)) (planned-tells (held right n)))
 
-  pub ran : {v : Verdict} {scratch₁ : List ℕ} → length scratch₁ ≡ length scratch → roundBy same (length left₀) (budget - spent) (held left m) (held right n) ≡ ends v
-      → Ran budget (rounds (length left₀) budget (held left₀ l) (held right₀ r)) (record { verdict = v; spent = spent; left = m; right = n }) scratch₀ left right scratch₁
-  ran {v} kept t =
+  pub ran : {v : Verdict} {position : ℕ} {scratch₁ : List ℕ} → length scratch₁ ≡ length scratch → position ≡ shownPosition v (compareWords (take m left) (take n right))
+      → roundBy same (length left₀) (budget - spent) (held left m) (held right n) ≡ ends v
+      → Ran budget (rounds (length left₀) budget (held left₀ l) (held right₀ r)) (record { verdict = v; spent = spent; left = m; right = n; position = position }) scratch₀ left right scratch₁
+  ran {v} {position} kept at t =
       let o : after spent (ended v (held left m) (held right n)) ≡ rounds (length left₀) budget (held left₀ l) (held right₀ r)
       = sym (ap (after spent) (rounds-end same (length left₀) (budget - spent) (held left m) (held right n) t)) ∙ g .rest in
       let ls = begins (g .ready .left-holds) in
       let rs = begins (g .ready .right-holds) in
       let all : spent ≡ spent + 0 = omega arith in
-      let here-shown : record { verdict = v; spent = spent; left = m; right = n } ≡ shows (after spent (ended v (held left m) (held right n)))
-      = λ i. record { verdict = v; spent = all i; left = sym (ls .long) i; right = sym (rs .long) i } in
+      let points : position ≡ shownPosition v (compare (held left m) (held right n)) = at ∙ ap (shownPosition v) (compares-terms (g .ready .left-holds) (g .ready .right-holds)) in
+      let here-shown : record { verdict = v; spent = spent; left = m; right = n; position = position } ≡ shows (after spent (ended v (held left m) (held right n)))
+      = λ i. record { verdict = v; spent = all i; left = sym (ls .long) i; right = sym (rs .long) i; position = points i } in
       record {
         shown-is = here-shown ∙ ap shows o;
         within = g .within;
@@ -224,10 +220,10 @@ module _ {left₀ right₀ scratch₀ : List ℕ} {l r budget : ℕ} {left right
 
       module _ {right′ scratch″ : List ℕ} {n′ j′ : ℕ} {b : code.Plan} (rk : length right′ ≡ length right) (sk′ : length scratch″ ≡ length scratch′)
           (ra : Advanced right n b scratch′ n′ j′ right′ scratch″) where
-        pub going-on : {shared agree′ : ℕ} {x y : Plan} {room′ : List ℕ} → 2 * length room′ ≡ workspaceMost → shared ≡ common (take m left) (take n right) → x ≡ planned (held left m)
-            → y ≡ planned (held right n) → agree′ ≡ agreeAfter left m shared x y
+        pub going-on : {c : Comparison} {shared agree′ : ℕ} {x y : Plan} {room′ : List ℕ} → 2 * length room′ ≡ workspaceMost → c ≡ compareWords (take m left) (take n right)
+            → x ≡ planned (held left m) → y ≡ planned (held right n) → shared ≡ positionOf c → agree′ ≡ agreeAfter left m shared x y
             → Going left₀ right₀ scratch₀ l r budget left′ right′ scratch″ room′ m′ i′ n′ j′ agree′ (spent + p)
-        going-on room-length s x y k =
+        going-on room-length s x y at k =
             let (pos, h) = spends in
             let less : budget - (spent + p) ≡ budget - spent - p = omega arith in
             let whole : p + (budget - spent - p) ≡ budget - spent = omega arith in
@@ -243,7 +239,7 @@ module _ {left₀ right₀ scratch₀ : List ℕ} {l r budget : ℕ} {left right
               right-searched = advanced-searched (g .ready .right-holds) rk ra;
               agrees =
                   rw (k, advanced-words (g .ready .left-holds) lk la, advanced-words (g .ready .right-holds) rk ra)
-                  (agrees-next s x y);
+                  (agrees-next s x y at);
               left-kept = lk ∙ g .left-kept;
               right-kept = rk ∙ g .right-kept;
               scratch-kept = sk′ ∙ sk ∙ g .scratch-kept;

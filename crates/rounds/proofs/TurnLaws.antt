@@ -1,19 +1,21 @@
--- What a side's plan tells of its term, and what the code asks of two terms first.
+-- What a side's plan tells of its term, and what comparing two terms tells of point 1.
 use Prim.Native.Nat.{ℕ, _+_, _≤_, _<_, max}
 use mathlib.Core.Path.{_≡_, refl, sym, _∙_, ap}
-use mathlib.Core.Bool.{Bool, true, false, cond}
 use mathlib.Core.Logic.{if-pos, if-neg}
 use mathlib.Core.Option.{Option, some, none, bind, Option·map, Option·getD}
 use native.Mathlib.Omega.{arith}
 use borrow.Author.Tests.{eq-eqb, ne-eqb, lt-ltb, le-ltb}
 use Rattle.calculus.specs.Term.{Term}
 use Rattle.calculus.specs.Words.{size}
+use Rattle.calculus.specs.Accepted.{Accepted}
 use Rattle.calculus.specs.Leftmost.{leftmost}
 use Rattle.calculus.specs.Position.{contractAt, redexAt}
 use Rattle.calculus.specs.Equality.{equal?}
-use Rattle.calculus.specs.Rounds.{Same, Different, Budget, Full, contractions, ends, goes, round, next, nextLength, same}
+use Rattle.calculus.specs.Comparison.{Comparison, equal, differ, compare}
+use Rattle.calculus.specs.Rounds.{Different, Budget, Full, contractions, ends, goes, round, next, nextLength, same}
 use Rattle.calculus.proofs.PositionLaws.{redex-first, leftmost-at-redex}
-use Rattle.rounds.specs.Turn.{Plan, normal, contract, lengthIn, planAt, planned}
+use Rattle.calculus.proofs.ComparisonLaws.{equal≢differ, equal-terms-compared}
+use Rattle.rounds.specs.Turn.{Plan, normal, contract, lengthIn, planAt, planned, atOnce}
 
 -- What a side's plan tells of its term.
 pub data Planned (t : Term) : Plan → Type 0 where
@@ -48,11 +50,14 @@ planned-length t = by (planned-tells t)
     by (is-normal r l) = sym (ap (Option·map size) l)
     by (contracts p u r c l) = sym (ap (Option·map size) l)
 
--- Point 1 is what is asked first.
-pub asked : {t u : Term} (equal : Bool) → (equal ≡ true → t ≡ u) → (equal ≡ false → t ≡ u → ⊥) → cond equal (some Same) none ≡ same t u
+-- Point 1 is what comparing the terms tells.
+asked-by : (t u : Term) → Accepted 0 t → Accepted 0 u → (c : Comparison) → compare t u ≡ c → atOnce c ≡ same t u
 unfolding same
-asked {t} {u} true equals differs = sym (if-pos (equal? t u) (equals refl) _ _)
-asked {t} {u} false equals differs = sym (if-neg (equal? t u) (differs refl) _ _)
+asked-by t u h k equal e = sym (if-pos (equal? t u) (equal-terms-compared t u h k .0 e) _ _)
+asked-by t u h k (differ p) e = sym (if-neg (equal? t u) (λ q. equal≢differ (sym (equal-terms-compared t u h k .1 q) ∙ e)) _ _)
+
+pub asked : (t u : Term) → Accepted 0 t → Accepted 0 u → atOnce (compare t u) ≡ same t u
+asked t u h k = asked-by t u h k (compare t u) refl
 
 -- A side makes one contraction at most.
 one-at-most : (o : Option ℕ) → contractions o ≤ 1

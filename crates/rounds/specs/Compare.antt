@@ -1,16 +1,8 @@
--- Comparison of two terms in their workspaces, by their words.
-use Prim.Native.Nat.{ℕ, suc, _≤_}
+-- What comparing two terms in their workspaces needs: the words that are known to be the same need not be looked at again.
+use Prim.Native.Nat.{ℕ, _≤_}
 use mathlib.Core.Path.{_≡_}
-use mathlib.Core.Bool.{cond}
-use mathlib.Core.List.{List, [], _∷_}
-use lib.Dec.{eqb}
+use mathlib.Core.List.{List}
 use lib.ListN.{length, take}
-
--- How many first words two lists share: the smallest position where they differ, if they do.
-abbrev pub common : List ℕ → List ℕ → ℕ
-common [] vs = 0
-common (w ∷ ws) [] = 0
-common (w ∷ ws) (v ∷ vs) = cond (eqb w v) (suc (common ws vs)) 0
 
 -- The first k words of both lists are the same.
 pub record Agrees (k : ℕ) (ws vs : List ℕ) : Type 0 where

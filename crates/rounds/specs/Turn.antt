@@ -1,12 +1,19 @@
--- What a side would do in a round, as the code keeps it: with the position of the redex, so that it is sought once.
+-- What a round looks at, as the code keeps it: the two terms compared, and what each side would do, with the position of the redex, so that it is sought
+-- once.
 use Prim.Native.Nat.{ℕ}
 use mathlib.Core.Option.{Option, some, none}
 use Rattle.calculus.specs.Term.{Term}
 use Rattle.calculus.specs.Words.{size}
 use Rattle.calculus.specs.Position.{redexAt}
-use Rattle.calculus.specs.Rounds.{next}
+use Rattle.calculus.specs.Comparison.{Comparison, equal, differ}
+use Rattle.calculus.specs.Rounds.{Verdict, Same, next}
 
--- Nothing where it is normal, or contract the redex at a position, to a term of so many words.
+-- Point 1, by the two terms compared: equal terms, Same.
+abbrev pub atOnce : Comparison → Option Verdict
+atOnce equal = some Same
+atOnce (differ position) = none
+
+-- A side's plan: nothing where it is normal, or contract the redex at a position, to a term of so many words.
 pub data Plan : Type 0 where
   normal : Plan
   contract : (position nextSize : ℕ) → Plan

@@ -2,7 +2,15 @@
 ghost use mathlib.Core.Path.{_≡_};
 ghost use Prim.Native.Nat.{min};
 ghost use lib.ListN.{take};
-ghost use Rattle.rounds.specs.Compare.{common, Compares};
+ghost use Rattle.calculus.specs.Comparison.{compareWords, positionOf};
+ghost use Rattle.rounds.specs.Compare.{Compares};
+ghost use Rattle.rounds.specs.Types.{comparisonOf};
+
+// Two terms are equal, or differ first at a word position, counted from 0.
+pub enum Comparison {
+    Equal,
+    Differ(usize),
+}
 
 pub fn least(first: usize, second: usize) -> usize
     ensures { λ r. ⌜ r ≡ min first second ⌝ }
@@ -13,24 +21,37 @@ pub fn least(first: usize, second: usize) -> usize
     second
 }
 
-// How many of their first words the terms in two workspaces share, each by its length; the first `from` are known to be the same.
-pub fn agreeing(
+// Compares the terms in two workspaces, each by its length; the first `from` words are known to be the same.
+pub fn compare_terms(
     left: &[u32],
     left_length: usize,
     right: &[u32],
     right_length: usize,
     from: usize,
-) -> usize
+) -> Comparison
     requires { ⌜ Compares (now left) «left_length» (now right) «right_length» from ⌝ }
-    ensures { λ r. ⌜ r ≡ common (take «left_length» (now (left .entry))) (take «right_length» (now (right .entry))) ⌝ }
+    ensures { λ r. ⌜ comparisonOf r ≡ compareWords (take «left_length» (now (left .entry))) (take «right_length» (now (right .entry))) ⌝ }
 {
     let shorter = least(left_length, right_length);
     let mut i = from;
     while i < shorter {
         if left[i] != right[i] {
-            return i;
+            return Comparison::Differ(i);
         }
         i += 1;
     }
-    i
+    if left_length == right_length {
+        return Comparison::Equal;
+    }
+    Comparison::Differ(i)
+}
+
+// The position where two terms differ, 0 where they are equal. All words before it are the same.
+pub fn position(compared: Comparison) -> usize
+    ensures { λ r. ⌜ r ≡ positionOf (comparisonOf compared) ⌝ }
+{
+    match compared {
+        Comparison::Equal => 0,
+        Comparison::Differ(at) => at,
+    }
 }

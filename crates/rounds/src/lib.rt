@@ -4,12 +4,14 @@ ghost use Rattle.calculus.specs.Rounds.{rounds};
 ghost use Rattle.rounds.specs.Run.{Ready, Ran};
 ghost use Rattle.rounds.specs.Types.{shownOf};
 ghost use Rattle.redex.specs.Held.{held};
-use crate::compare::agreeing;
+use crate::compare::compare_terms;
+use crate::compare::position;
 use crate::turn::Round;
 use crate::turn::Side;
 use crate::turn::advance;
 use crate::turn::agreed;
 use crate::turn::judge;
+use crate::turn::shown_position;
 use search::find;
 use words::Word;
 
@@ -23,12 +25,13 @@ pub enum Verdict {
     Full,
 }
 
-// What a press shows: the verdict, spent and both lengths.
+// What a press shows: the verdict, spent, both lengths and the position, where the terms differ with Different and otherwise 0.
 pub struct Shown {
     pub verdict: Verdict,
     pub spent: u32,
     pub left: usize,
     pub right: usize,
+    pub position: usize,
 }
 
 // Room for the scopes of a walk: a scope that is kept took two words.
@@ -52,22 +55,27 @@ pub fn run(
     let mut agree: usize = 0;
     let mut spent: u32 = 0;
     loop {
-        let shared = agreeing(left, left_side.length, right, right_side.length, agree);
+        let compared = compare_terms(left, left_side.length, right, right_side.length, agree);
         let left_plan = find(left, left_side.length, left_side.from, scratch);
         let right_plan = find(right, right_side.length, right_side.from, scratch);
-        // No term's words are the start of another's, so a term whose words are all shared is the other one.
-        let equal = shared == left_side.length;
-        match judge(equal, left_plan, right_plan, budget - spent, left.len()) {
+        match judge(compared, left_plan, right_plan, budget - spent, left.len()) {
             Round::Ends(verdict) => {
                 return Shown {
                     verdict,
                     spent,
                     left: left_side.length,
                     right: right_side.length,
+                    position: shown_position(verdict, compared),
                 };
             }
             Round::Goes(count) => {
-                agree = agreed(left, left_side.length, shared, left_plan, right_plan);
+                agree = agreed(
+                    left,
+                    left_side.length,
+                    position(compared),
+                    left_plan,
+                    right_plan,
+                );
                 left_side = advance(left, left_side, left_plan, scratch, &mut room);
                 right_side = advance(right, right_side, right_plan, scratch, &mut room);
                 spent += count;

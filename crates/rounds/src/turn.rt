@@ -1,16 +1,17 @@
 // One round: what each side would do, what the round comes to, and a side's part in it.
 ghost use mathlib.Core.Path.{_≡_};
-ghost use mathlib.Core.Bool.{cond};
-ghost use mathlib.Core.Option.{some, none, Option·getD};
+ghost use mathlib.Core.Option.{Option·getD};
 ghost use Prim.Native.Nat.{_-_, max};
-ghost use Rattle.calculus.specs.Rounds.{Same, contractions, round};
+ghost use Rattle.calculus.specs.Rounds.{contractions, round, shownPosition};
 ghost use Rattle.words.specs.Room.{Room};
-ghost use Rattle.rounds.specs.Turn.{contract, lengthIn};
+ghost use Rattle.rounds.specs.Turn.{contract, lengthIn, atOnce};
 ghost use Rattle.rounds.specs.Resume.{agreeBoth, agreeAfter, Agreeing};
-ghost use Rattle.rounds.specs.Types.{roundOf, planOf};
+ghost use Rattle.rounds.specs.Types.{verdictOf, roundOf, planOf, comparisonOf};
 ghost use Rattle.rounds.specs.Advance.{Advances, Advanced};
 use crate::Verdict;
+use crate::compare::Comparison;
 use crate::compare::least;
+use crate::compare::position;
 use search::Plan;
 use words::extent;
 
@@ -65,10 +66,10 @@ fn longer(first: usize, second: usize) -> usize
 }
 
 // One round, points 1 to 5 in this order, with `rest` left of the budget and workspaces of `capacity` words.
-pub fn judge(equal: bool, left: Plan, right: Plan, rest: u32, capacity: usize) -> Round
-    ensures { λ r. ⌜ roundOf r ≡ round (cond equal (some Same) none) capacity rest (lengthIn (planOf left)) (lengthIn (planOf right)) ⌝ }
+pub fn judge(compared: Comparison, left: Plan, right: Plan, rest: u32, capacity: usize) -> Round
+    ensures { λ r. ⌜ roundOf r ≡ round (atOnce (comparisonOf compared)) capacity rest (lengthIn (planOf left)) (lengthIn (planOf right)) ⌝ }
 {
-    if equal {
+    if let Comparison::Equal = compared {
         return Round::Ends(Verdict::Same);
     }
     let count = contractions(left) + contractions(right);
@@ -82,6 +83,18 @@ pub fn judge(equal: bool, left: Plan, right: Plan, rest: u32, capacity: usize) -
         return Round::Ends(Verdict::Full);
     }
     Round::Goes(count)
+}
+
+// The position that is shown with a verdict: where the terms differ with Different, otherwise 0.
+pub fn shown_position(verdict: Verdict, compared: Comparison) -> usize
+    ensures { λ r. ⌜ r ≡ shownPosition (verdictOf verdict) (comparisonOf compared) ⌝ }
+{
+    match verdict {
+        Verdict::Same => 0,
+        Verdict::Different => position(compared),
+        Verdict::Budget => 0,
+        Verdict::Full => 0,
+    }
 }
 
 // The position before another one, but 0 for 0.

@@ -22,9 +22,10 @@ abbrev pub isSession : Session → (total left right : ℕ) → Verdict → Bool
 isSession s total left right v = ((eqb (s .total) total && eqb (s .left) left) && eqb (s .right) right) && sameVerdict (s .verdict) v
 
 -- A press answered this verdict with these numbers, or this refusal.
-abbrev pub isShown : press.Answer → Verdict → (spent left right : ℕ) → Bool
-isShown (press.refused why) v s l r = false
-isShown (press.shown a) v s l r = ((eqb (a .spent) s && eqb (a .left) l) && eqb (a .right) r) && sameVerdict (a .verdict) v
+abbrev pub isShown : press.Answer → Verdict → (spent left right position : ℕ) → Bool
+isShown (press.refused why) v s l r p = false
+isShown (press.shown a) v s l r p =
+    (((eqb (a .spent) s && eqb (a .left) l) && eqb (a .right) r) && eqb (a .position) p) && sameVerdict (a .verdict) v
 
 abbrev pub isRefused : press.Answer → ℕ → Bool
 isRefused (press.refused why) k = eqb (number why) k

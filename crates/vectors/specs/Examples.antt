@@ -13,7 +13,7 @@ use Rattle.press.specs.Answer.{Answer, refused, shown}
 use Rattle.tables.specs.Load as tables
 use Rattle.vector_text.specs.Text.{nowhere, after, numberAt, settingAt}
 use Rattle.vectors.specs.Keywords.{pairWord, loadWord, writeWord, leftWord, pressWord, showWord}
-use Rattle.vectors.specs.Keywords.{sameWord, differentWord, refusedWord, givesWord, writesWord}
+use Rattle.vectors.specs.Keywords.{sameWord, differentWord, atWord, refusedWord, givesWord, writesWord}
 use Rattle.vector_text.specs.Lists.{listAt}
 use Rattle.vectors.specs.Answers.{isSession, isShown, isRefused}
 use Rattle.vectors.specs.Pair.{junk, lentAt, Stage, refusedAfter, countedAfter}
@@ -90,6 +90,18 @@ pairing = pairWord ++ (n16 ++ (n0 ++ n8))
 abbrev pub pressing : (verdict spent left right : List ℕ) → List ℕ
 pressing v s l r = pairing ++ (spaced pressWord ++ (n0 ++ (spaced v ++ (s ++ (l ++ r)))))
 
+-- ` 1,0` and ` 1,8`; and `pair 16 1,0 1,8 press 0 Different 0`, then what is expected of the position, then ` 1,0 1,8`
+abbrev pub identity : List ℕ
+identity = 32 ∷ 49 ∷ 44 ∷ 48 ∷ []
+
+abbrev pub constant : List ℕ
+constant = 32 ∷ 49 ∷ 44 ∷ 56 ∷ []
+
+abbrev pub parting : (position : List ℕ) → List ℕ
+parting p =
+    pairWord
+    ++ (n16 ++ (identity ++ (constant ++ (spaced pressWord ++ (n0 ++ (spaced differentWord ++ (n0 ++ (p ++ (identity ++ constant)))))))))
+
 -- `pair 16 0 8 left 0 press 0 Refused `
 abbrev pub refusing : List ℕ
 refusing = pairing ++ (spaced leftWord ++ (n0 ++ (spaced pressWord ++ (n0 ++ spaced refusedWord))))
@@ -110,7 +122,7 @@ writing = writeWord ++ (n16 ++ (n0 ++ (n1 ++ n8)))
 
 -- A press's answer.
 abbrev pub answered : Answer
-answered = shown (record { verdict = Different; spent = 3; left = 1; right = 2 })
+answered = shown (record { verdict = Different; spent = 3; left = 1; right = 2; position = 4 })
 
 -- Whether workspaces of the terms 0 and 8 with a word behind each, and a scratch of two words, are as ` 0 8` says where junk was lent.
 abbrev pub lentOf : (behindLeft behindRight first last : ℕ) → Bool
@@ -131,7 +143,7 @@ abbrev pub refusedStage : Bool → Session → ℕ
 refusedStage equal session = refusedAfter n1 0 (lentAs equal) (refused WrongLength) session stage .at
 
 abbrev pub countedStage : Bool → Session → ℕ
-countedStage equal session = countedAfter Different 3 0 (lentAs equal) answered session stage .at
+countedStage equal session = countedAfter Different 3 4 0 (lentAs equal) answered session stage .at
 
 -- Whether ` Refused 1` holds of a loading and of a writing that were refused so and left this word in what was lent.
 abbrev pub unloadedFrom : ℕ → Bool
@@ -148,6 +160,10 @@ pub record Passing-examples : Type 0 where
   pub other-right : passes (pressing differentWord n0 n0 n0) ≡ false
   pub no-left : passes (pressing differentWord n0 nothingGiven n8) ≡ false
   pub surplus : passes (pressing differentWord n0 n0 n8 ++ n0) ≡ false
+  pub position-right : passes (parting (spaced atWord ++ n1)) ≡ true
+  pub other-position : passes (parting (spaced atWord ++ n0)) ≡ false
+  pub no-position : passes (parting []) ≡ false
+  pub no-number-of-a-position : passes (parting (spaced atWord)) ≡ false
   pub refused-right : passes (refusing ++ (32 ∷ 49 ∷ 48 ∷ [])) ≡ true
   pub other-refusal : passes (refusing ++ n8) ≡ false
   pub shown-right : passes (pairing ++ (spaced showWord ++ n0)) ≡ true
@@ -169,12 +185,13 @@ pub record Passing-examples : Type 0 where
   pub session-left : isSession fresh 0 1 0 Budget ≡ false
   pub session-right : isSession fresh 0 0 1 Budget ≡ false
   pub session-verdict : isSession fresh 0 0 0 Full ≡ false
-  pub answer : isShown answered Different 3 1 2 ≡ true
-  pub answer-spent : isShown answered Different 4 1 2 ≡ false
-  pub answer-left : isShown answered Different 3 2 2 ≡ false
-  pub answer-right : isShown answered Different 3 1 1 ≡ false
-  pub answer-verdict : isShown answered Same 3 1 2 ≡ false
-  pub answer-refused : isShown (refused NoTerm) Different 3 1 2 ≡ false
+  pub answer : isShown answered Different 3 1 2 4 ≡ true
+  pub answer-spent : isShown answered Different 4 1 2 4 ≡ false
+  pub answer-left : isShown answered Different 3 2 2 4 ≡ false
+  pub answer-right : isShown answered Different 3 1 1 4 ≡ false
+  pub answer-position : isShown answered Different 3 1 2 0 ≡ false
+  pub answer-verdict : isShown answered Same 3 1 2 4 ≡ false
+  pub answer-refused : isShown (refused NoTerm) Different 3 1 2 4 ≡ false
   pub not-refused : isRefused answered 10 ≡ false
   pub lent : lentOf 7 7 7 7 ≡ true
   pub lent-left : lentOf 0 7 7 7 ≡ false

@@ -41,6 +41,9 @@ budgetWord = 66 ∷ 117 ∷ 100 ∷ 103 ∷ 101 ∷ 116 ∷ []
 abbrev pub fullWord : List ℕ
 fullWord = 70 ∷ 117 ∷ 108 ∷ 108 ∷ []
 
+abbrev pub atWord : List ℕ
+atWord = 97 ∷ 116 ∷ []
+
 abbrev pub refusedWord : List ℕ
 refusedWord = 82 ∷ 101 ∷ 102 ∷ 117 ∷ 115 ∷ 101 ∷ 100 ∷ []
 

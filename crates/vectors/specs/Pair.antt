@@ -15,7 +15,7 @@ use Rattle.rounds.specs.Types.{verdictOf}
 use Rattle.press.specs.Types.{sessionOf, callOf}
 use Rattle.vector_text.specs.Text.{nowhere, after, numberAt, settingAt}
 use Rattle.vectors.specs.Keywords.{totalWord, leftWord, rightWord, scratchWord, pressWord, showWord}
-use Rattle.vectors.specs.Keywords.{sameWord, differentWord, budgetWord, fullWord, refusedWord}
+use Rattle.vectors.specs.Keywords.{sameWord, differentWord, budgetWord, fullWord, atWord, refusedWord}
 use Rattle.vector_text.specs.Compared.{areWords}
 use Rattle.vector_text.specs.Lists.{Listed, comma, listAt, comparedAt}
 use Rattle.vectors.specs.Answers.{isSession, isShown, isRefused}
@@ -100,14 +100,14 @@ refusedAfter line at lent answer session s =
     ((lent .equal && isSession session (old .total) (old .left) (old .right) (old .verdict)) && isRefused answer (n .value))
     (n .next))
 
--- A verdict with a number spent, and terms that stand at a position: the session is renewed.
-unfoldable pub countedAfter : Verdict → (spent terms : ℕ) → Lent → Answer → Session → Stage → Stage
-countedAfter v spent terms lent answer session s =
+-- A verdict with a number spent, the position where the terms differ, and terms that stand at a position of the line: the session is renewed.
+unfoldable pub countedAfter : Verdict → (spent position terms : ℕ) → Lent → Answer → Session → Stage → Stage
+countedAfter v spent position terms lent answer session s =
     record {
       at =
           onlyIf
           ((lent .equal && isSession session (s .session .total + spent) (lent .left) (lent .right) v)
-          && isShown answer v spent (lent .left) (lent .right))
+          && isShown answer v spent (lent .left) (lent .right) position)
           (lent .next);
       terms = terms;
       left = lent .left;
@@ -123,8 +123,9 @@ checked line at p s =
     let refused = after line at refusedWord in
     let v = verdictAt line at in
     let spent = numberAt line (v .next) in
+    let position = settingAt line (spent .next) atWord 0 in
     cond (eqb refused nowhere)
-    (countedAfter (verdictOf (v .verdict)) (spent .value) (spent .next) (lentBy line (spent .next) p 0 0) (p .answer) session s)
+    (countedAfter (verdictOf (v .verdict)) (spent .value) (position .value) (position .next) (lentBy line (position .next) p 0 0) (p .answer) session s)
     (refusedAfter line refused (lentBy line (s .terms) p (s .tail) junk) (p .answer) session s)
 
 -- A call leaves a stage and both workspaces.

@@ -5,9 +5,10 @@
 // Both workspaces have C words (or one C and the other D, written `C,D`): the term's, then junk. The session is fresh at first, or after `total n`
 // in front of the calls one that has spent n. A call is one of
 //
-//     press budget VERDICT spent left right    the answer, and the terms' words afterwards
-//     press budget Refused number              a refusal, which changes nothing
-//     show words                               the part that is handed back
+//     press budget VERDICT spent left right         the answer with position 0, and the terms' words afterwards
+//     press budget VERDICT spent at n left right    the same with position n
+//     press budget Refused number                   a refusal, which changes nothing
+//     show words                                    the part that is handed back
 //
 // and gets the terms' lengths, and a scratch of C words, unless `left n`, `right n` or `scratch n` stand in front of it, in this order. After a press
 // the session and every word of both workspaces and the scratch are compared too.
@@ -119,8 +120,15 @@ fn is_session(session: Session, total: u64, left: usize, right: usize, verdict: 
 }
 
 // Whether an answer is this verdict with these numbers.
-fn shows(answer: Answer, verdict: Verdict, spent: u32, left: usize, right: usize) -> bool
-    ensures { λ r. ⌜ r ≡ isShown (answerOf answer) (verdictOf verdict) spent left right ⌝ }
+fn shows(
+    answer: Answer,
+    verdict: Verdict,
+    spent: u32,
+    left: usize,
+    right: usize,
+    position: usize,
+) -> bool
+    ensures { λ r. ⌜ r ≡ isShown (answerOf answer) (verdictOf verdict) spent left right position ⌝ }
 {
     let Answer::Shown(shown) = answer else {
         return false;
@@ -129,6 +137,7 @@ fn shows(answer: Answer, verdict: Verdict, spent: u32, left: usize, right: usize
     (shown.spent == spent)
         & (shown.left == left)
         & (shown.right == right)
+        & (shown.position == position)
         & same_verdict(v, verdict)
 }
 
@@ -225,23 +234,24 @@ fn check_refused(line: &[u8], at: usize, lent: Lent, pressed: Pressed, mut state
     state
 }
 
-// After a press that should answer this verdict, with a number spent and terms that stand at `terms`.
+// After a press that should answer this verdict, with a number spent, a position and terms that stand at `terms`.
 fn check_counted(
     verdict: Verdict,
     spent: u32,
+    position: usize,
     terms: usize,
     lent: Lent,
     pressed: Pressed,
     state: State,
 ) -> State
-    ensures { λ r. ⌜ stageOf r ≡ countedAfter (verdictOf verdict) spent terms lent (answerOf (pressed .answer)) (sessionOf (pressed .session)) (stageOf state) ⌝ }
+    ensures { λ r. ⌜ stageOf r ≡ countedAfter (verdictOf verdict) spent position terms lent (answerOf (pressed .answer)) (sessionOf (pressed .session)) (stageOf state) ⌝ }
 {
     let answer = pressed.answer;
     let session = pressed.session;
     let old = state.session;
     let total = old.total as u64 + spent as u64;
     let renewed = is_session(session, total, lent.left, lent.right, verdict);
-    let shown = shows(answer, verdict, spent, lent.left, lent.right);
+    let shown = shows(answer, verdict, spent, lent.left, lent.right, position);
     State {
         at: only_if(lent.equal & renewed & shown, lent.next),
         terms,
@@ -271,9 +281,18 @@ fn check_press(
     }
     let named = read_verdict(line, at);
     let spent = read_number(line, named.next);
-    let lent = compare_lent(line, spent.next, left, right, 0, scratch, 0);
+    let position = read_setting(line, spent.next, b"at", 0);
+    let lent = compare_lent(line, position.next, left, right, 0, scratch, 0);
     let verdict = named.verdict;
-    check_counted(verdict, spent.value, spent.next, lent, pressed, state)
+    check_counted(
+        verdict,
+        spent.value,
+        position.value,
+        position.next,
+        lent,
+        pressed,
+        state,
+    )
 }
 
 // `press budget` and the expected answer, with a scratch of junk.

@@ -29,6 +29,7 @@ printed-examples =
     record {
       same = refl;
       different = refl;
+      different-at-1 = refl;
       budget = refl;
       full = refl;
       refused-left = refl;

@@ -15,12 +15,18 @@ bytesOf (w ∷ ws) = w % 256 ∷ w / 256 % 256 ∷ w / 65536 % 256 ∷ w / 16777
 abbrev pub asked : (budget C : ℕ) (left right : List ℕ) → List ℕ
 asked budget C left right = bytesOf (budget ∷ C ∷ length left ∷ (left ++ (length right ∷ right)))
 
--- Tables: of f0, of f1, of (\x.x) f0, of 2,2,1,1,8,0,8, and of W W.
+-- Tables: of f0, of f1, of \x.x, of \x.f0, of (\x.x) f0, of 2,2,1,1,8,0,8, and of W W.
 abbrev pub f0 : List ℕ
 f0 = 1 ∷ 1 ∷ 1 ∷ 0 ∷ 0 ∷ 0 ∷ 0 ∷ 0 ∷ []
 
 abbrev pub f1 : List ℕ
 f1 = 1 ∷ 1 ∷ 1 ∷ 0 ∷ 0 ∷ 1 ∷ 0 ∷ 0 ∷ []
+
+abbrev pub identity : List ℕ
+identity = 1 ∷ 2 ∷ 1 ∷ 0 ∷ 1 ∷ 0 ∷ 2 ∷ 0 ∷ 0 ∷ 0 ∷ 0 ∷ 0 ∷ []
+
+abbrev pub constant : List ℕ
+constant = 1 ∷ 2 ∷ 1 ∷ 0 ∷ 1 ∷ 0 ∷ 2 ∷ 0 ∷ 0 ∷ 1 ∷ 0 ∷ 0 ∷ []
 
 abbrev pub applied : List ℕ
 applied = 1 ∷ 4 ∷ 1 ∷ 0 ∷ 2 ∷ 0 ∷ 2 ∷ 0 ∷ 1 ∷ 0 ∷ 3 ∷ 4 ∷ 0 ∷ 0 ∷ 0 ∷ 0 ∷ 0 ∷ 0 ∷ 0 ∷ 0 ∷ []
@@ -38,8 +44,12 @@ ww =
 pub record Printed-examples : Type 0 where
   -- `Same 2 1 1`
   pub same : printed (asked 10 16 worked f0) ≡ 83 ∷ 97 ∷ 109 ∷ 101 ∷ 32 ∷ 50 ∷ 32 ∷ 49 ∷ 32 ∷ 49 ∷ 10 ∷ []
-  -- `Different 0 1 1`
-  pub different : printed (asked 0 16 f0 f1) ≡ 68 ∷ 105 ∷ 102 ∷ 102 ∷ 101 ∷ 114 ∷ 101 ∷ 110 ∷ 116 ∷ 32 ∷ 48 ∷ 32 ∷ 49 ∷ 32 ∷ 49 ∷ 10 ∷ []
+  -- `Different 0 1 1 0`
+  pub different : printed (asked 0 16 f0 f1) ≡ 68 ∷ 105 ∷ 102 ∷ 102 ∷ 101 ∷ 114 ∷ 101 ∷ 110 ∷ 116 ∷ 32 ∷ 48 ∷ 32 ∷ 49 ∷ 32 ∷ 49 ∷ 32 ∷ 48 ∷ 10 ∷ []
+  -- `Different 0 2 2 1`, of \x.x against \x.f0
+  pub different-at-1 :
+      printed (asked 0 16 identity constant)
+      ≡ 68 ∷ 105 ∷ 102 ∷ 102 ∷ 101 ∷ 114 ∷ 101 ∷ 110 ∷ 116 ∷ 32 ∷ 48 ∷ 32 ∷ 50 ∷ 32 ∷ 50 ∷ 32 ∷ 49 ∷ 10 ∷ []
   -- `Budget 0 1 4`
   pub budget : printed (asked 0 16 f0 applied) ≡ 66 ∷ 117 ∷ 100 ∷ 103 ∷ 101 ∷ 116 ∷ 32 ∷ 48 ∷ 32 ∷ 49 ∷ 32 ∷ 52 ∷ 10 ∷ []
   -- `Full 0 13 1`

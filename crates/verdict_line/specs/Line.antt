@@ -1,11 +1,12 @@
 -- The line that the verdict program prints ("The verdict program"): left is loaded, then right, then one press with a fresh session. It shows
--- verdict, spent, left length and right length, or `Refused` and the number, or `Input` where the bytes are no request.
+-- verdict, spent, left length, right length and, with Different only, the position; or `Refused` and the number; or `Input` where the bytes are no
+-- request.
 use Prim.Native.Nat.{ℕ, _+_, _*_}
 use mathlib.Core.List.{List, [], _∷_, _++_}
 use mathlib.Core.Option.{Option, some, none}
 use lib.ListN.{length, replicate}
 use Rattle.calculus.specs.Refusal.{number}
-use Rattle.calculus.specs.Rounds.{Verdict, Same, Different, Budget, Full}
+use Rattle.calculus.specs.Rounds.{Verdict, Same, Different, Budget, Full, Shown}
 use Rattle.press.specs.State.{fresh}
 use Rattle.press.specs.Press.{press}
 use Rattle.press.specs.Answer as press
@@ -17,11 +18,11 @@ use Rattle.text.specs.Decimal.{digitsMost, field, newline}
 pub data Line : Type 0 where
   input : Line
   refuses : ℕ → Line
-  shows : Verdict → (spent left right : ℕ) → Line
+  shows : Shown → Line
 
 abbrev pub lineOf : press.Answer → Line
 lineOf (press.refused why) = refuses (number why)
-lineOf (press.shown a) = shows (a .verdict) (a .spent) (a .left) (a .right)
+lineOf (press.shown a) = shows a
 
 -- The press on what loading left, with workspaces and scratch of C words.
 abbrev pub pressed : (C budget : ℕ) → (left right : List ℕ) → (leftLength rightLength : ℕ) → Line
@@ -58,15 +59,24 @@ inputName = 73 ∷ 110 ∷ 112 ∷ 117 ∷ 116 ∷ []
 abbrev pub refusedName : List ℕ
 refusedName = 82 ∷ 101 ∷ 102 ∷ 117 ∷ 115 ∷ 101 ∷ 100 ∷ []
 
+-- The fifth field: the position, with Different only.
+abbrev pub positionField : Verdict → (position : ℕ) → List ℕ
+positionField Same p = []
+positionField Different p = field p
+positionField Budget p = []
+positionField Full p = []
+
 -- The bytes of a line, the newline included.
 abbrev pub lineBytes : Line → List ℕ
 lineBytes input = inputName ++ (newline ∷ [])
 lineBytes (refuses n) = refusedName ++ (field n ++ (newline ∷ []))
-lineBytes (shows v s l r) = nameOf v ++ (field s ++ (field l ++ (field r ++ (newline ∷ []))))
+lineBytes (shows a) =
+    nameOf (a .verdict)
+    ++ (field (a .spent) ++ (field (a .left) ++ (field (a .right) ++ (positionField (a .verdict) (a .position) ++ (newline ∷ [])))))
 
--- The most bytes of a line: the longest verdict, three numbers behind a space, and the newline.
+-- The most bytes of a line: the longest verdict, four numbers behind a space, and the newline.
 abbrev pub lineMost : ℕ
-lineMost = length (nameOf Different) + 3 * (1 + digitsMost) + 1
+lineMost = length (nameOf Different) + 4 * (1 + digitsMost) + 1
 
 -- What the program prints for the bytes that it reads.
 unfoldable pub printed : List ℕ → List ℕ

@@ -52,15 +52,7 @@ fn line_of(answer: Answer) -> Line
 {
     match answer {
         Answer::Refused(refusal) => Line::Refuses(refusal.number()),
-        Answer::Shown(shown) => {
-            let verdict = shown.verdict;
-            Line::Shows {
-                verdict,
-                spent: shown.spent,
-                left: shown.left,
-                right: shown.right,
-            }
-        }
+        Answer::Shown(shown) => Line::Shows(shown),
     }
 }
 

@@ -1,4 +1,5 @@
 // The line that the verdict program prints.
+use rounds::Shown;
 use rounds::Verdict;
 use text::decimal::DIGITS_MOST;
 use text::decimal::put_bytes;
@@ -6,26 +7,21 @@ use text::decimal::put_end;
 use text::decimal::put_field;
 ghost use Prim.Native.Nat.{_≤_, _+_};
 ghost use lib.ListN.{length};
-ghost use Rattle.rounds.specs.Types.{verdictOf};
-ghost use Rattle.verdict_line.specs.Line.{nameOf, lineBytes, refuses, shows};
+ghost use Rattle.rounds.specs.Types.{verdictOf, shownOf};
+ghost use Rattle.verdict_line.specs.Line.{nameOf, positionField, lineBytes, refuses, shows};
 ghost use Rattle.verdict_line.specs.Types.{printedLine};
 ghost use Rattle.words.specs.Placed.{Placed};
 
 // The bytes of the longest verdict, `Different`.
 const VERDICT_MOST: usize = 9;
 
-// The most bytes of a line: a verdict, three numbers behind a space, and the newline.
-pub const LINE_MOST: usize = VERDICT_MOST + 3 * (1 + DIGITS_MOST) + 1;
+// The most bytes of a line: a verdict, four numbers behind a space, and the newline.
+pub const LINE_MOST: usize = VERDICT_MOST + 4 * (1 + DIGITS_MOST) + 1;
 
 pub enum Line {
     Input,
     Refuses(u32),
-    Shows {
-        verdict: Verdict,
-        spent: u32,
-        left: usize,
-        right: usize,
-    },
+    Shows(Shown),
 }
 
 // The name of a verdict.
@@ -50,15 +46,30 @@ fn put_refusal(number: u32, out: &mut [u8]) -> usize
     put_end(out, field)
 }
 
-fn put_answer(verdict: Verdict, spent: u32, left: usize, right: usize, out: &mut [u8]) -> usize
-    requires { ⌜ length (lineBytes (shows (verdictOf verdict) spent left right)) ≤ length (now out) ⌝ }
-    ensures { λ r. ⌜ Placed (now (out .entry)) 0 (lineBytes (shows (verdictOf verdict) spent left right)) (now (out .exit)) r ⌝ }
+// The position behind a space, with Different only.
+fn put_position(verdict: Verdict, position: usize, out: &mut [u8], at: usize) -> usize
+    requires { ⌜ at + length (positionField (verdictOf verdict) position) ≤ length (now out) ⌝ }
+    ensures { λ r. ⌜ Placed (now (out .entry)) at (positionField (verdictOf verdict) position) (now (out .exit)) r ⌝ }
 {
+    match verdict {
+        Verdict::Same => at,
+        Verdict::Different => put_field(position, out, at),
+        Verdict::Budget => at,
+        Verdict::Full => at,
+    }
+}
+
+fn put_answer(shown: Shown, out: &mut [u8]) -> usize
+    requires { ⌜ length (lineBytes (shows (shownOf shown))) ≤ length (now out) ⌝ }
+    ensures { λ r. ⌜ Placed (now (out .entry)) 0 (lineBytes (shows (shownOf shown))) (now (out .exit)) r ⌝ }
+{
+    let verdict = shown.verdict;
     let name = put_verdict(verdict, out, 0);
-    let first = put_field(spent as usize, out, name);
-    let second = put_field(left, out, first);
-    let third = put_field(right, out, second);
-    put_end(out, third)
+    let first = put_field(shown.spent as usize, out, name);
+    let second = put_field(shown.left, out, first);
+    let third = put_field(shown.right, out, second);
+    let fourth = put_position(verdict, shown.position, out, third);
+    put_end(out, fourth)
 }
 
 // The bytes of a line at the start of `out`, and their number.
@@ -69,11 +80,6 @@ pub fn put_line(line: Line, out: &mut [u8]) -> usize
     match line {
         Line::Input => put_bytes(b"Input\n", out, 0),
         Line::Refuses(number) => put_refusal(number, out),
-        Line::Shows {
-            verdict,
-            spent,
-            left,
-            right,
-        } => put_answer(verdict, spent, left, right, out),
+        Line::Shows(shown) => put_answer(shown, out),
     }
 }

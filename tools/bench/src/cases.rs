@@ -248,8 +248,10 @@ fn multiplication(n: usize) -> Case {
     Case::new(format!("Peano {n} × {n}"), &left, &peano(n * n), line)
 }
 
+/// Normal terms of so many words that differ in the last one only.
 fn different(name: String, left: &str, right: &str, length: usize) -> Case {
-    Case::new(name, left, right, format!("Different 0 {length} {length}"))
+    let line = format!("Different 0 {length} {length} {}", length - 1);
+    Case::new(name, left, right, line)
 }
 
 fn equal_abstractions(n: usize) -> Case {
@@ -328,7 +330,7 @@ mod tests {
             "pair".to_string(),
             r"\0",
             "7",
-            "Different 0 2 1".to_string(),
+            "Different 0 2 1 0".to_string(),
         );
         let (left, right, table) = ([1, 0], [56], [1, 2, 1, 0, 1, 0, 2, 0, 0, 0, 0, 0]);
         let words = [&[5, C, 2][..], &left, &[1], &right, &[12], &table].concat();

@@ -141,13 +141,14 @@ mod tests {
     #[test]
     fn spent_is_the_second_field() {
         assert_eq!(spent("Same 2 1 1"), 2);
+        assert_eq!(spent("Different 3 5 5 4"), 3);
         assert_eq!(spent("Input"), 0);
     }
 
     #[test]
     fn instructions_are_those_of_the_press() {
         assert_eq!(each_contraction(1_100, 100, "Budget 10 9 1"), 100.0);
-        assert_eq!(each_contraction(1_100, 100, "Different 0 1 1"), 1_000.0);
+        assert_eq!(each_contraction(1_100, 100, "Different 0 1 1 0"), 1_000.0);
         assert_eq!(each_contraction(100, 150, "Same 2 1 1"), -25.0);
     }
 

@@ -58,10 +58,10 @@ impl Report {
             "# Benchmarks\n\n\
              - Machine: {machine}.\n\
              - `verdict` is the unit's program. Its peers, in Rust by {compiler} at opt-level 3, read and \
-             print the same. `flat` keeps flat words, as the unit does, searches both from the first \
-             word in every round, compares them whole and contracts through a scratch. `graph` keeps \
-             trees of shared nodes that know their size, their free indices and whether they are \
-             normal, as one would who need not keep flat words; it makes them while it loads.\n\
+             print the same. `flat` keeps flat words, as the unit does, compares and searches both from \
+             the first word in every round and contracts through a scratch. `graph` keeps trees of \
+             shared nodes that know their size, their free indices and whether they are normal, as one \
+             would who need not keep flat words; it makes them while it loads.\n\
              - All ran on the same inputs, with C {c}, and printed the line shown.\n\
              - Instructions of the press alone: those of a run less those of a run that loads the same \
              tables and refuses the press, {counted}. They are the same in every run.\n",
@@ -270,13 +270,14 @@ mod tests {
         let page = report([
             row("Loop", "Budget 100 9 1", press(1e-4)),
             row("Long", "Same 2 1 1", None),
-            row("Normal", "Different 0 1 1", press(2e-6)),
+            row("Normal", "Different 0 1 1 0", press(2e-6)),
         ]);
         for line in [
             "| Loop | `Budget 100 9 1` | 1,235 | 7 | n/a |",
             "| Loop | 1,000,000 ±2% | 1,000,000 ±2% | 1,000,000 ±2% |",
             "| Loop | 10.0 | 1.1 | 20.0 | 0.5 | 136 | 56 | n/a |",
             "| Long | n/a | n/a | n/a |",
+            "| Normal | `Different 0 1 1 0` | 1,235 | 7 | n/a |",
             "| Normal | 2.00 ±2% | 2.00 ±2% | 2.00 ±2% |",
             "### Contractions: contractions a second",
             "### Normal terms, no contraction: microseconds a press",

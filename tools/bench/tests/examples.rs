@@ -123,9 +123,23 @@ fn the_examples_of_the_help() {
         (!command.starts_with("--")).then_some((command, line.trim()))
     });
     let examples: Vec<_> = examples.collect();
-    assert_eq!(examples.len(), 4);
+    assert_eq!(examples.len(), 5);
     for (command, line) in examples {
         assert_eq!(judged(command), line, "{command}");
+    }
+}
+
+#[test]
+fn the_lines_of_the_help_have_the_fields_of_those_printed() {
+    let (_, text) = HELP.split_once("\nLines printed").expect("the lines");
+    for cells in rows("The four verdicts") {
+        let fields: Vec<&str> = code(cells[1])[0].split(' ').collect();
+        let mut lines = text.lines().map(str::trim_start);
+        let line = lines.find(|line| line.starts_with(fields[0]));
+        let (named, _) = line
+            .and_then(|line| line.split_once("  "))
+            .expect("its line");
+        assert_eq!(named.split(' ').count(), fields.len(), "{named}");
     }
 }
 

@@ -40,17 +40,17 @@ fn bench_pairs() {
     assert_eq!(line(10, 16, pair, "0"), "Same 2 1 1");
     assert_eq!(line(2, 16, pair, "0"), "Same 2 1 1");
     assert_eq!(line(1, 16, pair, "0"), "Budget 1 4 1");
-    assert_eq!(line(0, 16, "0", "1"), "Different 0 1 1");
+    assert_eq!(line(0, 16, "0", "1"), "Different 0 1 1 0");
     assert_eq!(line(0, 16, LOOP, LOOP), "Same 0 9 9");
     assert_eq!(line(5, 16, LOOP, "0"), "Budget 5 9 1");
     let thrown_away = format!(r"(\\1) 0 ({LOOP})");
     assert_eq!(line(2, 16, &thrown_away, "0"), "Same 2 1 1");
     assert_eq!(line(1, 16, r"\(\\1) 0", r"\\1"), "Same 1 3 3");
-    assert_eq!(line(1, 16, r"\(\\1) 0", r"\\0"), "Different 1 3 3");
-    assert_eq!(line(9, 16, r"\1 0", "0"), "Different 0 4 1");
+    assert_eq!(line(1, 16, r"\(\\1) 0", r"\\0"), "Different 1 3 3 2");
+    assert_eq!(line(9, 16, r"\1 0", "0"), "Different 0 4 1 0");
     assert_eq!(line(9, 16, "?#2[5]{1.0:0,2.1:0}", "5"), "Same 1 1 1");
     assert_eq!(line(9, 16, "?#1[0,1]{1.2:0}", "1"), "Same 1 1 1");
-    assert_eq!(line(9, 16, "?#1[0]{1.0:0}", "0"), "Different 0 5 1");
+    assert_eq!(line(9, 16, "?#1[0]{1.0:0}", "0"), "Different 0 5 1 0");
 }
 
 #[test]
@@ -68,9 +68,9 @@ fn numerals() {
     assert_eq!(line(1, 16, "%2", r"\\1 (1 0)"), "Same 1 7 7");
     assert_eq!(line(0, 16, "%2", r"\\1 (1 0)"), "Budget 0 1 7");
     assert_eq!(line(0, 16, "%31", "%31"), "Same 0 1 1");
-    assert_eq!(line(2, 16, "%0", "%1"), "Different 2 3 5");
+    assert_eq!(line(2, 16, "%0", "%1"), "Different 2 3 5 2");
     // Numeral n adds 2n + 2 words.
-    assert_eq!(line(1, 17, "0 %6", "0"), "Different 1 17 1");
+    assert_eq!(line(1, 17, "0 %6", "0"), "Different 1 17 1 0");
     assert_eq!(line(1, 16, "0 %6", "0"), "Full 0 3 1");
     // As a function it is the redex, and the application is the next one.
     assert_eq!(line(1, 16, "%3 0", r"\1 (1 (1 0))"), "Budget 1 11 8");
@@ -101,45 +101,189 @@ fn free_indices_of_arguments_rise() {
 #[test]
 fn both_sides_move_in_one_round() {
     assert_eq!(line(1, 16, r"(\0) 3", r"(\0) 4"), "Budget 0 4 4");
-    assert_eq!(line(2, 16, r"(\0) 3", r"(\0) 4"), "Different 2 1 1");
+    assert_eq!(line(2, 16, r"(\0) 3", r"(\0) 4"), "Different 2 1 1 0");
 }
 
 #[test]
 fn terms_that_differ_in_one_word() {
-    for (left, right, length) in [
-        ("0", "1", 1),
-        ("#1", "#2", 1),
-        ("#1[0]", "#2[0]", 2),
-        (r"\0", "#1[0]", 2),
-        (r"\0", "?0{}", 2),
-        ("0 1", "#1[0,1]", 3),
-        ("0 1", "0 2", 3),
-        ("1 0", "2 0", 3),
-        ("#1[0,1]", "#1[0,2]", 3),
-        ("?0{1.0:0}", "?1{1.0:0}", 4),
-        ("?0{1.0:0}", "?0{2.0:0}", 4),
-        ("?0{1.0:0}", "?0{1.1:0}", 4),
-        ("?0{1.0:0}", "?0{1.0:1}", 4),
+    for (left, right, length, position) in [
+        ("0", "1", 1, 0),
+        ("#1", "#2", 1, 0),
+        ("#1[0]", "#2[0]", 2, 0),
+        (r"\0", "#1[0]", 2, 0),
+        (r"\0", "?0{}", 2, 0),
+        ("0 1", "#1[0,1]", 3, 0),
+        ("0 1", "0 2", 3, 2),
+        ("1 0", "2 0", 3, 1),
+        ("#1[0,1]", "#1[0,2]", 3, 2),
+        ("?0{1.0:0}", "?1{1.0:0}", 4, 1),
+        ("?0{1.0:0}", "?0{2.0:0}", 4, 2),
+        ("?0{1.0:0}", "?0{1.1:0}", 4, 2),
+        ("?0{1.0:0}", "?0{1.0:1}", 4, 3),
     ] {
         let line = line(9, 16, left, right);
         assert_eq!(
             line,
-            format!("Different 0 {length} {length}"),
+            format!("Different 0 {length} {length} {position}"),
             "{left} {right}"
         );
+    }
+}
+
+/// Asserts what is printed of normal terms, whichever is on the left: their lengths and the position.
+fn differ(left: &str, right: &str, lengths: [usize; 2], position: usize) {
+    let [one, other] = lengths;
+    for (left, right, lengths) in [
+        (left, right, format!("{one} {other}")),
+        (right, left, format!("{other} {one}")),
+    ] {
+        let printed = line(0, 2_048, left, right);
+        let expected = format!("Different 0 {lengths} {position}");
+        assert_eq!(printed, expected, "{left} {right}");
+    }
+}
+
+#[test]
+fn of_several_differences_the_first_counts() {
+    // 2,2,0,8,16 and 2,2,8,8,24.
+    differ("0 1 2", "1 1 3", [5, 5], 2);
+    // 155,0,8,16 and 155,0,16,8.
+    differ("#1[0,1,2]", "#1[0,2,1]", [4, 4], 2);
+    // 12,0,133,0 and 12,8,261,8.
+    differ("?0{1.0:0}", "?1{2.0:1}", [4, 4], 1);
+    // 20,0,133,0,261,8 and 20,0,133,8,389,16: the first body stands before the second branch.
+    differ("?0{1.0:0,2.0:1}", "?0{1.0:1,3.0:2}", [6, 6], 3);
+    // 20,0,133,0,261,8 and 20,0,141,0,269,0.
+    differ("?0{1.0:0,2.0:1}", "?0{1.1:0,2.1:0}", [6, 6], 2);
+    // 2,2,0,8,16 and 2,0,2,8,16: as many words, and parts of other lengths.
+    differ("0 1 2", "0 (1 2)", [5, 5], 1);
+    // 147,2,0,8,16 and 147,0,2,8,16.
+    differ("#1[0 1,2]", "#1[0,1 2]", [5, 5], 1);
+    // 12,2,0,8,133,0 and 12,0,133,2,0,8.
+    differ("?0 1{1.0:0}", "?0{1.0:0 1}", [6, 6], 1);
+}
+
+#[test]
+fn terms_of_other_lengths() {
+    // The last word of the shorter: 2,0,8 and 2,0,2,8,16; 1,0 and 1,1,0.
+    differ("0 1", "0 (1 2)", [3, 5], 2);
+    differ(r"\0", r"\\0", [2, 3], 1);
+    // 147,0,8 and 147,0,139,8.
+    differ("#1[0,1]", "#1[0,#1[1]]", [3, 4], 2);
+    // 12,0,133,8 and 12,0,133,1,16.
+    differ("?0{1.0:1}", r"?0{1.0:\2}", [4, 5], 3);
+    // The first word: 2,0,8 and 16; 131 and 139,0; 4,0 and 12,0,133,0.
+    differ("0 1", "2", [3, 1], 0);
+    differ("#1", "#1[0]", [1, 2], 0);
+    differ("?0{}", "?0{1.0:0}", [2, 4], 0);
+    // Between them: 2,0,8 and 2,2,0,8,16; 12,0,133,0 and 12,2,0,0,133,0.
+    differ("0 1", "0 1 2", [3, 5], 1);
+    differ("?0{1.0:0}", "?0 0{1.0:0}", [4, 6], 1);
+    // 155,0,8,16 and 155,0,16,1,16.
+    differ("#1[0,1,2]", r"#1[0,2,\2]", [4, 5], 2);
+}
+
+#[test]
+fn a_difference_behind_equal_parts() {
+    // 155,2,0,8,1,0,16: an argument of three words, one of two, one of one.
+    differ(r"#1[0 1,\0,2]", r"#1[0 1,\0,3]", [7, 7], 6);
+    differ(r"#1[0 1,\0,2]", r"#1[0 1,\1,2]", [7, 7], 5);
+    // A function of five words, 2,2,2,0,8,16,24, and one of three, 2,2,131,0,2,8,16.
+    differ("0 1 2 3", "0 1 2 4", [7, 7], 6);
+    differ("(#1 0) (1 2)", "(#1 0) (1 3)", [7, 7], 6);
+    // 28,2,0,8,133,0,269,2,0,8,389,16: a subject of three words, then branches of two, four and two.
+    let case = |last: &str| format!("?0 1{{1.0:0,2.1:0 1,{last}}}");
+    differ(&case("3.0:2"), &case("3.0:3"), [12, 12], 11);
+    differ(&case("3.0:2"), &case("4.0:2"), [12, 12], 10);
+    differ(&case("3.0:2"), &case("3.1:2 3"), [12, 14], 10);
+    differ(&case("3.0:2"), &case("3.0:2 3"), [12, 14], 11);
+}
+
+#[test]
+fn a_difference_behind_hundreds_of_equal_words() {
+    let abstractions = |last: &str| format!("{}{last}", r"\".repeat(300));
+    differ(&abstractions("0"), &abstractions("1"), [301, 301], 300);
+    differ(&abstractions("0"), &abstractions("0 1"), [301, 303], 300);
+    // 250 applications, then the first of 251 variables.
+    let first = |first: &str| format!("{first}{}", " 0".repeat(250));
+    differ(&first("0"), &first("1"), [501, 501], 250);
+    let last = |last: &str| format!("0{} {last}", " 0".repeat(249));
+    differ(&last("0"), &last("1"), [501, 501], 500);
+    // A constructor, then 501 equal words.
+    let after = |text: &str| format!("#1[{},{text}]", last("0"));
+    differ(&after("0"), &after("0 0"), [503, 505], 502);
+    differ(&after("0"), &after("1"), [503, 503], 502);
+    // A case, its subject of 501 words, a branch of 502, the word of the next branch.
+    let body = |text: &str| format!("?{0}{{1.0:{0},2.0:{text}}}", last("0"));
+    differ(&body("0"), &body("1"), [1_006, 1_006], 1_005);
+}
+
+#[test]
+fn the_position_is_in_the_current_terms() {
+    // The first terms differ at 0. Then come 147,40,8 and 147,40,24.
+    let constructor = r"(\#1[0,2]) 5";
+    assert_eq!(line(9, 16, constructor, "#1[5,3]"), "Different 1 3 3 2");
+    assert_eq!(line(9, 16, "#1[5,3]", constructor), "Different 1 3 3 2");
+    // At 3: 2,1,0,24 and 2,1,0,32. Then 24 and 32.
+    assert_eq!(line(9, 16, r"(\0) 3", r"(\0) 4"), "Different 2 1 1 0");
+    // At 3: 2,2,0,2,1,0,8,16 and 2,2,0,8,24. Then 2,2,0,8,16 and 2,2,0,8,24.
+    assert_eq!(line(9, 16, r"0 ((\0) 1) 2", "0 1 3"), "Different 1 5 5 4");
+    // At 4: 2,2,0,22,8 and 2,2,0,22,16. Then the numeral is seven words.
+    assert_eq!(line(9, 16, "0 %2 1", "0 %2 2"), "Different 2 11 11 10");
+    // At 3. Then 1 and 65 and 65 words, and of the last numerals 1,1 and 30 times 2,8, are equal.
+    let numerals = |last| format!("#1[%31,%31,{last}]");
+    assert_eq!(
+        line(9, 256, &numerals("%30"), &numerals("%31")),
+        "Different 6 194 196 193"
+    );
+}
+
+#[test]
+fn any_two_normal_terms_differ_where_their_words_do() {
+    let leaves = ["0", "1", "#1", "#2"];
+    let mut terms = leaves.map(str::to_string).to_vec();
+    for one in leaves {
+        terms.extend([
+            format!(r"\{one}"),
+            format!(r"\\{one}"),
+            format!("#1[{one}]"),
+            format!("?0{{1.1:{one}}}"),
+            format!("?0 {one}{{}}"),
+        ]);
+        for other in leaves {
+            terms.extend([
+                format!("{one} {other}"),
+                format!("0 {one} {other}"),
+                format!("0 ({one} {other})"),
+                format!("#1[{one},{other}]"),
+                format!(r"#2[\{one},0 {other}]"),
+                format!("?0{{1.0:{one},2.0:{other}}}"),
+                format!("?0 {one}{{2.1:{other} 0,3.0:1}}"),
+            ]);
+        }
+    }
+    let words = |text: &str| term(text).words().expect("a term within the limits");
+    for (nth, left) in terms.iter().enumerate() {
+        assert!(line(0, 16, left, left).starts_with("Same 0 "), "{left}");
+        for right in &terms[nth + 1..] {
+            let [one, other] = [left, right].map(|text| words(text));
+            let position = (0..one.len()).find(|&nth| other.get(nth) != Some(&one[nth]));
+            let position = position.expect("no term is written twice or starts another");
+            differ(left, right, [one.len(), other.len()], position);
+        }
     }
 }
 
 #[test]
 fn fifteen_arguments_or_branches_are_the_most() {
     let arguments = |count| format!("#1[{}]", vec!["0"; count].join(","));
-    assert_eq!(line(0, 64, &arguments(15), "0"), "Different 0 16 1");
+    assert_eq!(line(0, 64, &arguments(15), "0"), "Different 0 16 1 0");
     assert_eq!(line(0, 64, &arguments(16), "0"), "Refused 5");
     let branches = |count| {
         let branches: Vec<String> = (1..=count).map(|tag| format!("{tag}.0:0")).collect();
         format!("?0{{{}}}", branches.join(","))
     };
-    assert_eq!(line(0, 64, &branches(15), "0"), "Different 0 32 1");
+    assert_eq!(line(0, 64, &branches(15), "0"), "Different 0 32 1 0");
     assert_eq!(line(0, 64, &branches(16), "0"), "Refused 5");
 }
 
@@ -218,9 +362,9 @@ fn refused_pairs() {
     assert_eq!(line(1, u32::MAX, "0", "0"), "Refused 7");
     assert_eq!(line(1, 16, "0", &many("0")), "Refused 8");
     assert_eq!(line(1_000_001, 16, "0", "0"), "Refused 9");
-    assert_eq!(line(1_000_000, 2_048, "255", "0"), "Different 0 1 1");
+    assert_eq!(line(1_000_000, 2_048, "255", "0"), "Different 0 1 1 0");
     // A branch binds what it says: the free number is 255, then 256.
-    assert_eq!(line(1, 16, "?0{1.2:257}", "0"), "Different 0 4 1");
+    assert_eq!(line(1, 16, "?0{1.2:257}", "0"), "Different 0 4 1 0");
     assert_eq!(line(1, 16, "?0{1.2:258}", "0"), "Refused 6");
     // The left table's refusal comes first, and any before that of the budget.
     assert_eq!(line(1_000_001, 16, "256", "#0"), "Refused 6");

@@ -21,7 +21,7 @@ const TWO_LINES: &str = "#!/bin/sh\ncat >/dev/null\necho Same\necho Same\n";
 const FAILING: &str = "#!/bin/sh\ncat >/dev/null\necho Same 0 1 1\nexit 3\n";
 /// Prints its budget as a line's number: `Refused 6`, or a verdict.
 const LINES: &str = "#!/bin/sh\nset -- $(od -An -v -tu4)\ncase $1 in\n\
-    11) echo Same 1 2 3 ;; 12) echo Different 1 2 3 ;; 13) echo Budget 1 2 3 ;;\n\
+    11) echo Same 1 2 3 ;; 12) echo Different 1 2 3 1 ;; 13) echo Budget 1 2 3 ;;\n\
     14) echo Full 1 2 3 ;; 15) echo Input ;; *) echo Refused $1 ;;\nesac\n";
 /// Refuses a table of 16 words on the left, then on the right, by its budget as a number.
 const SIDES: &str = "#!/bin/sh\nset -- $(od -An -v -tu4)\nnumber=$1\n\
@@ -447,8 +447,8 @@ fn a_changed_source_is_judged_by_a_new_program() {
     let repository = Repository::new("changed", &Repository::prints("Same 0 1 1"));
     repository.judge();
     let source = repository.root.join("source");
-    fs::write(&source, Repository::prints("Different 0 1 1")).expect("the source");
-    assert_eq!(repository.judge().1, "Different 0 1 1\n");
+    fs::write(&source, Repository::prints("Different 0 1 1 0")).expect("the source");
+    assert_eq!(repository.judge().1, "Different 0 1 1 0\n");
     fs::write(&source, "wrong").expect("the source");
     let (status, output, message) = repository.judge();
     assert_eq!((status, output.as_str()), (3, ""));
@@ -473,7 +473,7 @@ fn a_build_that_leaves_no_program_is_said() {
 fn the_verdict_decides_the_exit_status_if_asked() {
     for (budget, line, status) in [
         ("11", "Same 1 2 3", 0),
-        ("12", "Different 1 2 3", 1),
+        ("12", "Different 1 2 3 1", 1),
         ("13", "Budget 1 2 3", 4),
         ("14", "Full 1 2 3", 5),
         ("6", "Refused 6", 6),

@@ -1,20 +1,22 @@
 //! An independent reference for the convertibility calculator.
 //!
 //! The first modules are the rules of docs/RULES.md on trees: terms, their
-//! words, contraction, presses, tables, and the two programs as functions
-//! from input bytes to printed text. `generate` makes inputs for the programs
-//! from fixed seeds; `part`, `tally` and `child` serve the `compare` program,
-//! which runs the built programs on those inputs.
+//! words, contraction, positions, presses, tables, and the two programs as
+//! functions from input bytes to printed text. `generate` makes inputs for
+//! the programs from fixed seeds; `part`, `shape`, `tally` and `child` serve
+//! the `compare` program, which runs the built programs on those inputs.
 
 pub mod child;
 pub mod contraction;
 pub mod generate;
 pub mod input;
 pub mod part;
+pub mod position;
 pub mod press;
 pub mod random;
 pub mod refusal;
 pub mod replay;
+pub mod shape;
 pub mod table;
 pub mod tally;
 pub mod term;

@@ -8,7 +8,7 @@ use crate::refusal::Refusal;
 use crate::replay::{Event, Machine, Operation};
 use crate::table::RECORD;
 use crate::term::{Term, LARGEST_NUMERAL};
-use crate::verdict::Request;
+use crate::verdict;
 use crate::words::{kind, kind_of, payload_of, word};
 use std::fmt;
 
@@ -57,26 +57,9 @@ impl fmt::Display for Part {
 /// The parts of numerals in what the verdict program does with an input.
 pub fn of_input(input: &[u8]) -> Vec<Part> {
     let mut parts = Vec::new();
-    let Some(request) = Request::read(input) else {
-        return parts;
-    };
-    let mut machine = Machine::new(request.capacity, request.capacity);
-    let mut lengths = [0; 2];
-    let sides = [(Side::Left, request.left), (Side::Right, request.right)];
-    for ((side, table), length) in sides.into_iter().zip(&mut lengths) {
-        let load = Operation::Load { side, table };
-        parts.extend(of_call(&machine, &load));
-        let Event::Load(Ok(loaded)) = machine.apply(&load, &mut String::new()) else {
-            return parts;
-        };
-        *length = loaded;
-    }
-    let press = Operation::Press {
-        scratch: machine.left.len(),
-        lengths: lengths.into(),
-        budget: request.budget,
-    };
-    parts.extend(of_call(&machine, &press));
+    verdict::watch(input, |before, operation| {
+        parts.extend(of_call(before, operation));
+    });
     parts
 }
 

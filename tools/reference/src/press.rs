@@ -1,6 +1,7 @@
 //! Rounds, presses with their session, and showing.
 
 use crate::contraction::step;
+use crate::position::position;
 use crate::refusal::Refusal;
 use crate::term::{Term, WORKSPACE};
 use crate::words::{read, words};
@@ -32,6 +33,19 @@ pub struct Rounds {
     pub spent: u32,
     pub left: Term,
     pub right: Term,
+}
+
+impl Rounds {
+    /// Where the words of the two terms first differ, if they are Different;
+    /// 0 with every other verdict.
+    pub fn position(&self) -> u32 {
+        match self.verdict {
+            Verdict::Different => position(&self.left, &self.right)
+                .expect("terms that are Different are unequal")
+                as u32,
+            _ => 0,
+        }
+    }
 }
 
 /// Rounds from two terms, in workspaces of `capacity` words.
@@ -94,8 +108,11 @@ pub struct Answer {
     pub spent: u32,
     pub left: u32,
     pub right: u32,
+    /// Where the current forms first differ, after Different only.
+    pub position: u32,
 }
 
+/// The fields that both programs print with every verdict.
 impl fmt::Display for Answer {
     fn fmt(&self, f: &mut fmt::Formatter<'_>) -> fmt::Result {
         let Answer {
@@ -103,6 +120,7 @@ impl fmt::Display for Answer {
             spent,
             left,
             right,
+            ..
         } = self;
         write!(f, "{verdict} {spent} {left} {right}")
     }
@@ -132,6 +150,7 @@ pub fn press(
         spent: end.spent,
         left: put(left, &end.left),
         right: put(right, &end.right),
+        position: end.position(),
     };
     *session = Session {
         total: session.total + answer.spent,

@@ -244,7 +244,7 @@ impl Machine {
             &mut self.session,
         );
         let head = match answer {
-            Ok(answer) => answer.to_string(),
+            Ok(answer) => format!("{answer} {}", answer.position),
             Err(refusal) => format!("refused {refusal}"),
         };
         line(text, &head, &[]);

@@ -1,7 +1,8 @@
 //! Counts of what a run saw, and the least it has to see.
 
-use crate::part::Part;
-use crate::replay::Event;
+use crate::part;
+use crate::replay::{Event, Machine, Operation};
+use crate::shape::{self, SHAPES};
 use crate::verdict::Outcome;
 use std::collections::BTreeMap;
 use std::fmt;
@@ -72,8 +73,10 @@ const REPLAY_KINDS: [&str; 37] = [
     "replay, write refused 10 by a numeral",
 ];
 
-/// Each kind has to be seen once in so many cases.
+/// Each kind of answer has to be seen once in so many cases.
 const CASES_PER_KIND: usize = 30;
+/// So has each shape that a press leaves.
+const CASES_PER_SHAPE: usize = 60;
 /// Runs with fewer cases need half of that, since chance weighs more there.
 const FEW_CASES: usize = 3_000;
 
@@ -111,10 +114,13 @@ impl Tally {
         self.count(format!("replay: {kind}"), 1);
     }
 
-    /// The parts of numerals in an input of the program, or in a call of it.
-    pub fn parts(&mut self, program: &str, parts: Vec<Part>) {
-        for part in parts {
+    /// What a call of the program has to do with numerals and positions.
+    pub fn call(&mut self, program: &str, before: &Machine, operation: &Operation) {
+        for part in part::of_call(before, operation) {
             self.count(format!("{program}, {part}"), 1);
+        }
+        for shape in shape::of_call(before, operation) {
+            self.count(format!("{program}, {shape}"), 1);
         }
     }
 
@@ -133,21 +139,27 @@ impl Tally {
         self.counts.get(kind).copied().unwrap_or(0)
     }
 
-    /// The kinds that a run of `cases` cases saw too seldom, and the least
-    /// number that would do.
-    pub fn too_few(&self, cases: usize, halves: Halves) -> (Vec<&'static str>, usize) {
-        let least = match cases / CASES_PER_KIND {
+    /// What a run of `cases` cases saw too seldom, each with the least number
+    /// that would do.
+    pub fn too_few(&self, cases: usize, halves: Halves) -> Vec<(String, usize)> {
+        let least = |cases_per_one: usize| match cases / cases_per_one {
             some if cases < FEW_CASES => some / 2,
             all => all,
         };
-        let verdict = VERDICT_KINDS.iter().filter(|_| halves.verdict);
-        let replay = REPLAY_KINDS.iter().filter(|_| halves.replay);
-        let few = verdict
-            .chain(replay)
-            .filter(|kind| self.seen(kind) < least)
-            .copied()
-            .collect();
-        (few, least)
+        let mut needed = Vec::new();
+        for (compared, program, kinds) in [
+            (halves.verdict, "verdict", &VERDICT_KINDS[..]),
+            (halves.replay, "replay", &REPLAY_KINDS),
+        ] {
+            if compared {
+                let shapes = SHAPES.map(|shape| format!("{program}, {shape}"));
+                let kinds = kinds.iter().map(|kind| kind.to_string());
+                needed.extend(kinds.map(|kind| (kind, least(CASES_PER_KIND))));
+                needed.extend(shapes.map(|shape| (shape, least(CASES_PER_SHAPE))));
+            }
+        }
+        needed.retain(|(kind, least)| self.seen(kind) < *least);
+        needed
     }
 }
 

@@ -1,8 +1,9 @@
 //! The verdict program as a function from input bytes to its line.
 
 use crate::input::{workspace, Words};
-use crate::press::{press, Answer, Session};
+use crate::press::{press, Answer, Session, Side, Verdict};
 use crate::refusal::Refusal;
+use crate::replay::{Event, Machine, Operation};
 use crate::table::load;
 use std::fmt;
 
@@ -15,13 +16,17 @@ pub enum Outcome {
     Answered(Answer),
 }
 
-/// The line that the program prints, its end included.
+/// The line that the program prints, its end included; the position is shown
+/// with Different only.
 impl fmt::Display for Outcome {
     fn fmt(&self, f: &mut fmt::Formatter<'_>) -> fmt::Result {
         match self {
             Outcome::Input => writeln!(f, "Input"),
             Outcome::Refused(refusal) => writeln!(f, "Refused {refusal}"),
-            Outcome::Answered(answer) => writeln!(f, "{answer}"),
+            Outcome::Answered(answer) => match answer.verdict {
+                Verdict::Different => writeln!(f, "{answer} {}", answer.position),
+                _ => writeln!(f, "{answer}"),
+            },
         }
     }
 }
@@ -35,6 +40,30 @@ pub fn outcome(input: &[u8]) -> Outcome {
             Err(refusal) => Outcome::Refused(refusal),
         },
     }
+}
+
+/// Shows the calls that the program makes on an input, each before it is made.
+pub fn watch(input: &[u8], mut watch: impl FnMut(&Machine, &Operation)) {
+    let Some(request) = Request::read(input) else {
+        return;
+    };
+    let mut machine = Machine::new(request.capacity, request.capacity);
+    let mut lengths = [0; 2];
+    let sides = [(Side::Left, request.left), (Side::Right, request.right)];
+    for ((side, table), length) in sides.into_iter().zip(&mut lengths) {
+        let load = Operation::Load { side, table };
+        watch(&machine, &load);
+        let Event::Load(Ok(loaded)) = machine.apply(&load, &mut String::new()) else {
+            return;
+        };
+        *length = loaded;
+    }
+    let press = Operation::Press {
+        scratch: machine.left.len(),
+        lengths: lengths.into(),
+        budget: request.budget,
+    };
+    watch(&machine, &press);
 }
 
 /// The parts of the program's input.

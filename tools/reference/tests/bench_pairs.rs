@@ -2,9 +2,9 @@
 
 mod common;
 
-use common::{answer, loaded, next, pressed, table, workspace};
+use common::{answer, different, loaded, next, pressed, table, workspace};
 use reference::input::bytes;
-use reference::press::Verdict::{Budget, Different, Full, Same};
+use reference::press::Verdict::{Budget, Full, Same};
 use reference::refusal::Refusal;
 use reference::table::write;
 use reference::verdict::outcome;
@@ -38,7 +38,7 @@ fn that_term_against_f0() {
 
 #[test]
 fn two_free_variables() {
-    assert_eq!(pressed(&[0], &[8], 16, 0), answer(Different, 0, 1, 1));
+    assert_eq!(pressed(&[0], &[8], 16, 0), different(0, 1, 1, 0));
 }
 
 #[test]
@@ -67,10 +67,7 @@ fn contraction_under_a_binder() {
 #[test]
 fn a_wrapper_is_another_term() {
     // Both are normal, so no budget is needed.
-    assert_eq!(
-        pressed(&[1, 2, 8, 0], &[0], 16, 0),
-        answer(Different, 0, 4, 1)
-    );
+    assert_eq!(pressed(&[1, 2, 8, 0], &[0], 16, 0), different(0, 4, 1, 0));
 }
 
 #[test]

@@ -3,8 +3,7 @@
 
 use reference::generate::{inputs, scripts};
 use reference::tally::{Halves, Tally};
-use reference::verdict::outcome;
-use reference::{on_large_stack, part, replay};
+use reference::{on_large_stack, replay, verdict};
 use std::fs;
 use std::path::PathBuf;
 use std::process::{Command, Output};
@@ -63,6 +62,8 @@ fn the_report_counts_every_case() {
     assert!(report.contains("replay: press refused 10\n"));
     assert!(report.contains("replay, press refused 10 by a numeral\n"));
     assert!(report.contains("verdict, press Full by a numeral\n"));
+    assert!(report.contains("verdict, press Different behind equal words\n"));
+    assert!(report.contains("replay, press Budget behind equal words\n"));
 }
 
 #[test]
@@ -114,25 +115,27 @@ fn wrong_arguments() {
     }
 }
 
-/// The kinds that sixty cases of a seed have to see once and do not.
-fn missing(seed: u64) -> Vec<&'static str> {
+/// What sixty cases of a seed have to see once and do not.
+fn missing(seed: u64) -> Vec<(String, usize)> {
     let mut tally = Tally::default();
     for case in 0..40 {
         let input = inputs::input(seed, case);
-        tally.verdict(&outcome(&input));
-        tally.parts("verdict", part::of_input(&input));
+        tally.verdict(&verdict::outcome(&input));
+        verdict::watch(&input, |before, operation| {
+            tally.call("verdict", before, operation);
+        });
     }
     for case in 0..20 {
         let script = scripts::script(seed, case);
         let transcript = replay::run_watched(&script, |before, operation| {
-            tally.parts("replay", part::of_call(before, operation));
+            tally.call("replay", before, operation);
         });
         transcript
             .events
             .iter()
             .for_each(|event| tally.event(event));
     }
-    tally.too_few(60, BOTH).0
+    tally.too_few(60, BOTH)
 }
 
 #[test]
@@ -142,10 +145,13 @@ fn a_run_that_sees_too_little_fails() {
     let (seed, few) = found.expect("sixty cases are few for some seed");
     let output = compare(&[VERDICT, REPLAY, "60", &seed.to_string()]);
     assert_eq!(output.status.code(), Some(1));
-    let few: Vec<String> = few.iter().map(|kind| format!("{kind} (0)")).collect();
+    let few = few
+        .iter()
+        .map(|(kind, least)| format!("{kind} (0 of {least})"));
+    let few: Vec<String> = few.collect();
     assert_eq!(
         String::from_utf8_lossy(&output.stderr),
-        format!("compare: seen fewer than 1 times: {}\n", few.join(", "))
+        format!("compare: seen too seldom: {}\n", few.join(", "))
     );
 }
 
@@ -154,16 +160,27 @@ fn kinds_that_are_not_seen_are_named() {
     let none = Tally::default();
     // Four verdicts, refusals 1 to 9, Input and five parts of numerals; in
     // scripts nine answers of load, seven of press, three of show, four of
-    // write, four others and ten parts of numerals.
-    assert_eq!(none.too_few(60, BOTH).0.len(), 19 + 37);
-    assert_eq!(none.too_few(59, BOTH).0.len(), 0);
+    // write, four others and ten parts of numerals. In both, nine shapes of
+    // forms, which may be half as frequent.
+    assert_eq!(none.too_few(60, BOTH).len(), 19 + 37);
+    assert_eq!(none.too_few(59, BOTH).len(), 0);
+    assert_eq!(none.too_few(120, BOTH).len(), 19 + 37 + 2 * 9);
+    assert_eq!(none.too_few(119, BOTH).len(), 19 + 37);
     let verdict = Halves {
         replay: false,
         ..BOTH
     };
-    let (few, least) = none.too_few(6_000, verdict);
-    assert_eq!((few.len(), least), (19, 200));
-    assert_eq!(none.too_few(3_000, verdict).1, 100);
-    assert_eq!(none.too_few(2_999, verdict).1, 49);
-    assert!(few.contains(&"verdict: Refused 9"));
+    let least = |cases, kind: &str| {
+        let few = none.too_few(cases, verdict);
+        assert_eq!(few.len(), 19 + 9);
+        few.iter().find(|few| few.0 == kind).map(|few| few.1)
+    };
+    let (kind, shape) = (
+        "verdict: Refused 9",
+        "verdict, press Different at equal lengths",
+    );
+    for (cases, kinds, shapes) in [(6_000, 200, 100), (3_000, 100, 50), (2_999, 49, 24)] {
+        assert_eq!(least(cases, kind), Some(kinds));
+        assert_eq!(least(cases, shape), Some(shapes));
+    }
 }

@@ -3,9 +3,9 @@
 
 mod common;
 
-use common::{answer, next, pressed, term};
+use common::{answer, different, next, pressed, term};
 use reference::contraction::{church, contractum, shift, step, substitute};
-use reference::press::Verdict::{Budget, Different, Same};
+use reference::press::Verdict::{Budget, Same};
 use reference::term::{abs, app, branch, case, con, num, var};
 use reference::words::words;
 
@@ -282,10 +282,7 @@ fn an_outermost_abstraction_is_no_end() {
 fn a_spent_budget_is_not_different() {
     // (\ 0) f0 against f1: Different only once the contraction is made.
     assert_eq!(pressed(&[2, 1, 0, 0], &[8], 16, 0), answer(Budget, 0, 4, 1));
-    assert_eq!(
-        pressed(&[2, 1, 0, 0], &[8], 16, 1),
-        answer(Different, 1, 1, 1)
-    );
+    assert_eq!(pressed(&[2, 1, 0, 0], &[8], 16, 1), different(1, 1, 1, 0));
 }
 
 #[test]

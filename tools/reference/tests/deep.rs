@@ -2,9 +2,9 @@
 
 mod common;
 
-use common::{answer, loaded, pressed, table, term};
+use common::{answer, different, loaded, pressed, table, term};
 use reference::on_large_stack;
-use reference::press::Verdict::{Budget, Different, Full, Same};
+use reference::press::Verdict::{Budget, Full, Same};
 use reference::refusal::Refusal;
 use reference::table::write;
 use reference::words::words;
@@ -46,8 +46,14 @@ fn deep_terms_are_read_written_and_compared() {
             assert_eq!(loaded(&stored, LONGEST), (Ok(length as u32), full));
             let same = answer(Same, 0, length as u32, length as u32);
             assert_eq!(pressed(&list, &list, LONGEST, 0), same);
-            let different = answer(Different, 0, length as u32, 1);
-            assert_eq!(pressed(&list, &[8], LONGEST, 0), different);
+            let at_once = different(0, length as u32, 1, 0);
+            assert_eq!(pressed(&list, &[8], LONGEST, 0), at_once);
+            // The same words with another last one.
+            let mut other = list.clone();
+            other[length - 1] = if list[length - 1] == 0 { 8 } else { 0 };
+            let length = length as u32;
+            let at_last = different(0, length, length, length - 1);
+            assert_eq!(pressed(&list, &other, LONGEST, 0), at_last);
         }
     });
 }
@@ -70,8 +76,13 @@ fn a_numeral_at_the_deepest_place() {
     on_large_stack(|| {
         // Numeral 0 becomes 1,1,0: two words more.
         let numeral = join(vec![1; 2_045], &[6]);
-        let different = answer(Different, 1, 2_048, 1);
-        assert_eq!(pressed(&numeral, &[0], LONGEST, 1), different);
+        let at_once = different(1, 2_048, 1, 0);
+        assert_eq!(pressed(&numeral, &[0], LONGEST, 1), at_once);
+        // Against numeral 1 in its place, 1,1,2,8,0, after 2,043 abstractions:
+        // both have two more of these, then come 0 and 2.
+        let [zero, one] = [6, 14].map(|numeral| join(vec![1; 2_043], &[numeral]));
+        let late = different(2, 2_046, 2_048, 2_045);
+        assert_eq!(pressed(&zero, &one, LONGEST, 2), late);
         let numeral = join(vec![1; 2_046], &[6]);
         let full = answer(Full, 0, 2_047, 1);
         assert_eq!(pressed(&numeral, &[0], LONGEST, 1), full);

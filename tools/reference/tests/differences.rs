@@ -51,6 +51,7 @@ fn compared(verdict: &str, replay: &str, cases: u64, options: &[&str]) -> String
 fn small_differences_are_found() {
     fs::create_dir_all(folder()).expect("the folder can be made");
     answers_changed_a_little();
+    positions_printed_otherwise();
     one_wrong_case();
     inputs_as_files_and_through_pipes();
     a_program_that_takes_too_long();
@@ -77,6 +78,28 @@ fn answers_changed_a_little() {
     let input = fs::read(in_folder("difference.bin")).expect("the input is kept");
     let lines = on_large_stack(|| replay::run(&input).text.lines().count());
     assert!(message.contains(&format!(", line {lines}\n")), "{message}");
+}
+
+/// Lines of a press start with a verdict, which has a capital letter.
+fn positions_printed_otherwise() {
+    for (name, change) in [
+        ("not-printed", "/^Different/s/ [0-9]*$//"),
+        ("always-0", "/^Different/s/ [0-9]*$/ 0/"),
+        ("printed-always", "/^[SBF][a-z]* /s/$/ 0/"),
+    ] {
+        let changed = program(name, &format!("'{VERDICT}' | sed '{change}'"));
+        let message = compared(&changed, "-", 60, &[]);
+        assert!(message.contains("\nexpected: "), "{name}: {message}");
+    }
+    for (name, change) in [
+        ("missing", "/^[SDBF][a-z]* /s/ [0-9]*$//"),
+        ("missing-elsewhere", "/^[SBF][a-z]* /s/ [0-9]*$//"),
+        ("different-at-0", "/^Different/s/ [0-9]*$/ 0/"),
+    ] {
+        let changed = program(name, &format!("'{REPLAY}' | sed '{change}'"));
+        let message = compared("-", &changed, 60, &[]);
+        assert!(message.contains("\nexpected: "), "{name}: {message}");
+    }
 }
 
 /// Of three cases two are inputs of the one program and one is a script.

@@ -5,12 +5,13 @@ mod common;
 use common::loaded;
 use reference::contraction::church;
 use reference::generate::damage::{faulty_numeral, faulty_table, FAULTS};
-use reference::generate::inputs::{self, AIMS};
-use reference::generate::pairs::{numeral_trial, pair, trial, Trial};
+use reference::generate::inputs::{self, Aim};
+use reference::generate::pairs::{near_trial, numeral_trial, pair, trial, Trial};
 use reference::generate::tables::{term_table, Order};
 use reference::generate::terms::{replace, subterms, term, Style};
-use reference::generate::{families, scripts};
+use reference::generate::{families, near, scripts};
 use reference::on_large_stack;
+use reference::part::Part;
 use reference::press::rounds;
 use reference::press::Verdict;
 use reference::random::Random;
@@ -19,7 +20,7 @@ use reference::replay::VERDICTS;
 use reference::table::write;
 use reference::term::{abs, app, con, var, Term};
 use reference::words::{read, words};
-use std::collections::HashSet;
+use std::collections::{HashMap, HashSet};
 
 /// Runs `check` with the random numbers of so many cases.
 fn for_cases(count: u64, check: impl Fn(&mut Random) + Sync) {
@@ -68,7 +69,11 @@ fn many_random_terms_have_numerals() {
 #[test]
 fn families_are_accepted() {
     for_cases(600, |random| {
-        for (left, right) in [families::pair(random), families::numerals(random)] {
+        for (left, right) in [
+            families::pair(random),
+            families::numerals(random),
+            near::pair(random),
+        ] {
             for term in [left, right] {
                 assert!(term.size() <= 2_048);
                 assert_eq!(read(&words(&term)), Some(term));
@@ -175,12 +180,52 @@ fn of_two_faults_the_first_is_met() {
 fn inputs_meet_their_aims() {
     on_large_stack(|| {
         let mut missed = 0;
-        for case in 0..760 {
-            let input = inputs::input(3, case as u64);
-            missed += usize::from(!AIMS[case % AIMS.len()].is_met(&input));
+        for case in 0..800 {
+            let input = inputs::input(3, case);
+            missed += usize::from(!inputs::aim(case).is_met(&input));
         }
         assert!(missed <= 6, "{missed}");
     });
+}
+
+#[test]
+fn every_outcome_has_its_share_of_the_aims() {
+    let outcome = |aim| match aim {
+        Aim::Verdict(verdict) => verdict.to_string(),
+        Aim::Refused(refusal) => refusal.to_string(),
+        Aim::Numeral(Part::Full) => Verdict::Full.to_string(),
+        Aim::Numeral(Part::Value) => Refusal::Value.to_string(),
+        Aim::Numeral(_) => Refusal::Structure.to_string(),
+        Aim::Input => "Input".to_string(),
+        Aim::Mixed => "Mixed".to_string(),
+    };
+    // A hundred cases in a row, and fewer; these are well mixed.
+    for start in 0..100 {
+        for (length, least) in [(100, 5), (29, 1)] {
+            let mut counts: HashMap<String, usize> = HashMap::new();
+            for case in start..start + length {
+                *counts.entry(outcome(inputs::aim(case))).or_default() += 1;
+            }
+            // Four verdicts, refusals 1 to 9, Input and mixed faults.
+            assert_eq!(counts.len(), 15, "{start} {length} {counts:?}");
+            assert!(counts.values().all(|count| *count >= least), "{counts:?}");
+        }
+    }
+}
+
+#[test]
+fn near_trials_give_different_behind_equal_words() {
+    let late = on_large_stack(|| {
+        let mut late = 0;
+        for case in 0..400 {
+            let trial = near_trial(&mut Random::new(13, case));
+            let end = rounds(trial.left, trial.right, trial.capacity, trial.budget);
+            assert_eq!(end.verdict, Verdict::Different);
+            late += usize::from(end.position() > 0);
+        }
+        late
+    });
+    assert!(late >= 360, "{late}");
 }
 
 #[test]

@@ -123,6 +123,7 @@ fn check(list: &mut List, call: &Call, start: u32) {
     list.lengths = (answer.left, answer.right);
     let whole = list.in_one_go(call.budget);
     assert_eq!(answer.verdict, whole.verdict);
+    assert_eq!(answer.position, whole.position());
     assert_eq!(list.spent.iter().sum::<u32>(), whole.spent);
     assert_eq!(list.left, padded(words(&whole.left), list.left.len()));
     assert_eq!(list.right, padded(words(&whole.right), list.right.len()));

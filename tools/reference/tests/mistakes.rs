@@ -1,6 +1,9 @@
 //! Judges with one mistake each: the generated inputs have to tell every one
 //! of them from the reference. The judge without a mistake must agree.
 
+mod common;
+
+use common::flat_position;
 use reference::generate::inputs::{self, Aim};
 use reference::on_large_stack;
 use reference::part::contracts_numeral;
@@ -10,7 +13,7 @@ use reference::replay::VERDICTS;
 use reference::table::load;
 use reference::term::{abs, app, branch, case, con, num, var, Branch, Term};
 use reference::verdict::{outcome, Outcome, Request};
-use reference::words::read;
+use reference::words::{read, words};
 
 #[derive(Clone, Copy, Debug, PartialEq, Eq)]
 enum Mistake {
@@ -226,13 +229,7 @@ impl Judge {
             let next = sides.each_ref().map(|side| self.next(side));
             let end = self.end(&sides, &next, capacity, budget - spent);
             if let Some(verdict) = end {
-                let [left, right] = sides.map(|side| side.size() as u32);
-                return Some(Answer {
-                    verdict,
-                    spent,
-                    left,
-                    right,
-                });
+                return Some(answer(verdict, spent, sides));
             }
             spent += self.cost(&sides, &next);
             for (side, next) in sides.iter_mut().zip(next) {
@@ -304,6 +301,23 @@ impl Judge {
             Mistake::DifferentBeforeSame => normal.or(same).or(budget).or(full),
             _ => same.or(normal).or(budget).or(full),
         }
+    }
+}
+
+/// The answer with the forms at the end, which are compared as lists of words.
+fn answer(verdict: Verdict, spent: u32, forms: [Term; 2]) -> Answer {
+    let [left, right] = forms.map(|form| words(&form));
+    let position = match verdict {
+        Verdict::Different => flat_position(&left, &right).unwrap_or(0),
+        _ => 0,
+    };
+    let [left, right, position] = [left.len(), right.len(), position].map(|count| count as u32);
+    Answer {
+        verdict,
+        spent,
+        left,
+        right,
+        position,
     }
 }
 

@@ -3,8 +3,8 @@
 
 mod common;
 
-use common::{answer, pressed, workspace};
-use reference::press::Verdict::{Budget, Different, Full, Same};
+use common::{answer, different, pressed, workspace};
+use reference::press::Verdict::{Budget, Full, Same};
 use reference::press::{press, show, Answer, Session, Side};
 use reference::refusal::Refusal;
 
@@ -131,7 +131,7 @@ fn refusal_10_by_the_lengths() {
         Lent::new(&I_F0, &I_F1, 16).assert_refused((wrong, 4), 9, Refusal::NotATerm);
         Lent::new(&I_F0, &I_F1, 16).assert_refused((4, wrong), 9, Refusal::NotATerm);
     }
-    assert_eq!(pressed(&I_F0, &I_F1, 16, 9), answer(Different, 2, 1, 1));
+    assert_eq!(pressed(&I_F0, &I_F1, 16, 9), different(2, 1, 1, 0));
 }
 
 #[test]
@@ -140,7 +140,7 @@ fn refusal_10_at_the_workspace_length() {
     // fit it.
     let mut lent = Lent::new(&[1; 16], &[0], 16);
     lent.left[15] = 120;
-    assert_eq!(lent.press((16, 1), 0), answer(Different, 0, 16, 1));
+    assert_eq!(lent.press((16, 1), 0), different(0, 16, 1, 0));
     lent.assert_refused((17, 1), 0, Refusal::NotATerm);
 }
 
@@ -171,14 +171,14 @@ fn words_after_a_press() {
     assert_eq!(lent.press((7, 1), 1), answer(Budget, 1, 4, 1));
     assert_eq!(lent.left, [&[2, 1, 8, 8][..], &[0; 12]].concat());
     assert_eq!(lent.right, [&[8][..], &[0; 15]].concat());
-    assert_eq!(lent.press((4, 1), 1), answer(Different, 1, 1, 1));
+    assert_eq!(lent.press((4, 1), 1), different(1, 1, 1, 0));
     assert_eq!(lent.left, [0; 16]);
 }
 
 #[test]
 fn both_sides_move_in_one_round() {
     assert_eq!(pressed(&I_F0, &I_F1, 16, 1), answer(Budget, 0, 4, 4));
-    assert_eq!(pressed(&I_F0, &I_F1, 16, 2), answer(Different, 2, 1, 1));
+    assert_eq!(pressed(&I_F0, &I_F1, 16, 2), different(2, 1, 1, 0));
     // The left needs two contractions, the right one: 2 and then 1.
     assert_eq!(pressed(&K_F0_F1, &I_F0, 16, 2), answer(Budget, 2, 4, 1));
     assert_eq!(pressed(&K_F0_F1, &I_F0, 16, 3), answer(Same, 3, 1, 1));
@@ -205,15 +205,9 @@ fn a_next_term_of_exactly_c_words_fits() {
     // becomes 1(a, a) with 1 + 7 + 7 = 15 words; with 7 arguments it has 17.
     // Constructor 1 with 2, 6 and 7 arguments: 147, 179 and 187.
     let term = |word: u32, count| [&[2, 1, 147, 0, 0, word][..], &vec![0; count]].concat();
-    assert_eq!(
-        pressed(&term(179, 6), &[0], 16, 1),
-        answer(Different, 1, 15, 1)
-    );
+    assert_eq!(pressed(&term(179, 6), &[0], 16, 1), different(1, 15, 1, 0));
     assert_eq!(pressed(&term(187, 7), &[0], 16, 1), answer(Full, 0, 13, 1));
-    assert_eq!(
-        pressed(&term(187, 7), &[0], 17, 1),
-        answer(Different, 1, 17, 1)
-    );
+    assert_eq!(pressed(&term(187, 7), &[0], 17, 1), different(1, 17, 1, 0));
 }
 
 #[test]
@@ -231,10 +225,10 @@ fn a_numeral_against_its_expansion() {
 fn a_numeral_is_not_different_before_it_is_contracted() {
     // 0 against f0: \ \ 0 is Different once the contraction is made.
     assert_eq!(pressed(&[6], &[0], 16, 0), answer(Budget, 0, 1, 1));
-    assert_eq!(pressed(&[6], &[0], 16, 1), answer(Different, 1, 3, 1));
-    // Two numerals move together.
+    assert_eq!(pressed(&[6], &[0], 16, 1), different(1, 3, 1, 0));
+    // Two numerals move together, to 1,1,0 and 1,1,2,8,0.
     assert_eq!(pressed(&[6], &[14], 16, 1), answer(Budget, 0, 1, 1));
-    assert_eq!(pressed(&[6], &[14], 16, 2), answer(Different, 2, 3, 5));
+    assert_eq!(pressed(&[6], &[14], 16, 2), different(2, 3, 5, 2));
 }
 
 #[test]
@@ -243,14 +237,14 @@ fn a_numeral_grows_by_2n_plus_2_words() {
     // adds 14 to 3.
     for left in [&[62][..], &[2, 0, 54]] {
         let length = left.len() as u32;
-        assert_eq!(pressed(left, &[0], 17, 1), answer(Different, 1, 17, 1));
+        assert_eq!(pressed(left, &[0], 17, 1), different(1, 17, 1, 0));
         assert_eq!(pressed(left, &[0], 16, 1), answer(Full, 0, length, 1));
         assert_eq!(pressed(&[0], left, 16, 1), answer(Full, 0, 1, length));
         assert_eq!(pressed(left, &[0], 16, 0), answer(Budget, 0, length, 1));
     }
-    assert_eq!(pressed(&[54], &[0], 16, 1), answer(Different, 1, 15, 1));
+    assert_eq!(pressed(&[54], &[0], 16, 1), different(1, 15, 1, 0));
     // The last one has 65 words.
-    assert_eq!(pressed(&[254], &[0], 65, 1), answer(Different, 1, 65, 1));
+    assert_eq!(pressed(&[254], &[0], 65, 1), different(1, 65, 1, 0));
     assert_eq!(pressed(&[254], &[0], 64, 1), answer(Full, 0, 1, 1));
 }
 
@@ -291,7 +285,8 @@ fn two_and_two_is_four() {
         assert_eq!(pressed(&left, &[38], 17, spent), expected);
     }
     assert_eq!(pressed(&left, &[38], 17, 9), answer(Same, 9, 11, 11));
-    assert_eq!(pressed(&left, &[46], 17, 9), answer(Different, 9, 11, 13));
+    // Numeral 5 goes on with 2,8 where numeral 4 ends with 0, at word 10.
+    assert_eq!(pressed(&left, &[46], 17, 9), different(9, 11, 13, 10));
 }
 
 #[test]
@@ -354,7 +349,7 @@ fn divided_budget_makes_the_rounds_of_one_press() {
     let mut divided = Lent::new(&I_F0, &I_F1, 16);
     assert_eq!(divided.press((4, 4), 1), answer(Budget, 0, 4, 4));
     assert_eq!(divided.press((4, 4), 1), answer(Budget, 0, 4, 4));
-    assert_eq!(divided.press((4, 4), 2), answer(Different, 2, 1, 1));
+    assert_eq!(divided.press((4, 4), 2), different(2, 1, 1, 0));
 }
 
 #[test]

@@ -51,10 +51,10 @@ fn a_run_with_every_operation() {
         &[7],
     ]);
     let expected = [
-        "load 7\nload 1\nstore\nBudget 1 4 1\nshow 1 0\n",
+        "load 7\nload 1\nstore\nBudget 1 4 1 0\nshow 1 0\n",
         // Header; application; abstraction; its body f0; the argument f1.
         "write 4 1 4 1 0 2 0 2 0 1 0 3 4 0 1 0 0 0 1 0 0\n",
-        "refused 10\nSame 1 1 1\n",
+        "refused 10\nSame 1 1 1 0\n",
         &row("left", &[], 16, "0"),
         &row("right", &[], 16, "0"),
         &row("scratch", &[], 16, "0"),
@@ -106,13 +106,42 @@ fn a_refused_press_keeps_words_and_session() {
     ];
     // f1 against f0; nothing is spent.
     let unrefused = [
-        "Different 0 1 1\n",
+        "Different 0 1 1 0\n",
         &row("left", &[8], 15, "0"),
         &row("right", &[], 16, "0"),
         &row("scratch", &[], 16, "0"),
         "session 999999999 1 1 Different\n",
     ];
     assert_eq!(printed, refused.concat() + &unrefused.concat());
+}
+
+#[test]
+fn the_position_ends_the_line_of_every_press() {
+    // 1(f0, f1) against 1(f0, f2): words 147,0,8 and 147,0,16.
+    let left: [u32; 12] = [6, 0, 0, 147, 6, 0, 1, 0, 6, 0, 2, 8];
+    let right: [u32; 12] = [6, 1, 0, 147, 6, 1, 1, 0, 6, 1, 2, 16];
+    let printed = text(&[
+        &[16, 16],
+        &left,
+        &right,
+        &[2, 16, 3, 3, 0],
+        &[2, 16, 3, 3, 9],         // the same again
+        &[2, 16, 3, 3, 1_000_001], // a refused press
+        &[6, 1, 2, 62],            // numeral 7, which has 17 words
+        &[2, 16, 3, 3, 0],
+        &[2, 16, 3, 3, 1],
+        &[6, 1, 2, 8], // the left term
+        &[2, 16, 3, 3, 0],
+        &[6, 1, 1, 8], // 1(f1, f1)
+        &[2, 16, 3, 3, 0],
+    ]);
+    let expected = [
+        &"store\n".repeat(6),
+        "Different 0 3 3 2\nDifferent 0 3 3 2\nrefused 9\nstore\n",
+        "Budget 0 3 3 0\nFull 0 3 3 0\nstore\n",
+        "Same 0 3 3 0\nstore\nDifferent 0 3 3 1\n",
+    ];
+    assert_eq!(printed, expected.concat());
 }
 
 #[test]

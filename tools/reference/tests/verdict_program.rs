@@ -26,7 +26,7 @@ fn line(budget: u32, capacity: u32, left: &[u32], right: &[u32]) -> String {
 fn lines_of_the_verdicts() {
     let (redex, f0, f1) = (table(&I_F0), table(&F0), table(&F1));
     assert_eq!(line(1, 16, &redex, &f0), "Same 1 1 1\n");
-    assert_eq!(line(1, 16, &redex, &f1), "Different 1 1 1\n");
+    assert_eq!(line(1, 16, &redex, &f1), "Different 1 1 1 0\n");
     assert_eq!(line(0, 16, &f1, &redex), "Budget 0 1 4\n");
     // W W: 13 words that become 20. W is \ 0 0 0, records 2 to 7 and 8 to 13.
     let mut records = vec![[2, 0, 2, 0]];
@@ -50,12 +50,27 @@ fn lines_of_numerals() {
     let zero = table(&[[1, 0, 2, 0], [1, 0, 3, 0], [0, 0, 0, 0]]);
     assert_eq!(line(1, 16, &numeral(0), &zero), "Same 1 3 3\n");
     assert_eq!(line(0, 16, &numeral(0), &zero), "Budget 0 1 3\n");
-    assert_eq!(line(2, 16, &numeral(0), &numeral(6)), "Different 2 3 15\n");
+    // 1,1,0 against 1,1,2 and twelve more.
+    let apart = "Different 2 3 15 2\n";
+    assert_eq!(line(2, 16, &numeral(0), &numeral(6)), apart);
     assert_eq!(line(2, 16, &numeral(0), &numeral(7)), "Full 0 1 1\n");
     assert_eq!(line(0, 16, &numeral(31), &numeral(31)), "Same 0 1 1\n");
     assert_eq!(line(0, 16, &numeral(31), &numeral(32)), "Refused 3\n");
     let with_child = table(&[[6, 1, 2, 0], [0, 0, 0, 0]]);
     assert_eq!(line(0, 16, &with_child, &zero), "Refused 5\n");
+}
+
+#[test]
+fn the_position_is_printed_with_different_only() {
+    // 1(f0, last): words 147, 0 and the last one's.
+    let pair = |last: [u32; 2]| table(&[[3, 1, 2, 0], [0, 0, 0, 3], [last[0], last[1], 0, 0]]);
+    let (f1, f2, seven) = (pair([0, 1]), pair([0, 2]), pair([6, 7]));
+    assert_eq!(line(0, 16, &f1, &f2), "Different 0 3 3 2\n");
+    assert_eq!(line(0, 16, &f1, &f1), "Same 0 3 3\n");
+    // Numeral 7 becomes 17 words, 1,1,2 and so on.
+    assert_eq!(line(0, 16, &f1, &seven), "Budget 0 3 3\n");
+    assert_eq!(line(1, 16, &f1, &seven), "Full 0 3 3\n");
+    assert_eq!(line(1, 19, &f1, &seven), "Different 1 3 19 2\n");
 }
 
 #[test]
@@ -128,5 +143,5 @@ fn a_table_longer_than_the_workspace() {
     records.push([0, 16, 0, 0]);
     let (long, f0) = (table(&records), table(&F0));
     assert_eq!(line(0, 16, &f0, &long), "Refused 8\n");
-    assert_eq!(line(0, 17, &f0, &long), "Different 0 1 17\n");
+    assert_eq!(line(0, 17, &f0, &long), "Different 0 1 17 0\n");
 }

@@ -5,11 +5,11 @@ use mathlib.Core.Path.{_≡_, sym, _∙_, ap}
 use native.Mathlib.Omega.{arith}
 use lib.ListN.{length, take}
 use borrow.Author.Needs.{needs}
-use Rattle.calculus.specs.Rounds.{Round, goes, same, roundBy}
+use Rattle.calculus.specs.Comparison.{compareWords}
+use Rattle.calculus.specs.Rounds.{Round, goes, shownPosition, same, roundBy}
 use Rattle.redex.specs.Held.{held}
-use Rattle.rounds.specs.Compare.{common}
 use Rattle.rounds.specs.Turn.{planned}
-use Rattle.rounds.specs.Types.{planOf, roundOf}
+use Rattle.rounds.specs.Types.{verdictOf, comparisonOf, planOf, roundOf}
 use Rattle.rounds.proofs.RunCode.{plan-is}
 use Rattle.rounds.proofs.RunLoop.{Going, going-first, left-room, right-room, compares, judged, agreeing, ran, spends, left-advances, right-advances, going-on}
 use Rattle.rounds.proofs.run.Statement.{statement}
@@ -26,20 +26,20 @@ abbrev μ-loop : tie.MeasureT-loop
 abbrev called : tie.At-loop Inv-loop μ-loop → tie.Start Inv-loop μ-loop
 called p = p .before .before .before .before .before .before
 
-abbrev turn : tie.After-agreeing Inv-loop μ-loop → tie.At-loop Inv-loop μ-loop
+abbrev turn : tie.After-compare-terms Inv-loop μ-loop → tie.At-loop Inv-loop μ-loop
 turn p = p .before .before .before
 
-abbrev compared : tie.After-find Inv-loop μ-loop → tie.After-agreeing Inv-loop μ-loop
+abbrev compared : tie.After-find Inv-loop μ-loop → tie.After-compare-terms Inv-loop μ-loop
 compared p = p .before .before .before
 
 abbrev left-found : tie.After-find2 Inv-loop μ-loop → tie.After-find Inv-loop μ-loop
 left-found p = p .before .before .before .before .before
 
 abbrev right-found : tie.After-judge Inv-loop μ-loop → tie.After-find2 Inv-loop μ-loop
-right-found p = p .before .before .before .before
+right-found p = p .before .before .before
 
 abbrev counted : tie.After-agreed Inv-loop μ-loop → tie.After-count Inv-loop μ-loop
-counted p = p .before .before .before
+counted p = p .before .before .before .before
 
 abbrev agreed : tie.After-advance Inv-loop μ-loop → tie.After-agreed Inv-loop μ-loop
 agreed p = p .before .before .before .before
@@ -61,8 +61,8 @@ loop-holds c =
     let s = c .before .before .before .before .before in
     rw (c .before .first .ensures, c .first2 .ensures) (going-first (s .args .budget) (s .pre) (omega arith))
 
-agreeing-requires : tie.Need-agreeing-requires Inv-loop μ-loop
-agreeing-requires c κs = compares (c .before .before .loop .inv)
+compare-terms-requires : tie.Need-compare-terms-requires Inv-loop μ-loop
+compare-terms-requires c κs = compares (c .before .before .loop .inv)
 
 find-requires : tie.Need-find-requires Inv-loop μ-loop
 find-requires c κs = let g = turn (c .before .before) .loop .inv in (g .left-searched, left-room g)
@@ -74,7 +74,7 @@ find-requires-2 c κs =
     (g .right-searched, right-room g (f .find .last .1 .1 .1 .0) (f .find .kept .1 .1 .1 .0))
 
 sub-judge : tie.Need-sub-judge Inv-loop μ-loop
-sub-judge c = turn (compared (left-found (c .before .before .before))) .loop .inv .within
+sub-judge c = turn (compared (left-found (c .before .before))) .loop .inv .within
 
 judge-requires : tie.Need-judge-requires Inv-loop μ-loop
 judge-requires c κs = search needs
@@ -93,9 +93,9 @@ module _ (c : tie.After-judge Inv-loop μ-loop) where
   abbrev call : tie.Start Inv-loop μ-loop
   call = called here
 
-  shares : compared left-search .agreeing .result
-      ≡ common (take (here .loop .left-side .length) (here .loop .left)) (take (here .loop .right-side .length) (here .loop .right))
-  shares = compared left-search .agreeing .ensures
+  comparison : comparisonOf (compared left-search .compare-terms .result)
+      ≡ compareWords (take (here .loop .left-side .length) (here .loop .left)) (take (here .loop .right-side .length) (here .loop .right))
+  comparison = compared left-search .compare-terms .ensures
 
   left-plan : planOf (left-search .find .result) ≡ planned (held (here .loop .left) (here .loop .left-side .length))
   left-plan = plan-is (here .loop .left) (here .loop .left-side .length) (left-search .find .result) (left-search .find .ensures .0)
@@ -114,21 +114,29 @@ module _ (c : tie.After-judge Inv-loop μ-loop) where
       (held (here .loop .right) (here .loop .right-side .length)) ≡ x
 
   the-round : {x : Round} → roundOf (c .judge .result) ≡ x → Judged x
-  the-round e = judged (here .loop .inv) shares left-plan right-plan (sym e ∙ c .judge .ensures)
+  the-round e = judged (here .loop .inv) comparison left-plan right-plan (sym e ∙ c .judge .ensures)
+
+shown-position-requires : tie.Need-shown-position-requires Inv-loop μ-loop
+shown-position-requires c κs = search needs
+
+-- The judged round, from the place where it ends.
+abbrev ending : tie.After-shown-position Inv-loop μ-loop → tie.After-judge Inv-loop μ-loop
+ending c = c .before .before .before .before
 
 same-length : tie.Need-same-length Inv-loop μ-loop
-same-length c = here (c .before .before .before) .loop .inv .left-kept
+same-length c = here (ending c) .loop .inv .left-kept
 
 same-length-2 : tie.Need-same-length-2 Inv-loop μ-loop
-same-length-2 c = here (c .before .before .before) .loop .inv .right-kept
+same-length-2 c = here (ending c) .loop .inv .right-kept
 
 same-length-3 : tie.Need-same-length-3 Inv-loop μ-loop
-same-length-3 c = let j = c .before .before .before in scratch-same j ∙ here j .loop .inv .scratch-kept
+same-length-3 c = let j = ending c in scratch-same j ∙ here j .loop .inv .scratch-kept
 
 returns : tie.Need-returns Inv-loop μ-loop
 returns c =
-    let j = c .before .before .before in
-    ran (here j .loop .inv) (scratch-same j) (the-round j (ap roundOf (c .before .verdict .given .1)))
+    let j = ending c in
+    let v = c .before .before .verdict .given in
+    ran (here j .loop .inv) (scratch-same j) (c .shown-position .ensures ∙ ap (shownPosition (verdictOf (v .0 .0))) (comparison j)) (the-round j (ap roundOf (v .1)))
 
 enum-known-count : tie.Need-enum-known-count Inv-loop μ-loop
 enum-known-count c = search needs
@@ -140,8 +148,13 @@ judgement c = c .before .before
 goes-on : (c : tie.After-count Inv-loop μ-loop) → Judged (judgement c) (goes (c .count .given .0 .0))
 goes-on c = the-round (judgement c) (ap roundOf (c .count .given .1))
 
+position-requires : tie.Need-position-requires Inv-loop μ-loop
+position-requires c κs = search needs
+
 agreed-requires : tie.Need-agreed-requires Inv-loop μ-loop
-agreed-requires c κs = let j = judgement (c .before .before) in agreeing (here j .loop .inv) (shares j) (left-plan j) (right-plan j)
+agreed-requires c κs =
+    let j = judgement (c .before .before .before) in
+    agreeing (here j .loop .inv) (comparison j) (left-plan j) (right-plan j) (c .position .ensures)
 
 slice-aggregate-advance : tie.Need-slice-aggregate-advance Inv-loop μ-loop
 slice-aggregate-advance c = omega (arith, here (judgement (counted (c .before .before .before))) .loop .inv .room-length)
@@ -192,7 +205,7 @@ loop-again c =
     let b = right-moved c .advance2 in
     going-on (here j .loop .inv) (goes-on n) (a .kept .0) (a .kept .1 .1 .1 .0 ∙ scratch-same j) (a .ensures .0) (b .kept .0) (b .kept .1 .1 .1 .0) (b .ensures .0)
     (omega (arith, a .kept .1 .1 .1 .1 .0, b .kept .1 .1 .1 .1 .0, here j .loop .inv .room-length))
-    (shares j) (left-plan j) (right-plan j) (agreed (moved c) .agreed .ensures)
+    (comparison j) (left-plan j) (right-plan j) (agreed (moved c) .before .position .ensures) (agreed (moved c) .agreed .ensures)
 
 pub run-spec : {M : Type 1} → statement M
 run-spec =
@@ -203,17 +216,19 @@ run-spec =
     first-requires
     first-requires-2
     loop-holds
-    agreeing-requires
+    compare-terms-requires
     find-requires
     find-requires-2
     sub-judge
     judge-requires
     enum-known-verdict
+    shown-position-requires
     same-length
     same-length-2
     same-length-3
     returns
     enum-known-count
+    position-requires
     agreed-requires
     slice-aggregate-advance
     advance-requires

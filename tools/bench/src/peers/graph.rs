@@ -57,11 +57,13 @@ fn answer(request: &Request) -> Result<Answer, u32> {
         let length = load(table, &mut words)?;
         Ok(term(&mut words[..length].iter()))
     };
-    let (left, right) = (read(&request.left)?, read(&request.right)?);
+    // In one array, as in the rounds: a run and a refused one, whose difference is measured, then free
+    // the terms in one order.
+    let sides = [read(&request.left)?, read(&request.right)?];
     if request.budget > MAX_BUDGET {
         return Err(9);
     }
-    Ok(rounds([left, right], c, request.budget))
+    Ok(rounds(sides, c, request.budget))
 }
 
 /// The term of the next words.
@@ -296,33 +298,65 @@ fn raise(term: &Term, by: u32) -> Term {
     }
 }
 
-fn same(one: &Term, other: &Term) -> bool {
+/// The first position at which the words of two terms differ; those of both begin at `start`.
+fn difference(one: &Term, other: &Term, start: usize) -> Option<usize> {
     if Rc::ptr_eq(one, other) {
-        return true;
+        return None;
     }
-    let heads = match (&one.head, &other.head) {
-        (Head::Variable(one), Head::Variable(other)) => one == other,
-        (Head::Numeral(one), Head::Numeral(other)) => one == other,
-        (Head::Abstraction(_), Head::Abstraction(_)) => true,
-        (Head::Application(..), Head::Application(..)) => true,
-        (Head::Constructor(one, _), Head::Constructor(other, _)) => one == other,
-        (Head::Case(_, one), Head::Case(_, other)) => {
-            let mut heads = one.iter().zip(other);
-            heads.all(|(one, other)| (one.tag, one.bound) == (other.tag, other.bound))
+    let next = start + 1;
+    match (&one.head, &other.head) {
+        (Head::Variable(one), Head::Variable(other)) if one == other => None,
+        (Head::Numeral(one), Head::Numeral(other)) if one == other => None,
+        (Head::Abstraction(one), Head::Abstraction(other)) => difference(one, other, next),
+        (Head::Application(one, argument), Head::Application(other, other_argument)) => {
+            difference(one, other, next)
+                .or_else(|| difference(argument, other_argument, next + one.size))
         }
-        _ => false,
-    };
-    let parts = one.parts();
-    heads
-        && (one.size, parts) == (other.size, other.parts())
-        && (0..parts).all(|nth| same(one.part(nth), other.part(nth)))
+        (Head::Constructor(tag, one), Head::Constructor(other_tag, other))
+            if (tag, one.len()) == (other_tag, other.len()) =>
+        {
+            difference_of_arguments(one, other, next)
+        }
+        (Head::Case(subject, one), Head::Case(other_subject, other))
+            if one.len() == other.len() =>
+        {
+            difference(subject, other_subject, next)
+                .or_else(|| difference_of_branches(one, other, next + subject.size))
+        }
+        _ => Some(start),
+    }
+}
+
+/// The same of two lists of as many terms.
+fn difference_of_arguments(one: &[Term], other: &[Term], mut start: usize) -> Option<usize> {
+    one.iter().zip(other).find_map(|(one, other)| {
+        let position = difference(one, other, start);
+        start += one.size;
+        position
+    })
+}
+
+/// The same of two lists of as many branches, each a word and a body.
+fn difference_of_branches(one: &[Branch], other: &[Branch], mut start: usize) -> Option<usize> {
+    one.iter().zip(other).find_map(|(one, other)| {
+        if (one.tag, one.bound) != (other.tag, other.bound) {
+            return Some(start);
+        }
+        let body = start + 1;
+        start = body + one.body.size;
+        difference(&one.body, &other.body, body)
+    })
 }
 
 fn rounds(mut sides: [Term; 2], c: usize, budget: u32) -> Answer {
     let mut spent = 0;
     let mut ways = [Way::new(), Way::new()];
     let verdict = loop {
-        if same(&sides[0], &sides[1]) {
+        // Terms of unequal sizes are unequal: where they differ is asked only once both are normal.
+        let compare = || difference(&sides[0], &sides[1], 0);
+        let is_same_size = sides[0].size == sides[1].size;
+        let position = is_same_size.then(compare).flatten();
+        if is_same_size && position.is_none() {
             break Verdict::Same;
         }
         let mut moves = [false; 2];
@@ -332,7 +366,9 @@ fn rounds(mut sides: [Term; 2], c: usize, budget: u32) -> Answer {
         }
         let moving = moves.iter().filter(|moves| **moves).count() as u32;
         if moving == 0 {
-            break Verdict::Different;
+            let position = position.or_else(compare);
+            let position = position.expect("unequal terms have a first difference");
+            break Verdict::Different { position };
         }
         if spent + moving > budget {
             break Verdict::Budget;
@@ -353,5 +389,45 @@ fn rounds(mut sides: [Term; 2], c: usize, budget: u32) -> Answer {
         spent,
         left: sides[0].size,
         right: sides[1].size,
+    }
+}
+
+#[cfg(test)]
+mod tests {
+    use super::*;
+
+    fn variable(index: u32) -> Term {
+        new(Head::Variable(index))
+    }
+
+    #[test]
+    fn shared_parts_are_passed_over_by_their_size() {
+        // Of 2^61 - 1 words, too many to walk over.
+        let double = |part: Term, _| new(Head::Application(part.clone(), part));
+        let shared = (0..60).fold(variable(0), double);
+        assert_eq!(shared.size, (1 << 61) - 1);
+        let after = |index| new(Head::Application(shared.clone(), variable(index)));
+        assert_eq!(difference(&after(0), &after(0), 0), None);
+        assert_eq!(difference(&after(0), &after(1), 0), Some(1 << 61));
+        let between = |index| {
+            let parts = [&shared, &variable(index), &shared, &variable(7 + index)];
+            new(Head::Constructor(1, parts.map(Rc::clone).into()))
+        };
+        assert_eq!(difference(&between(0), &between(0), 0), None);
+        assert_eq!(difference(&between(0), &between(1), 0), Some(1 << 61));
+        let branches = |subject, last| {
+            let branch = |tag, body| Branch {
+                tag,
+                bound: 0,
+                body,
+            };
+            let branches = vec![branch(1, shared.clone()), branch(2, variable(last))];
+            new(Head::Case(subject, branches))
+        };
+        // The case, its subject, the word of a branch, its body, the word of the next.
+        let (one, other) = (branches(variable(0), 0), branches(variable(0), 1));
+        assert_eq!(difference(&one, &other, 0), Some((1 << 61) + 3));
+        let (one, other) = (branches(shared.clone(), 0), branches(shared.clone(), 1));
+        assert_eq!(difference(&one, &other, 0), Some((1 << 62) + 1));
     }
 }

@@ -9,10 +9,12 @@ use std::fmt;
 
 use unit::limits::MAX_TABLE;
 
-#[derive(Debug)]
 pub enum Verdict {
     Same,
-    Different,
+    Different {
+        /// The first position at which the words of the two terms differ.
+        position: usize,
+    },
     Budget,
     Full,
 }
@@ -26,11 +28,17 @@ pub struct Answer {
 
 impl fmt::Display for Answer {
     fn fmt(&self, f: &mut fmt::Formatter) -> fmt::Result {
-        write!(
-            f,
-            "{:?} {} {} {}",
-            self.verdict, self.spent, self.left, self.right
-        )
+        let (name, position) = match self.verdict {
+            Verdict::Same => ("Same", None),
+            Verdict::Different { position } => ("Different", Some(position)),
+            Verdict::Budget => ("Budget", None),
+            Verdict::Full => ("Full", None),
+        };
+        write!(f, "{name} {} {} {}", self.spent, self.left, self.right)?;
+        match position {
+            Some(position) => write!(f, " {position}"),
+            None => Ok(()),
+        }
     }
 }
 

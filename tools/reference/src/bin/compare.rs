@@ -3,7 +3,7 @@
 use reference::child::{self, Ending, Feed};
 use reference::generate::{inputs, scripts};
 use reference::tally::{Halves, Tally};
-use reference::{part, replay, verdict, LARGE_STACK};
+use reference::{replay, verdict, LARGE_STACK};
 use std::path::{Path, PathBuf};
 use std::process::{self, ExitCode};
 use std::sync::atomic::{AtomicBool, AtomicUsize, Ordering};
@@ -136,18 +136,12 @@ impl Run {
             verdict: self.verdict.is_some(),
             replay: self.replay.is_some(),
         };
-        let (few, least) = tally.too_few(self.cases, halves);
-        if few.is_empty() {
-            return None;
-        }
+        let few = tally.too_few(self.cases, halves);
         let list: Vec<_> = few
             .iter()
-            .map(|kind| format!("{kind} ({})", tally.seen(kind)))
+            .map(|(kind, least)| format!("{kind} ({} of {least})", tally.seen(kind)))
             .collect();
-        Some(format!(
-            "seen fewer than {least} times: {}",
-            list.join(", ")
-        ))
+        (!few.is_empty()).then(|| format!("seen too seldom: {}", list.join(", ")))
     }
 
     /// The problem's text, once its input is written to a file.
@@ -218,7 +212,9 @@ impl Run {
         let input = inputs::input(self.seed, index as u64);
         let outcome = verdict::outcome(&input);
         tally.verdict(&outcome);
-        tally.parts("verdict", part::of_input(&input));
+        verdict::watch(&input, |before, operation| {
+            tally.call("verdict", before, operation);
+        });
         (program, input, outcome.to_string())
     }
 
@@ -230,7 +226,7 @@ impl Run {
     ) -> (&'a Path, Vec<u8>, String) {
         let input = scripts::script(self.seed, index as u64);
         let transcript = replay::run_watched(&input, |before, operation| {
-            tally.parts("replay", part::of_call(before, operation));
+            tally.call("replay", before, operation);
         });
         transcript
             .events

@@ -24,28 +24,45 @@ pub enum Aim {
     Mixed,
 }
 
-/// The aims that the cases of a run go through in turn.
-pub const AIMS: [Aim; 19] = [
-    Aim::Verdict(Verdict::Same),
-    Aim::Verdict(Verdict::Different),
-    Aim::Verdict(Verdict::Budget),
-    Aim::Verdict(Verdict::Full),
-    Aim::Refused(Refusal::TableLength),
-    Aim::Refused(Refusal::Header),
-    Aim::Refused(Refusal::Value),
-    Aim::Refused(Refusal::Link),
-    Aim::Refused(Refusal::Structure),
-    Aim::Refused(Refusal::FreeNumber),
-    Aim::Refused(Refusal::Workspace),
-    Aim::Refused(Refusal::TooLong),
-    Aim::Refused(Refusal::Budget),
-    Aim::Numeral(Part::Full),
-    Aim::Numeral(Part::Value),
-    Aim::Numeral(Part::Children),
-    Aim::Input,
-    Aim::Mixed,
-    Aim::Mixed,
+/// The aims of a run, each with its share of [`CYCLE`] cases.
+const AIMS: [(Aim, u64); 18] = [
+    (Aim::Verdict(Verdict::Same), 6),
+    (Aim::Verdict(Verdict::Different), 10),
+    (Aim::Verdict(Verdict::Budget), 6),
+    (Aim::Verdict(Verdict::Full), 2),
+    (Aim::Refused(Refusal::TableLength), 6),
+    (Aim::Refused(Refusal::Header), 6),
+    (Aim::Refused(Refusal::Value), 2),
+    (Aim::Refused(Refusal::Link), 6),
+    (Aim::Refused(Refusal::Structure), 2),
+    (Aim::Refused(Refusal::FreeNumber), 6),
+    (Aim::Refused(Refusal::Workspace), 6),
+    (Aim::Refused(Refusal::TooLong), 6),
+    (Aim::Refused(Refusal::Budget), 7),
+    (Aim::Numeral(Part::Full), 5),
+    (Aim::Numeral(Part::Value), 6),
+    (Aim::Numeral(Part::Children), 6),
+    (Aim::Input, 7),
+    (Aim::Mixed, 5),
 ];
+
+/// The sum of the shares.
+const CYCLE: u64 = 100;
+/// How far from one another neighbouring cases stand among the shares. It has
+/// no divisor in common with their sum, so each has its turn.
+const STRIDE: u64 = 61;
+
+/// The aim of one case of a run.
+pub fn aim(case: u64) -> Aim {
+    let place = STRIDE * (case % CYCLE) % CYCLE;
+    let mut end = 0;
+    let mut aims = AIMS.iter();
+    let found = aims.find(|(_, share)| {
+        end += share;
+        place < end
+    });
+    found.expect("no place is beyond the shares").0
+}
 
 /// Tries to meet an aim before any input is taken.
 const TRIES: usize = 80;
@@ -54,9 +71,7 @@ const LONG_RUNS: usize = 120;
 
 /// The input of one case of a run.
 pub fn input(seed: u64, case: u64) -> Vec<u8> {
-    let mut random = Random::new(seed, case);
-    let aim = AIMS[(case % AIMS.len() as u64) as usize];
-    aimed(&mut random, aim)
+    aimed(&mut Random::new(seed, case), aim(case))
 }
 
 /// An input whose outcome is the aim.

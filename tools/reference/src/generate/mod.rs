@@ -3,6 +3,7 @@
 pub mod damage;
 pub mod families;
 pub mod inputs;
+pub mod near;
 pub mod pairs;
 pub mod scripts;
 pub mod tables;

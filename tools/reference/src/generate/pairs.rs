@@ -3,6 +3,7 @@
 
 use crate::contraction::{shift, step};
 use crate::generate::families::{self, identities};
+use crate::generate::near;
 use crate::generate::terms::{numeral, replace, size, subterms, term, variable, Style};
 use crate::press::{Verdict, LARGEST_BUDGET};
 use crate::random::Random;
@@ -19,10 +20,18 @@ pub struct Trial {
 
 /// A trial that is likely to give the verdict wished for, or any.
 pub fn trial(random: &mut Random, wish: Option<Verdict>) -> Trial {
-    trial_of(random, wish, pair)
+    match wish {
+        Some(Verdict::Different) if random.percent(70) => near_trial(random),
+        _ => trial_of(random, wish, pair),
+    }
 }
 
-/// The same on a pair in which numerals have the main part.
+/// A trial that gives Different, most often behind equal words.
+pub fn near_trial(random: &mut Random) -> Trial {
+    trial_of(random, Some(Verdict::Different), near::pair)
+}
+
+/// A trial for any wish on a pair in which numerals have the main part.
 pub fn numeral_trial(random: &mut Random, wish: Option<Verdict>) -> Trial {
     trial_of(random, wish, families::numerals)
 }
@@ -191,10 +200,11 @@ impl Survey {
 
 /// A pair of accepted terms that fit the longest workspace.
 pub fn pair(random: &mut Random) -> (Term, Term) {
-    let (left, right) = match random.below(20) {
+    let (left, right) = match random.below(26) {
         0..=5 => families::pair(random),
         6 => families::deep_pair(random),
         7..=12 => substitution(random),
+        13..=18 => near::pair(random),
         _ => {
             let style = Style::random(random);
             let size = size(random);
@@ -300,7 +310,7 @@ fn reached(random: &mut Random, term: &Term) -> Term {
 }
 
 /// The term with a part replaced by one that contracts to it.
-fn expanded(random: &mut Random, term: &Term, style: Style) -> Term {
+pub fn expanded(random: &mut Random, term: &Term, style: Style) -> Term {
     let parts = subterms(term);
     let place = random.below(parts.len());
     let (part, binders) = parts[place];
@@ -314,18 +324,22 @@ fn expanded(random: &mut Random, term: &Term, style: Style) -> Term {
             con(1, Vec::new()),
             vec![branch(1, 0, part), branch(4, 0, spare)],
         ),
-        _ => named(random, &part),
+        _ => {
+            let (function, argument) = named(random, &part);
+            app(function, argument)
+        }
     };
     replace(term, place, &redex)
 }
 
-/// A redex that names a part of the term which stands under no binder of it.
-fn named(random: &mut Random, term: &Term) -> Term {
+/// A function, and a part of the term under no binder of it: applied to the
+/// part, the function contracts to the term.
+pub fn named(random: &mut Random, term: &Term) -> (Term, Term) {
     let parts = subterms(term);
     let open: Vec<usize> = (0..parts.len()).filter(|i| parts[*i].1 == 0).collect();
     let place = random.pick(&open);
     let body = replace(&shift(term, 1), place, &var(0));
-    app(abs(body), parts[place].0.clone())
+    (abs(body), parts[place].0.clone())
 }
 
 /// The term with one of its variables, constants or numerals replaced.

@@ -4,16 +4,17 @@ use crate::generate::damage::{
     changed_word, faulty_numeral, faulty_table, faulty_words, wrong_numeral, FAULTS,
 };
 use crate::generate::inputs::{wrong_budget, wrong_capacity};
-use crate::generate::pairs::{numeral_trial, trial, Trial};
+use crate::generate::near;
+use crate::generate::pairs::{near_trial, numeral_trial, trial, Trial};
 use crate::generate::tables::{term_table, Order};
-use crate::generate::terms::{term, Style};
+use crate::generate::terms::{replace, subterms, term, Style};
 use crate::input::bytes;
 use crate::press::{Session, Side, Verdict, LARGEST_BUDGET, LARGEST_TOTAL};
 use crate::random::Random;
 use crate::refusal::Refusal;
 use crate::replay::{Event, Machine, Operation, VERDICTS};
 use crate::table::{LONGEST_TABLE, RECORD};
-use crate::term::{var, Term, WORKSPACE};
+use crate::term::{num, var, Term, LARGEST_NUMERAL, WORKSPACE};
 use crate::words::{kind, kind_of};
 
 /// What a script is about; the cases of a run go through these in turn.
@@ -26,7 +27,7 @@ const SUBJECTS: [fn(&mut Random) -> Composer; 9] = [
     writing,
     odd_workspaces,
     numerals,
-    press_list,
+    forms_apart,
 ];
 
 /// The script of one case of a run.
@@ -267,6 +268,33 @@ fn any_call(random: &mut Random, composer: &mut Composer) {
     }
 }
 
+/// Presses on forms that share their first words, up to Different and again,
+/// then with another term on one side.
+fn forms_apart(random: &mut Random) -> Composer {
+    let trial = near_trial(random);
+    let mut composer = Composer::new(trial.capacity as u32, trial.capacity as u32);
+    composer.load_trial(random, &trial);
+    for _ in 0..random.below(3) {
+        composer.press(random.pick(&[0, 1, 2, 3, 5]));
+    }
+    composer.press(trial.budget);
+    composer.print();
+    composer.press(0);
+    let (side, other) = random.pick(&[(Side::Left, &trial.right), (Side::Right, &trial.left)]);
+    let style = Style::random(random);
+    let term = match random.below(3) {
+        0 => other.clone(),
+        1 => near::changed(random, other, style),
+        // The numeral takes the place of the last word.
+        _ => replace(other, subterms(other).len() - 1, &num(LARGEST_NUMERAL)),
+    };
+    composer.load(random, side, &term);
+    composer.press(random.pick(&[0, 1, FEW_ROUNDS]));
+    composer.press(FEW_ROUNDS);
+    composer.print();
+    composer
+}
+
 /// A press with one of its numbers wrong, now and then several.
 fn wrong_press(random: &mut Random, composer: &mut Composer) {
     let one = random.below(4);
@@ -294,7 +322,7 @@ fn refused_loads(random: &mut Random) -> Composer {
     let mut composer = Composer::new(capacity as u32, capacity as u32);
     composer.load_trial(random, &trial);
     composer.show();
-    let again = [random.pick(&FAULTS), random.pick(&FAULTS)];
+    let again = [(); 3].map(|()| random.pick(&FAULTS));
     for fault in FAULTS.into_iter().chain(again) {
         let second = random.pick(&FAULTS);
         let faults = [fault, if random.percent(20) { second } else { fault }];
@@ -376,7 +404,8 @@ fn numerals(random: &mut Random) -> Composer {
     composer.show();
     composer.write(random, Side::Left);
     composer.write(random, Side::Right);
-    for fault in [Refusal::Value, Refusal::Structure] {
+    let again = random.pick(&[Refusal::Value, Refusal::Structure]);
+    for fault in [Refusal::Value, Refusal::Structure, again] {
         let side = any_side(random);
         let table = faulty_numeral(random, fault, trial.capacity);
         composer.add(Operation::Load { side, table });

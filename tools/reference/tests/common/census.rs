@@ -21,6 +21,14 @@ impl Census {
 
     /// Every feature of the list was met so often, and no other was.
     pub fn assert_reaches(&self, least: usize, features: &[&str]) {
+        self.assert_meets(least, features);
+        let listed = |feature: &&String| features.contains(&feature.as_str());
+        let others: Vec<&String> = self.counts.keys().filter(|met| !listed(met)).collect();
+        assert!(others.is_empty(), "not listed: {others:#?}");
+    }
+
+    /// Every feature of the list was met so often.
+    pub fn assert_meets(&self, least: usize, features: &[&str]) {
         let seen = |feature: &&str| self.counts.get(*feature).copied().unwrap_or(0);
         let few: Vec<String> = features
             .iter()
@@ -28,8 +36,5 @@ impl Census {
             .map(|feature| format!("{feature} ({})", seen(feature)))
             .collect();
         assert!(few.is_empty(), "met fewer than {least} times: {few:#?}");
-        let listed = |feature: &&String| features.contains(&feature.as_str());
-        let others: Vec<&String> = self.counts.keys().filter(|met| !listed(met)).collect();
-        assert!(others.is_empty(), "not listed: {others:#?}");
     }
 }

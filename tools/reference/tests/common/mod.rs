@@ -2,6 +2,7 @@
 #![allow(dead_code)]
 
 pub mod census;
+pub mod presses;
 
 use reference::contraction::step;
 use reference::press::{press, Answer, Session, Verdict};
@@ -45,13 +46,36 @@ pub fn pressed(
     )
 }
 
+/// What a press answers with another verdict than Different.
 pub fn answer(verdict: Verdict, spent: u32, left: u32, right: u32) -> Result<Answer, Refusal> {
+    assert_ne!(verdict, Verdict::Different);
     Ok(Answer {
         verdict,
         spent,
         left,
         right,
+        position: 0,
     })
+}
+
+/// What a press answers with Different.
+pub fn different(spent: u32, left: u32, right: u32, position: u32) -> Result<Answer, Refusal> {
+    Ok(Answer {
+        verdict: Verdict::Different,
+        spent,
+        left,
+        right,
+        position,
+    })
+}
+
+/// The first position at which two lists of words differ, or the length of the
+/// one that is the start of the other; none if they are equal.
+pub fn flat_position(left: &[u32], right: &[u32]) -> Option<usize> {
+    let shorter = left.len().min(right.len());
+    let differs = |at: &usize| left[*at] != right[*at];
+    let unequal = (left.len() != right.len()).then_some(shorter);
+    (0..shorter).find(differs).or(unequal)
 }
 
 /// A table whose root is record 1.

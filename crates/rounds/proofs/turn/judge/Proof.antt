@@ -9,23 +9,29 @@ use Rattle.rounds.proofs.turn.judge.Statement.{statement}
 use Rattle.rounds.proofs.turn.judge.Tie as tie
 
 -- The places where the points before have passed, each from the next one.
-abbrev entry : tie.Else1 → tie.Start
-entry e = e .before
+abbrev entry : tie.After-enum-told2 → tie.Start
+entry e = e .before .before
 
-abbrev unequal : tie.After-contractions2 → tie.Else1
+abbrev unequal : tie.After-contractions2 → tie.After-enum-told2
 unequal c = c .before .before
 
-abbrev moving : tie.Else3 → tie.Else2
-moving e = e .before
-
-abbrev counted : tie.Else2 → tie.After-contractions2
+abbrev counted : tie.Else1 → tie.After-contractions2
 counted e = e .before
 
-abbrev affording : tie.After-longer → tie.Else3
+abbrev moving : tie.Else2 → tie.Else1
+moving e = e .before
+
+abbrev affording : tie.After-longer → tie.Else2
 affording c = c .before .before .before
 
+enum-told : tie.Need-enum-told
+enum-told c = search needs
+
 returns : tie.Need-returns
-returns c = rw (c .if1 .taken)
+returns c = rw (c .enum-told .given .1)
+
+enum-told-2 : tie.Need-enum-told-2
+enum-told-2 c = search needs
 
 contractions-requires : tie.Need-contractions-requires
 contractions-requires c κs = search needs
@@ -42,16 +48,16 @@ returns-2 : tie.Need-returns-2
 returns-2 c =
     let n = c .before in
     let a = entry (unequal n) .args in
-    rw (unequal n .if1 .left) (sym (point-2 (a .capacity) (a .rest) (lengthIn (planOf (a .left))) (lengthIn (planOf (a .right)))
-    (n .before .contractions .ensures) (n .contractions2 .ensures) (c .if2 .taken)))
+    rw (unequal n .enum-told2 .given .1) (sym (point-2 (a .capacity) (a .rest) (lengthIn (planOf (a .left))) (lengthIn (planOf (a .right)))
+    (n .before .contractions .ensures) (n .contractions2 .ensures) (c .if1 .taken)))
 
 returns-3 : tie.Need-returns-3
 returns-3 c =
     let e = c .before in
     let n = counted e in
     let a = entry (unequal n) .args in
-    rw (unequal n .if1 .left) (sym (point-3 (a .capacity) (a .rest) (lengthIn (planOf (a .left))) (lengthIn (planOf (a .right)))
-    (n .before .contractions .ensures) (n .contractions2 .ensures) (e .if2 .left) (c .if3 .taken)))
+    rw (unequal n .enum-told2 .given .1) (sym (point-3 (a .capacity) (a .rest) (lengthIn (planOf (a .left))) (lengthIn (planOf (a .right)))
+    (n .before .contractions .ensures) (n .contractions2 .ensures) (e .if1 .left) (c .if2 .taken)))
 
 next-length-requires : tie.Need-next-length-requires
 next-length-requires c κs = search needs
@@ -68,10 +74,10 @@ returns-4 c =
     let e = affording o in
     let n = counted (moving e) in
     let a = entry (unequal n) .args in
-    rw (unequal n .if1 .left)
+    rw (unequal n .enum-told2 .given .1)
     (sym (point-4 (a .capacity) (a .rest) (lengthIn (planOf (a .left))) (lengthIn (planOf (a .right)))
-    (n .before .contractions .ensures) (n .contractions2 .ensures) (moving e .if2 .left) (e .if3 .left)
-    (o .before .before .next-length .ensures) (o .before .next-length2 .ensures) (o .longer .ensures) (c .if4 .taken)))
+    (n .before .contractions .ensures) (n .contractions2 .ensures) (moving e .if1 .left) (e .if2 .left)
+    (o .before .before .next-length .ensures) (o .before .next-length2 .ensures) (o .longer .ensures) (c .if3 .taken)))
 
 returns-5 : tie.Need-returns-5
 returns-5 c =
@@ -79,16 +85,18 @@ returns-5 c =
     let e = affording o in
     let n = counted (moving e) in
     let a = entry (unequal n) .args in
-    rw (unequal n .if1 .left)
+    rw (unequal n .enum-told2 .given .1)
     (sym (point-5 (a .capacity) (a .rest) (lengthIn (planOf (a .left))) (lengthIn (planOf (a .right)))
-    (n .before .contractions .ensures) (n .contractions2 .ensures) (moving e .if2 .left) (e .if3 .left)
-    (o .before .before .next-length .ensures) (o .before .next-length2 .ensures) (o .longer .ensures) (c .if4 .left)))
+    (n .before .contractions .ensures) (n .contractions2 .ensures) (moving e .if1 .left) (e .if2 .left)
+    (o .before .before .next-length .ensures) (o .before .next-length2 .ensures) (o .longer .ensures) (c .if3 .left)))
 
 pub judge-spec : {M : Type 1} → statement M
 judge-spec =
     tie.close
     (tie.spec
+    enum-told
     returns
+    enum-told-2
     contractions-requires
     contractions-requires-2
     add-count

@@ -27,6 +27,12 @@ read-verdict-requires c κs = search needs
 read-number-requires : tie.Need-read-number-requires
 read-number-requires c κs = search needs
 
+slice-aggregate-read-setting : tie.Need-slice-aggregate-read-setting
+slice-aggregate-read-setting c = search needs
+
+read-setting-requires : tie.Need-read-setting-requires
+read-setting-requires c κs = search needs
+
 compare-lent-requires-2 : tie.Need-compare-lent-requires-2
 compare-lent-requires-2 c κs = search needs
 
@@ -35,7 +41,11 @@ check-counted-requires c κs = search needs
 
 returns-2 : tie.Need-returns-2
 unfolding checked
-returns-2 c = rw (← (c .before .before .before .before .before .after .ensures), eq-eqb _ _ (c .before .before .before .before .if1 .left), c .check-counted .ensures, c .before .compare-lent2 .ensures, c .before .before .read-number .ensures, c .before .before .before .read-verdict .ensures)
+returns-2 c =
+    let setting = c .before .before in
+    let number = setting .before .before in
+    let verdict = number .before in
+    rw (← (verdict .before .before .after .ensures), eq-eqb _ _ (verdict .before .if1 .left), c .check-counted .ensures, c .before .compare-lent2 .ensures, setting .read-setting .ensures, number .read-number .ensures, verdict .read-verdict .ensures)
 
 pub check-press-spec : {M : Type 1} → statement M
 check-press-spec =
@@ -48,6 +58,8 @@ check-press-spec =
     returns
     read-verdict-requires
     read-number-requires
+    slice-aggregate-read-setting
+    read-setting-requires
     compare-lent-requires-2
     check-counted-requires
     returns-2)

@@ -16,7 +16,7 @@ same-verdict-requires : tie.Need-same-verdict-requires
 same-verdict-requires c κs = search needs
 
 returns-2 : tie.Need-returns-2
-returns-2 c = rw (c .same-verdict .ensures, c .before .before .before .before .before .answer .given .1)
+returns-2 c = rw (c .same-verdict .ensures, c .before .before .before .before .before .before .answer .given .1)
 
 pub shows-spec : {M : Type 1} → statement M
 shows-spec =

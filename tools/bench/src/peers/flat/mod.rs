@@ -1,5 +1,5 @@
-//! A peer on flat words, as the unit keeps them: each round searches both terms from their first
-//! word, compares them whole and contracts through a scratch.
+//! A peer on flat words, as the unit keeps them: each round compares and searches both terms from
+//! their first word and contracts through a scratch.
 
 mod press;
 mod step;

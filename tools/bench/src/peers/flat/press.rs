@@ -3,7 +3,7 @@
 use unit::limits::{MAX_BUDGET, WORKSPACE};
 
 use super::step::{leftmost, Redex, Walks};
-use super::words::{whole, Binders};
+use super::words::{difference, whole, Binders};
 use crate::peers::{Answer, Verdict};
 
 /// A workspace and the length of the term in it.
@@ -80,13 +80,13 @@ fn rounds(
 ) -> (Verdict, u32) {
     let mut spent = 0;
     loop {
-        if left.term() == right.term() {
+        let Some(position) = difference(left.term(), right.term()) else {
             return (Verdict::Same, spent);
-        }
+        };
         let redexes = (leftmost(left.term()), leftmost(right.term()));
         let moving = u32::from(redexes.0.is_some()) + u32::from(redexes.1.is_some());
         if moving == 0 {
-            return (Verdict::Different, spent);
+            return (Verdict::Different { position }, spent);
         }
         if spent + moving > budget {
             return (Verdict::Budget, spent);

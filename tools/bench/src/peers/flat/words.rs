@@ -17,6 +17,23 @@ pub fn skip(words: &[u32], at: usize) -> usize {
     end
 }
 
+/// Words that are compared at once.
+const AT_ONCE: usize = 8;
+
+/// The first position at which the words differ. Where one list is the start of the other, that is
+/// the length of the shorter.
+pub fn difference(left: &[u32], right: &[u32]) -> Option<usize> {
+    let shorter = left.len().min(right.len());
+    let mut at = 0;
+    while at + AT_ONCE <= shorter && left[at..at + AT_ONCE] == right[at..at + AT_ONCE] {
+        at += AT_ONCE;
+    }
+    while at < shorter && left[at] == right[at] {
+        at += 1;
+    }
+    (at < left.len().max(right.len())).then_some(at)
+}
+
 /// Counts the binders around each word of a term that is read from the left.
 pub struct Binders {
     depth: u32,
@@ -181,6 +198,33 @@ mod tests {
 
     fn is_whole(words: &[u32]) -> bool {
         whole(words, &mut Binders::new())
+    }
+
+    #[test]
+    fn words_differ_first_at_a_position() {
+        // Some that are compared at once, and some that are left over.
+        let words: Vec<u32> = (0..2 * AT_ONCE as u32 + 5).collect();
+        let changed = |positions: &[usize]| {
+            let mut words = words.clone();
+            positions.iter().for_each(|&position| words[position] += 8);
+            words
+        };
+        assert_eq!(difference(&words, &words), None);
+        assert_eq!(difference(&[], &[]), None);
+        for first in 0..words.len() {
+            let both_ways = |other: &[u32]| {
+                assert_eq!(difference(&words, other), Some(first), "{other:?}");
+                assert_eq!(difference(other, &words), Some(first), "{other:?}");
+            };
+            both_ways(&changed(&[first]));
+            for later in first + 1..words.len() {
+                let other = changed(&[first, later]);
+                both_ways(&other);
+                both_ways(&other[..later]);
+            }
+            // One is the start of the other.
+            both_ways(&words[..first]);
+        }
     }
 
     #[test]

@@ -1,11 +1,12 @@
--- `agreeing` meets its contract. The invariant: the words up to i agree. Assumes nothing.
-use Prim.Native.Nat.{_-_, _<_}
+-- `compare_terms` meets its contract. The invariant: the words up to i agree. Assumes nothing.
+use Prim.Native.Nat.{_-_, _<_, _≤_, min}
+use mathlib.Core.Path.{sym}
 use native.Mathlib.Omega.{arith}
 use lib.ListN.{take}
 use Rattle.rounds.specs.Compare.{Agrees}
-use Rattle.rounds.proofs.CompareLaws.{compare-more, compare-other, compare-end}
-use Rattle.rounds.proofs.compare.agreeing.Statement.{statement}
-use Rattle.rounds.proofs.compare.agreeing.Tie as tie
+use Rattle.rounds.proofs.CompareLaws.{compare-more, compare-other, compare-equal, compare-longer}
+use Rattle.rounds.proofs.compare.compare_terms.Statement.{statement}
+use Rattle.rounds.proofs.compare.compare_terms.Tie as tie
 
 abbrev Inv-loop : tie.InvT-loop
 Inv-loop left left-length right right-length from shorter i₀ i = Agrees i (take left-length left) (take right-length right)
@@ -40,7 +41,7 @@ shared-slice-read-if1-2 c = omega (arith, fits (c .before .before) .1)
 returns : tie.Need-returns Inv-loop μ-loop
 returns c =
     let n = c .before .before .before in
-    compare-other (entry (n .before) .pre) (n .before .loop .i) (n .before .loop .inv) (fits n .0) (fits n .1) (c .if1 .taken)
+    sym (compare-other (entry (n .before) .pre) (n .before .loop .i) (n .before .loop .inv) (fits n .0) (fits n .1) (c .if1 .taken))
 
 add-i : tie.Need-add-i Inv-loop μ-loop
 add-i c = omega arith
@@ -53,11 +54,22 @@ loop-again c =
     let n = c .before .before .before in
     compare-more (entry (n .before) .pre) (n .before .loop .i) (n .before .loop .inv) (fits n .0) (fits n .1) (c .if1 .left)
 
-returns-2 : tie.Need-returns-2 Inv-loop μ-loop
-returns-2 c = compare-end (entry (c .before) .pre) (c .before .loop .i) (c .before .loop .inv) (omega (arith, c .before .before .least .ensures))
+-- The loop is left where the shorter term ends.
+ended : (c : tie.After-loop Inv-loop μ-loop) → min (entry (c .before) .args .left-length) (entry (c .before) .args .right-length) ≤ c .before .loop .i
+ended c = omega (arith, c .before .before .least .ensures)
 
-pub agreeing-spec : {M : Type 1} → statement M
-agreeing-spec =
+returns-2 : tie.Need-returns-2 Inv-loop μ-loop
+returns-2 c =
+    let l = c .before in
+    sym (compare-equal (entry (l .before) .pre) (l .before .loop .i) (l .before .loop .inv) (ended l) (c .if2 .taken))
+
+returns-3 : tie.Need-returns-3 Inv-loop μ-loop
+returns-3 c =
+    let l = c .before in
+    sym (compare-longer (entry (l .before) .pre) (l .before .loop .i) (l .before .loop .inv) (ended l) (c .if2 .left))
+
+pub compare-terms-spec : {M : Type 1} → statement M
+compare-terms-spec =
     tie.close
     (tie.spec
     Inv-loop
@@ -72,4 +84,5 @@ agreeing-spec =
     add-i
     loop-less
     loop-again
-    returns-2)
+    returns-2
+    returns-3)
