@@ -1,10 +1,2 @@
-pub mod Workspaces
-pub mod Verdicts
 pub mod PressCode
-pub mod PressLaws
-pub mod PressesLaws
-pub mod Settled
-pub mod Claim
-pub mod TwoPresses
-pub mod Instance
 pub mod ShowingLaws

@@ -16,14 +16,14 @@ use Rattle.calculus.specs.Read.{read}
 use Rattle.calculus.specs.Workspace.{sized, termAt, padded}
 use Rattle.calculus.specs.Refusal.{WrongWorkspace, OverBudget, NoTerm}
 use Rattle.calculus.specs.Rounds.{Outcome, Shown, rounds}
-use Rattle.calculus.proofs.WorkspaceLaws.{sized-most, sized-equal, first-equal, others-equal}
+use Rattle.calculus.proofs.WorkspaceLaws.{sized-most}
+use Rattle.claim.proofs.Workspaces.{sized-right, sized-scratch}
 use Rattle.redex.specs.Held.{held, Holds}
 use Rattle.rounds.specs.Run.{Ready, Ran}
 use Rattle.terms.specs.IsTerm.{isTerm}
-use Rattle.press.specs.State.{Session}
-use Rattle.press.specs.State.{budgetLimit, totalLimit, affordable}
-use Rattle.press.specs.Answer.{shown, Memory, Call, Pressed}
-use Rattle.press.specs.Press.{refuse, conclude, pressTerms, press}
+use Rattle.claim.specs.State.{Session, budgetLimit, totalLimit, affordable}
+use Rattle.claim.specs.Answer.{shown, Memory, Call, Pressed}
+use Rattle.claim.specs.Press.{refuse, conclude, pressTerms, press}
 
 take-zero-append : (xs ys : List ℕ) → take 0 xs ++ ys ≡ ys
 take-zero-append xs ys = refl
@@ -109,14 +109,7 @@ module _ (ws : List ℕ) (n : ℕ) (limit : length ws ≤ workspaceMost) where
   unfolding isTerm held
   is-held h = record { term = tells-some (leb n workspaceMost) (termAt ws n) h; limit = limit }
 
--- What the tests behind refusals 7 and 9 say.
-module _ (l r s : ℕ) (fits : sized (l ∷ r ∷ s ∷ []) ≡ true) where
-  pub sized-right : r ≡ l
-  sized-right = first-equal l r (s ∷ []) (sized-equal l (r ∷ s ∷ []) fits)
-
-  pub sized-scratch : s ≡ l
-  sized-scratch = first-equal l s [] (others-equal l r (s ∷ []) (sized-equal l (r ∷ s ∷ []) fits))
-
+-- What the test behind refusal 9 says.
 pub affords-total : (budget total : ℕ) → affordable budget total ≡ true → total + budget ≤ totalLimit
 affords-total budget total e =
     leb-true (total + budget) totalLimit (and-eq-true-iff (leb budget budgetLimit) (leb (total + budget) totalLimit) .0 e .1)

@@ -1,9 +1,3 @@
--- What a press and a showing do, as functions of everything at entry, and the claim about lists of presses.
-pub mod State
-pub mod Answer
-pub mod Press
+-- What a showing does, as a function of everything at entry, and what the code's types stand for.
 pub mod Showing
 pub mod Types
-pub mod Limits
-pub mod Presses
-pub mod Claim

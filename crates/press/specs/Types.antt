@@ -8,8 +8,8 @@ use Rattle.press.specs.declared.state.Session as codeSession
 use Rattle.press.specs.declared.answer.Answer as codeAnswer
 use Rattle.press.specs.declared.answer.Answer.the-variants as answer
 use Rattle.press.specs.declared.answer.Pressed as codePressed
-use Rattle.press.specs.State.{Session}
-use Rattle.press.specs.Answer.{Answer, refused, shown, Memory, Call, Pressed}
+use Rattle.claim.specs.State.{Session}
+use Rattle.claim.specs.Answer.{Answer, refused, shown, Memory, Call, Pressed}
 
 abbrev pub sessionOf : codeSession.Session → Session
 sessionOf session =

@@ -1,6 +1,6 @@
 // The session: what the unit keeps between presses, and the limits of what it may spend.
 ghost use mathlib.Core.Path.{_≡_};
-ghost use Rattle.press.specs.State.{fresh, affordable, totalLimit, budgetLimit};
+ghost use Rattle.claim.specs.State.{fresh, affordable, totalLimit, budgetLimit};
 ghost use Rattle.press.specs.Types.{sessionOf};
 use rounds::Verdict;
 

@@ -6,7 +6,7 @@ use native.Mathlib.Omega.{arith}
 use lib.ListN.{length, take, drop, replicate, set, length-append, length-drop, length-replicate}
 use lib.Seq.{sets, take-at, drop-at, length-take-le}
 use Rattle.press.specs.declared.answer.Pressed.{Pressed}
-use Rattle.press.specs.Press.{press}
+use Rattle.claim.specs.Press.{press}
 use Rattle.press.specs.Types.{memoryOf, callOf, pressedOf}
 use Rattle.tables.specs.declared.Answer.{Answer}
 use Rattle.tables.specs.Types.{writtenOf, answerOf as tableAnswerOf}

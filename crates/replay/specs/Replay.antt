@@ -5,9 +5,9 @@ use mathlib.Core.Bool.{cond}
 use mathlib.Core.List.{List, [], _++_}
 use lib.Dec.{eqb, ltb}
 use lib.ListN.{length, take, drop, replicate, set}
-use Rattle.press.specs.Answer.{Memory}
-use Rattle.press.specs.Press.{press}
-use Rattle.press.specs.Answer as press
+use Rattle.claim.specs.Answer.{Memory}
+use Rattle.claim.specs.Press.{press}
+use Rattle.claim.specs.Answer as press
 use Rattle.press.specs.Showing.{show}
 use Rattle.press.specs.Showing as shown
 use Rattle.press.specs.Types.{answerOf, sessionOf, memoryOf, callOf}

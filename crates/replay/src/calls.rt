@@ -11,7 +11,7 @@ ghost use mathlib.Core.Path.{_≡_};
 ghost use Prim.Native.Nat.{_≤_};
 ghost use lib.ListN.{length, replicate, set};
 ghost use lib.ListN.{length as List·length};
-ghost use Rattle.press.specs.Press.{press};
+ghost use Rattle.claim.specs.Press.{press};
 ghost use Rattle.press.specs.Showing.{show};
 ghost use Rattle.press.specs.Types.{memoryOf, callOf, pressedOf};
 ghost use Rattle.tables.specs.Load.{load};

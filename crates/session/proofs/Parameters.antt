@@ -38,7 +38,7 @@ use denote.Slice.{sliceTy, sliceVal, MutSlice, Room, finally}
 use denote.Steps.{owned, nothing}
 use Rattle.press.specs.declared.state.Session.{Session}
 use Rattle.press.specs.declared.answer.Pressed.{Pressed}
-use Rattle.press.specs.Press.{press}
+use Rattle.claim.specs.Press.{press}
 use Rattle.press.specs.Types.{memoryOf, callOf, pressedOf}
 
 pub record Before : Type 0 where

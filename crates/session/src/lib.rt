@@ -1,6 +1,6 @@
 // A press on a session that is lent: each press renews the session in place.
 ghost use mathlib.Core.Path.{_≡_};
-ghost use Rattle.press.specs.Press.{press};
+ghost use Rattle.claim.specs.Press.{press};
 ghost use Rattle.press.specs.Types.{memoryOf, callOf, pressedOf};
 use press::answer::Answer;
 use press::answer::Pressed;

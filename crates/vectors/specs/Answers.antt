@@ -4,8 +4,8 @@ use mathlib.Core.Bool.{Bool, false, _&&_}
 use lib.Dec.{eqb}
 use Rattle.calculus.specs.Rounds.{Verdict, Same, Different, Budget, Full}
 use Rattle.calculus.specs.Refusal.{number}
-use Rattle.press.specs.State.{Session}
-use Rattle.press.specs.Answer as press
+use Rattle.claim.specs.State.{Session}
+use Rattle.claim.specs.Answer as press
 use Rattle.tables.specs.Load as tables
 
 -- The verdicts in the order in which the rules name them, from 0.

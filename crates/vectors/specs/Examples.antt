@@ -8,8 +8,8 @@ use mathlib.Core.List.{List, [], _∷_, _++_}
 use lib.ListN.{replicate}
 use Rattle.calculus.specs.Rounds.{Same, Different, Budget, Full}
 use Rattle.calculus.specs.Refusal.{WrongLength, NoTerm}
-use Rattle.press.specs.State.{Session, fresh}
-use Rattle.press.specs.Answer.{Answer, refused, shown}
+use Rattle.claim.specs.State.{Session, fresh}
+use Rattle.claim.specs.Answer.{Answer, refused, shown}
 use Rattle.tables.specs.Load as tables
 use Rattle.vector_text.specs.Text.{nowhere, after, numberAt, settingAt}
 use Rattle.vectors.specs.Keywords.{pairWord, loadWord, writeWord, leftWord, pressWord, showWord}

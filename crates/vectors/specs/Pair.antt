@@ -7,9 +7,9 @@ use lib.ListN.{length, take, replicate}
 use Rattle.calculus.specs.Words.{workspaceMost}
 use Rattle.calculus.specs.Rounds.{Verdict, Full}
 use Rattle.rounds.specs.declared.Verdict.the-variants as verdict
-use Rattle.press.specs.State.{Session, fresh}
-use Rattle.press.specs.Answer.{Answer, Pressed}
-use Rattle.press.specs.Press.{press}
+use Rattle.claim.specs.State.{Session, fresh}
+use Rattle.claim.specs.Answer.{Answer, Pressed}
+use Rattle.claim.specs.Press.{press}
 use Rattle.press.specs.Showing.{show, partBy}
 use Rattle.rounds.specs.Types.{verdictOf}
 use Rattle.press.specs.Types.{sessionOf, callOf}

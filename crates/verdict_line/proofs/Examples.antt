@@ -10,7 +10,7 @@ use Rattle.calculus.specs.Leftmost.{leftmost}
 use Rattle.calculus.specs.Equality.{tree, from-trees, equal?}
 use Rattle.calculus.specs.Workspace.{termAt}
 use Rattle.calculus.specs.Rounds.{same, roundsIn, roundsBy}
-use Rattle.press.specs.Press.{press}
+use Rattle.claim.specs.Press.{press}
 use Rattle.records.specs.Header.{wrongLength, wrongHeader}
 use Rattle.records.specs.Values.{valueFits, wrongValue}
 use Rattle.records.specs.Links.{namings, wrongLink}

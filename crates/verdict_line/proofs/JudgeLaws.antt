@@ -8,8 +8,8 @@ use lib.ListN.{length, take, drop, replicate, length-append, length-replicate}
 use lib.Seq.{length-take-le, take-at}
 use Rattle.press.specs.declared.answer.Pressed.{Pressed}
 use Rattle.press.specs.declared.state.Session.{Session}
-use Rattle.press.specs.State.{fresh}
-use Rattle.press.specs.Press.{press}
+use Rattle.claim.specs.State.{fresh}
+use Rattle.claim.specs.Press.{press}
 use Rattle.press.specs.Types.{answerOf, sessionOf, memoryOf, callOf, pressedOf}
 use Rattle.calculus.specs.Refusal.{number}
 use Rattle.words.specs.declared.refusal.Refusal.{Refusal}

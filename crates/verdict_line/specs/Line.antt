@@ -7,9 +7,9 @@ use mathlib.Core.Option.{Option, some, none}
 use lib.ListN.{length, replicate}
 use Rattle.calculus.specs.Refusal.{number}
 use Rattle.calculus.specs.Rounds.{Verdict, Same, Different, Budget, Full, Shown}
-use Rattle.press.specs.State.{fresh}
-use Rattle.press.specs.Press.{press}
-use Rattle.press.specs.Answer as press
+use Rattle.claim.specs.State.{fresh}
+use Rattle.claim.specs.Press.{press}
+use Rattle.claim.specs.Answer as press
 use Rattle.tables.specs.Load.{Answer, refused, returned, load}
 use Rattle.request.specs.Request.{Request, request}
 use Rattle.text.specs.Decimal.{digitsMost, field, newline}

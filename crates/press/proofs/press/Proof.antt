@@ -7,8 +7,8 @@ use borrow.Author.Needs.{needs}
 use borrow.Author.Tests.{not-true, not-false}
 use Rattle.calculus.specs.Workspace.{sized}
 use Rattle.terms.specs.IsTerm.{isTerm}
-use Rattle.press.specs.State.{affordable}
-use Rattle.press.specs.Answer.{Memory, Call}
+use Rattle.claim.specs.State.{affordable}
+use Rattle.claim.specs.Answer.{Memory, Call}
 use Rattle.press.specs.Types.{memoryOf, callOf}
 use Rattle.press.proofs.PressCode.{affords-total, runs, refused-workspace, refused-budget, refused-left, refused-right, pressed-terms}
 use Rattle.press.proofs.press.Statement.{statement}

@@ -1,6 +1,6 @@
 -- `press_step` meets its contract.
 use mathlib.Core.Path.{_∙_, ap}
-use Rattle.press.specs.Press.{press}
+use Rattle.claim.specs.Press.{press}
 use Rattle.press.specs.Types.{memoryOf, callOf, pressedOf}
 use Rattle.vectors.specs.Pair.{room, junk, Stage, stageOf, Stepped, checked, steppedAfter, pressStep}
 use Rattle.vector_text.proofs.ListLaws.{lent-words, lent-length, lent-again}

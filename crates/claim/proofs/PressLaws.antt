@@ -14,14 +14,13 @@ use Rattle.calculus.specs.Words.{words, size}
 use Rattle.calculus.specs.Workspace.{sized, padded}
 use Rattle.calculus.specs.Refusal.{Refusal, WrongWorkspace, OverBudget, NoTerm}
 use Rattle.calculus.specs.Rounds.{Outcome, Shown, same, rounds}
-use Rattle.press.specs.State.{budgetLimit, totalLimit, affordable}
-use Rattle.press.specs.Answer.{refused, shown, Memory, Call, Pressed}
-use Rattle.press.specs.Press.{refuse, conclude, pressTerms, press}
-use Rattle.press.specs.Claim.{Contains, Reply, refuses, spends, replyOf, Progress, replyTo, advance, LeavesBy}
+use Rattle.claim.specs.State.{budgetLimit, totalLimit, affordable}
+use Rattle.claim.specs.Answer.{refused, shown, Memory, Call, Pressed}
+use Rattle.claim.specs.Press.{refuse, conclude, pressTerms, press}
+use Rattle.claim.specs.Claim.{Contains, Reply, refuses, spends, replyOf, Progress, replyTo, advance, LeavesBy}
 use Rattle.calculus.proofs.RoundsLaws.{Walk, walked, walk-fits}
-use Rattle.press.proofs.Verdicts.{walk-accepted}
-use Rattle.press.proofs.PressCode.{sized-scratch}
-use Rattle.press.proofs.Workspaces.{termAt-holds, holds-padded, holds-fits}
+use Rattle.claim.proofs.Verdicts.{walk-accepted}
+use Rattle.claim.proofs.Workspaces.{sized-scratch, termAt-holds, holds-padded, holds-fits}
 
 -- The memory is where the list of calls stands.
 pub record Stands (C : ℕ) (s : Progress) (m : Memory) : Type 0 where

@@ -1,8 +1,9 @@
--- Workspaces that hold a term: the term that their first words are, by how many are taken, and the workspace of a term's words and zeros.
+-- Workspaces that pass refusal 7, and workspaces that hold a term: the term that their first words are, by how many are taken, and the workspace of a
+-- term's words and zeros.
 use Prim.Native.Nat.{ℕ, _-_, _≤_}
 use mathlib.Core.Path.{_≡_, refl, sym, _∙_, ap}
 use mathlib.Core.Bool.{Bool, true, false, cond}
-use mathlib.Core.List.{List, _++_}
+use mathlib.Core.List.{List, [], _∷_, _++_}
 use mathlib.Core.Option.{Option, some, none, Option·none-ne-some}
 use native.Mathlib.Omega.{arith}
 use lib.Dec.{leb, eqb}
@@ -13,12 +14,20 @@ use Rattle.calculus.specs.Term.{Term}
 use Rattle.calculus.specs.Words.{words, size}
 use Rattle.calculus.specs.Accepted.{Accepted}
 use Rattle.calculus.specs.Read.{read}
-use Rattle.calculus.specs.Workspace.{termAt, padded}
+use Rattle.calculus.specs.Workspace.{sized, termAt, padded}
 use Rattle.calculus.proofs.WordLaws.{accepted-packable}
 use Rattle.calculus.proofs.ReadLaws.{read-sound, read-accepted}
 use Rattle.calculus.proofs.PrefixFree.{words-prefix-free}
-use Rattle.calculus.proofs.WorkspaceLaws.{termAt-words, length-padded}
-use Rattle.press.specs.Claim.{Contains}
+use Rattle.calculus.proofs.WorkspaceLaws.{sized-equal, first-equal, others-equal, termAt-words, length-padded}
+use Rattle.claim.specs.Claim.{Contains}
+
+-- Three lengths that pass are equal.
+module _ (l r s : ℕ) (fits : sized (l ∷ r ∷ s ∷ []) ≡ true) where
+  pub sized-right : r ≡ l
+  sized-right = first-equal l r (s ∷ []) (sized-equal l (r ∷ s ∷ []) fits)
+
+  pub sized-scratch : s ≡ l
+  sized-scratch = first-equal l s [] (others-equal l r (s ∷ []) (sized-equal l (r ∷ s ∷ []) fits))
 
 pub holds-padded : {C : ℕ} {t : Term} → Accepted 0 t → size t ≤ C → Contains C t (padded C (words t))
 holds-padded {C} {t} a h =

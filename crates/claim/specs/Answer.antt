@@ -3,7 +3,7 @@ use Prim.Native.Nat.{ℕ}
 use mathlib.Core.List.{List}
 use Rattle.calculus.specs.Refusal.{Refusal}
 use Rattle.calculus.specs.Rounds.{Shown}
-use Rattle.press.specs.State.{Session}
+use Rattle.claim.specs.State.{Session}
 
 -- A press's answer: a refusal, or verdict, spent, both lengths and the position.
 pub data Answer : Type 0 where

@@ -20,14 +20,14 @@ use Rattle.calculus.specs.Comparison.{FirstDifference}
 use Rattle.calculus.specs.Rounds.{Same, Different, Budget, Full, same, roundsIn, roundsBy}
 use Rattle.calculus.specs.Refusal.{WrongWorkspace, OverBudget, NoTerm}
 use Rattle.calculus.specs.Bench.{shown as showing}
-use Rattle.press.specs.State.{fresh}
-use Rattle.press.specs.Limits.{Limits}
-use Rattle.press.specs.Answer.{refused, shown, Memory, Call}
-use Rattle.press.specs.Press.{press}
-use Rattle.press.specs.Presses.{final, history, spentIn, budgetInOneGo}
-use Rattle.press.specs.Claim.{Contains, Again, Ended, inAll, SameTerms, Claim, together}
-use Rattle.press.proofs.Claim.{every-list-of-presses}
-use Rattle.press.proofs.TwoPresses.{two-presses}
+use Rattle.claim.specs.State.{fresh}
+use Rattle.claim.specs.Limits.{Limits}
+use Rattle.claim.specs.Answer.{refused, shown, Memory, Call}
+use Rattle.claim.specs.Press.{press}
+use Rattle.claim.specs.Presses.{final, history, spentIn, budgetInOneGo}
+use Rattle.claim.specs.Claim.{Contains, Again, Ended, inAll, SameTerms, Claim, together}
+use Rattle.claim.proofs.Claim.{every-list-of-presses}
+use Rattle.claim.proofs.TwoPresses.{two-presses}
 
 abbrev call : (scratch left right budget : ℕ) → Call
 call scratch left right budget = record { scratch = replicate scratch 7; leftLength = left; rightLength = right; budget = budget }

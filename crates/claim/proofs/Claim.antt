@@ -1,9 +1,9 @@
 -- Demand 3: the claim about every list of presses.
-use Rattle.press.specs.Presses.{history}
-use Rattle.press.specs.Claim.{Every-list-of-presses}
-use Rattle.press.proofs.PressLaws.{stands-first}
-use Rattle.press.proofs.PressesLaws.{reached-by, replies-answered, each-leaves, all-refused, in-one-go}
-use Rattle.press.proofs.Settled.{stopped-by, settled-stays, settled-on-first-terms, settled-agree, settled-same, settled-different, settled-first-difference, settled-no-position}
+use Rattle.claim.specs.Presses.{history}
+use Rattle.claim.specs.Claim.{Every-list-of-presses}
+use Rattle.claim.proofs.PressLaws.{stands-first}
+use Rattle.claim.proofs.PressesLaws.{reached-by, replies-answered, each-leaves, all-refused, in-one-go}
+use Rattle.claim.proofs.Settled.{stopped-by, settled-stays, settled-on-first-terms, settled-agree, settled-same, settled-different, settled-first-difference, settled-no-position}
 
 pub every-list-of-presses : Every-list-of-presses
 every-list-of-presses C t u start lh rh calls =

@@ -15,17 +15,17 @@ use Rattle.calculus.specs.Rounds.{Verdict, Same, Different, Budget, Full, Decid
 use Rattle.calculus.specs.Refusal.{Refusal}
 use Rattle.calculus.specs.Conversion.{Reaches, Joined}
 use Rattle.calculus.specs.Unlimited.{Exact}
-use Rattle.press.specs.Answer.{refused, shown, Memory, Call, Pressed}
-use Rattle.press.specs.Press.{press}
-use Rattle.press.specs.Presses.{final, history, spentIn}
-use Rattle.press.specs.Claim.{Contains, Reply, Progress, Again, Ended, SameTerms}
+use Rattle.claim.specs.Answer.{refused, shown, Memory, Call, Pressed}
+use Rattle.claim.specs.Press.{press}
+use Rattle.claim.specs.Presses.{final, history, spentIn}
+use Rattle.claim.specs.Claim.{Contains, Reply, Progress, Again, Ended, SameTerms}
 use Rattle.calculus.proofs.ChurchRosser.{church-rosser}
 use Rattle.calculus.proofs.ComparisonLaws.{unequal-terms-differ}
 use Rattle.calculus.proofs.RoundsLaws.{walked}
 use Rattle.calculus.proofs.UnlimitedLaws.{rounds-stable, rounds-agree, rounds-again, rounds-same, verdicts-exact, same-sound}
-use Rattle.press.proofs.Verdicts.{walk-accepted, reached}
-use Rattle.press.proofs.PressLaws.{Answered, turned-down, made, answered, concluded, stands-first, stands-concluded, refused≢shown, shown-injective}
-use Rattle.press.proofs.PressesLaws.{Reached, untouched, ran, reached-by}
+use Rattle.claim.proofs.Verdicts.{walk-accepted, reached}
+use Rattle.claim.proofs.PressLaws.{Answered, turned-down, made, answered, concluded, stands-first, stands-concluded, refused≢shown, shown-injective}
+use Rattle.claim.proofs.PressesLaws.{Reached, untouched, ran, reached-by}
 
 -- What the last unrefused press showed, with what the list spent: rounds in one go, with some budget, show this and leave this memory.
 pub record Stopped (C : ℕ) (t u : Term) (start : Memory) (spent : ℕ) (m : Memory) (a : Shown) : Type 0 where

@@ -4,8 +4,8 @@ use Prim.Native.Nat.{ℕ, _+_}
 use mathlib.Core.List.{List, [], _∷_}
 use mathlib.Core.Option.{Option, some, none}
 use Rattle.calculus.specs.Rounds.{Shown}
-use Rattle.press.specs.Answer.{Answer, refused, shown, Memory, Call}
-use Rattle.press.specs.Press.{press}
+use Rattle.claim.specs.Answer.{Answer, refused, shown, Memory, Call}
+use Rattle.claim.specs.Press.{press}
 
 -- What the list leaves.
 abbrev pub final : Memory → List Call → Memory

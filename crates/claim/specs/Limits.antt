@@ -8,7 +8,7 @@ use lib.ListN.{replicate}
 use Rattle.calculus.specs.Words.{words}
 use Rattle.calculus.specs.Workspace.{sized, termAt}
 use Rattle.calculus.specs.Rounds.{Budget}
-use Rattle.press.specs.State.{fresh, affordable}
+use Rattle.claim.specs.State.{fresh, affordable}
 
 -- A workspace of 16 words that one term fills.
 abbrev pub filling : List ℕ

@@ -6,12 +6,12 @@ use mathlib.Core.Option.{Option, some, none, Option·none-ne-some}
 use native.Mathlib.Nat.{zero-add, add-zero, add-assoc}
 use Rattle.calculus.specs.Term.{Term}
 use Rattle.calculus.specs.Rounds.{Shown, shows, withSpent, same, after, rounds}
-use Rattle.press.specs.Answer.{Answer, Memory, Call, Pressed}
-use Rattle.press.specs.Press.{press}
-use Rattle.press.specs.Presses.{final, history, spentOf, spentIn, noteBudget, budgetFrom, budgetInOneGo, noteShown, shownFrom, lastShown}
-use Rattle.press.specs.Claim.{Contains, Reply, replyOf, Progress, repliesTo, EachLeaves, InOneGo}
+use Rattle.claim.specs.Answer.{Answer, Memory, Call, Pressed}
+use Rattle.claim.specs.Press.{press}
+use Rattle.claim.specs.Presses.{final, history, spentOf, spentIn, noteBudget, budgetFrom, budgetInOneGo, noteShown, shownFrom, lastShown}
+use Rattle.claim.specs.Claim.{Contains, Reply, replyOf, Progress, repliesTo, EachLeaves, InOneGo}
 use Rattle.calculus.proofs.RoundsLaws.{Walk, here, walked, rounds-walk}
-use Rattle.press.proofs.PressLaws.{Stands, Answered, turned-down, made, answered, concluded, stands-first, stands-concluded, stands-next, reply-answered, leaves-answered}
+use Rattle.claim.proofs.PressLaws.{Stands, Answered, turned-down, made, answered, concluded, stands-first, stands-concluded, stands-next, reply-answered, leaves-answered}
 
 pub replies-answered : {C : ℕ} {s : Progress} {m : Memory} → Stands C s m → (calls : List Call)
     → map (λ e. replyOf (e .1)) (history m calls) ≡ repliesTo C s calls

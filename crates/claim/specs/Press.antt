@@ -9,8 +9,8 @@ use Rattle.calculus.specs.Words.{words, size}
 use Rattle.calculus.specs.Workspace.{sized, termAt, padded}
 use Rattle.calculus.specs.Refusal.{Refusal, WrongWorkspace, OverBudget, NoTerm}
 use Rattle.calculus.specs.Rounds.{Outcome, shows, rounds}
-use Rattle.press.specs.State.{Session, affordable}
-use Rattle.press.specs.Answer.{refused, shown, Memory, Call, Pressed}
+use Rattle.claim.specs.State.{Session, affordable}
+use Rattle.claim.specs.Answer.{refused, shown, Memory, Call, Pressed}
 
 -- A refused press changes nothing.
 abbrev pub refuse : Memory → Call → Refusal → Pressed

@@ -14,14 +14,13 @@ use Rattle.calculus.specs.Words.{size}
 use Rattle.calculus.specs.Workspace.{sized, termAt}
 use Rattle.calculus.specs.Refusal.{WrongWorkspace, OverBudget}
 use Rattle.calculus.specs.Rounds.{Outcome, Shown, shows, withSpent, same, after, rounds}
-use Rattle.press.specs.State.{budgetLimit, totalLimit, affordable}
-use Rattle.press.specs.Answer.{shown, Memory, Call}
-use Rattle.press.specs.Press.{refuse, conclude, pressTerms, press}
-use Rattle.press.specs.Claim.{Contains, together, Two-presses}
+use Rattle.claim.specs.State.{budgetLimit, totalLimit, affordable}
+use Rattle.claim.specs.Answer.{shown, Memory, Call}
+use Rattle.claim.specs.Press.{refuse, conclude, pressTerms, press}
+use Rattle.claim.specs.Claim.{Contains, together, Two-presses}
 use Rattle.calculus.proofs.RoundsLaws.{walked, rounds-add}
-use Rattle.press.proofs.Workspaces.{termAt-size, holds-termAt}
-use Rattle.press.proofs.PressLaws.{refused≢shown, shown-injective, concluded, holds-walk}
-use Rattle.press.proofs.PressCode.{sized-right}
+use Rattle.claim.proofs.Workspaces.{sized-right, termAt-size, holds-termAt}
+use Rattle.claim.proofs.PressLaws.{refused≢shown, shown-injective, concluded, holds-walk}
 
 -- What an unrefused press has passed, and the two terms it is made on.
 record Passed (m : Memory) (c : Call) (t u : Term) : Type 0 where

@@ -17,10 +17,10 @@ use Rattle.calculus.specs.Refusal.{Refusal, WrongWorkspace, OverBudget, NoTerm}
 use Rattle.calculus.specs.Conversion.{Reaches, Joined}
 use Rattle.calculus.specs.Comparison.{FirstDifference}
 use Rattle.calculus.specs.Rounds.{Same, Different, Decided, Outcome, Shown, shows, withSpent, rounds}
-use Rattle.press.specs.State.{budgetLimit, totalLimit}
-use Rattle.press.specs.Answer.{Answer, refused, shown, Memory, Call, Pressed}
-use Rattle.press.specs.Press.{press}
-use Rattle.press.specs.Presses.{final, history, spentIn, budgetInOneGo, lastShown}
+use Rattle.claim.specs.State.{budgetLimit, totalLimit}
+use Rattle.claim.specs.Answer.{Answer, refused, shown, Memory, Call, Pressed}
+use Rattle.claim.specs.Press.{press}
+use Rattle.claim.specs.Presses.{final, history, spentIn, budgetInOneGo, lastShown}
 
 -- A workspace of C words holds an accepted term of at most C words; the words after it are any.
 pub record Contains (C : ℕ) (t : Term) (ws : List ℕ) : Type 0 where
