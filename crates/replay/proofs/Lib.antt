@@ -1,5 +1,1 @@
-pub mod ScriptLaws
-pub mod ShowLaws
-pub mod CallLaws
 pub mod StepLaws
-pub mod Examples

@@ -5,18 +5,19 @@ use mathlib.Core.Bool.{Bool, true, false}
 use mathlib.Core.List.{List, [], _∷_, _++_}
 use native.Mathlib.Numerals.{add-one}
 use native.Mathlib.Omega.{arith}
-use lib.ListN.{length, take, drop, set, length-set}
+use lib.ListN.{length, take, drop, set, length-set, length-append, length-drop}
 use lib.Seq.{take-take, take-set-le, take-suc-set, length-take-le}
 use Rattle.text.specs.Bytes.{wordBytes}
 use Rattle.text.specs.Decode.{wordAt, wordsFrom}
-use Rattle.replay.specs.declared.script.Operation.{Operation}
-use Rattle.replay.specs.declared.script.Operation.the-variants as operation
-use Rattle.replay.specs.declared.script.Read.{Read}
-use Rattle.replay.specs.declared.script.Read.the-variants as read
-use Rattle.replay.specs.declared.calls.Done.{Done}
+use Rattle.script.specs.declared.Operation.{Operation}
+use Rattle.script.specs.declared.Operation.the-variants as operation
+use Rattle.script.specs.declared.Read.{Read}
+use Rattle.script.specs.declared.Read.the-variants as read
+use Rattle.script.specs.declared.calls.Done.{Done}
 use Rattle.replay.specs.declared.steps.Progress.{Progress}
-use Rattle.replay.specs.Script.{operationIn, roomMost, Fits, Standing, Reads}
-use Rattle.replay.specs.Replay.{State, performLoad, performed, stateOf, Does}
+use Rattle.script.specs.Script.{operationIn, roomMost, Fits, Standing, Reads}
+use Rattle.script.specs.Calls.{State, performLoad, performed, stateOf, Does}
+use Rattle.script.proofs.CallLaws.{take-full}
 use Rattle.replay.specs.Steps.{Machine, after, taken, takenAll, Any-pieces, machineOf, Comes}
 
 -- A part of the first words is that part of all words.
@@ -156,3 +157,7 @@ module _ (piece : List ℕ) (count : ℕ) where
     pub ahead-none : count ≤ i → m ≡ due
     unfolding wordsFrom
     ahead-none h = let none : count - i ≡ 0 = omega arith in sym (taken-none m) ∙ (rw none at (ahead .leads))
+
+-- A call on the first words of an array keeps the array's length.
+pub part-kept : {n limit : ℕ} (xs new : List ℕ) → n ≤ limit → length xs ≡ limit → length new ≡ length (take n xs) → length (new ++ drop n xs) ≡ limit
+part-kept {n} xs new fits full same = rw (length-append, same, take-full xs fits full, length-drop) (omega arith)

@@ -1,5 +1,2 @@
--- What a script asks, what its operations do and tell, and a script word by word.
-pub mod Script
-pub mod Replay
+-- A script word by word.
 pub mod Steps
-pub mod Examples

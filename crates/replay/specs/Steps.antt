@@ -7,11 +7,11 @@ use mathlib.Core.List.{List, [], _∷_, _++_}
 use lib.Dec.{eqb}
 use lib.ListN.{take}
 use Rattle.text.specs.Bytes.{wordBytes}
-use Rattle.replay.specs.declared.script.Read.{Read}
-use Rattle.replay.specs.declared.script.Read.the-variants as read
+use Rattle.script.specs.declared.Read.{Read}
+use Rattle.script.specs.declared.Read.the-variants as read
 use Rattle.replay.specs.declared.steps.Progress.{Progress}
-use Rattle.replay.specs.Script.{operationIn, roomMost}
-use Rattle.replay.specs.Replay.{State, performed, stateOf}
+use Rattle.script.specs.Script.{operationIn, roomMost}
+use Rattle.script.specs.Calls.{State, performed, stateOf}
 
 -- What is kept from word to word: the state, the words of the operation that is still open, and whether the script is broken.
 pub record Machine : Type 0 where

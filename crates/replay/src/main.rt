@@ -1,23 +1,21 @@
 // Replays calls of the unit: reads a script from standard input and prints what each of its operations reports, or `Script` where it is broken.
-use crate::calls::Kept;
-use crate::script::ROOM_MOST;
-use crate::script::TABLE_MOST;
 use crate::steps::Progress;
 use crate::steps::ends;
 use crate::steps::take_all;
 use libc::STDIN_FILENO;
 use libc::STDOUT_FILENO;
 use press::state::Session;
+use script::ROOM_MOST;
+use script::TABLE_MOST;
+use script::calls::Kept;
 use text::bytes::WORD_BYTES;
 use text::bytes::word_at;
 use words::Word;
 ghost use mathlib.Core.Path.{_≡_};
 ghost use Prim.Native.Nat.{min, _≤_};
-ghost use Rattle.replay.specs.Script.{tableLimit, roomMost, lentMost};
+ghost use Rattle.script.specs.Script.{lentMost};
 
-mod calls;
 mod print;
-mod script;
 mod steps;
 
 // Where C of the left workspace, C of the right one and the first operation stand.
@@ -86,10 +84,8 @@ fn replay(l: usize, r: usize) -> bool
     false
 }
 
-// Does nothing. Its contract says that each constant is the number that the definitions give its name.
+// Does nothing. Its contract says that the constant is the number that the definitions give its name.
 fn constants()
-    ensures { λ r. do ⌜ (← ⟦TABLE_MOST⟧ .entry) ≡ tableLimit ⌝ }
-    ensures { λ r. do ⌜ (← ⟦ROOM_MOST⟧ .entry) ≡ roomMost ⌝ }
     ensures { λ r. do ⌜ (← ⟦LENT_MOST⟧ .entry) ≡ lentMost ⌝ }
 {}
 

@@ -1,13 +1,13 @@
 // What the operations print: a line for each report, four for the state. No contract can say what is written; what is told stands in the report.
 ghost use mathlib.Core.Path.{_≡_};
-ghost use Rattle.replay.specs.Script.{sideNumber};
-use crate::calls::Kept;
-use crate::calls::Report;
-use crate::calls::chosen;
-use crate::script::Side;
+ghost use Rattle.script.specs.Script.{sideNumber};
 use libc::STDOUT_FILENO;
 use press::answer::Answer;
 use rounds::Verdict;
+use script::Side;
+use script::calls::Kept;
+use script::calls::Report;
+use script::calls::chosen;
 use words::refusal::Refusal;
 
 fn print(text: &[u8]) {

@@ -1,9 +1,9 @@
 // A script word by word, as it is read in pieces: the words of an operation are collected at the start of the room, and with its last word it is performed.
-use crate::calls::Kept;
-use crate::calls::perform;
 use crate::print::print_report;
-use crate::script::Read;
-use crate::script::operation_in;
+use script::Read;
+use script::calls::Kept;
+use script::calls::perform;
+use script::operation_in;
 use text::bytes::WORD_BYTES;
 use text::bytes::word_at;
 ghost use mathlib.Core.Path.{_≡_};
@@ -12,8 +12,8 @@ ghost use Prim.Native.Nat.{_<_, _/_};
 ghost use lib.ListN.{length};
 ghost use Rattle.text.specs.Bytes.{wordBytes};
 ghost use Rattle.text.specs.Decode.{wordsFrom};
-ghost use Rattle.replay.specs.Script.{roomMost};
-ghost use Rattle.replay.specs.Replay.{Lent};
+ghost use Rattle.script.specs.Script.{roomMost};
+ghost use Rattle.script.specs.Calls.{Lent};
 ghost use Rattle.replay.specs.Steps.{taken, takenAll, ends, machineOf, Comes};
 
 // What is kept from word to word beside the lent slices: what the operations leave to keep, how many words of the next one stand in the room, and whether the

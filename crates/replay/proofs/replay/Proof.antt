@@ -4,8 +4,9 @@ use mathlib.Core.Path.{_≡_, refl, sym, _∙_}
 use native.Mathlib.Omega.{arith}
 use lib.ListN.{length}
 use borrow.Author.Needs.{needs}
-use Rattle.replay.specs.Script.{tableLimit, roomMost, lentMost}
-use Rattle.replay.proofs.CallLaws.{take-full, part-kept}
+use Rattle.script.specs.Script.{tableLimit, roomMost, lentMost}
+use Rattle.script.proofs.CallLaws.{take-full}
+use Rattle.replay.proofs.StepLaws.{part-kept}
 use Rattle.replay.proofs.replay.Statement.{statement}
 use Rattle.replay.proofs.replay.Tie as tie
 

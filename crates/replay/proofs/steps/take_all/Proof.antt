@@ -4,7 +4,7 @@ use mathlib.Core.Path.{_≡_, refl, _∙_}
 use native.Mathlib.Omega.{arith}
 use lib.ListN.{length}
 use Rattle.text.specs.Decode.{wordsFrom}
-use Rattle.replay.specs.Script.{roomMost}
+use Rattle.script.specs.Script.{roomMost}
 use Rattle.replay.specs.Steps.{takenAll, machineOf}
 use Rattle.replay.proofs.StepLaws.{Ahead, ahead-start, ahead-next, ahead-broken, ahead-none}
 use Rattle.replay.proofs.steps.take_all.Statement.{statement}

@@ -1,0 +1,4 @@
+pub mod ScriptLaws
+pub mod ShowLaws
+pub mod CallLaws
+pub mod Examples

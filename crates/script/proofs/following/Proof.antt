@@ -1,0 +1,17 @@
+-- `following` meets its contract.
+use borrow.Author.Tests.{ne-eqb}
+use borrow.Author.Needs.{needs}
+use Rattle.script.proofs.following.Statement.{statement}
+use Rattle.script.proofs.following.Tie as tie
+
+cast-result : tie.Need-cast-result
+cast-result c = search needs
+
+returns : tie.Need-returns
+returns c = rw (c .before .if1 .taken)
+
+returns-2 : tie.Need-returns-2
+returns-2 c = rw (ne-eqb _ 1 (c .if1 .left))
+
+pub following-spec : {M : Type 1} → statement M
+following-spec = tie.close (tie.spec cast-result returns returns-2)

@@ -1,0 +1,14 @@
+-- `operand_at` meets its contract.
+use borrow.Author.Tests.{lt-ltb, le-ltb}
+use borrow.Author.Needs.{needs}
+use Rattle.script.proofs.operand_at.Statement.{statement}
+use Rattle.script.proofs.operand_at.Tie as tie
+
+returns : tie.Need-returns
+returns c = rw (lt-ltb _ _ (c .before .if1 .taken))
+
+returns-2 : tie.Need-returns-2
+returns-2 c = rw (le-ltb _ _ (c .if1 .left))
+
+pub operand-at-spec : {M : Type 1} → statement M
+operand-at-spec = tie.close (tie.spec (λ c. search needs) (λ c. search needs) returns returns-2)

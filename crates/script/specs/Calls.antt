@@ -1,0 +1,168 @@
+-- What the operations do and tell.
+use Prim.Native.Nat.{ℕ}
+use mathlib.Core.Path.{_≡_}
+use mathlib.Core.Bool.{cond}
+use mathlib.Core.List.{List, [], _++_}
+use lib.Dec.{eqb, ltb}
+use lib.ListN.{length, take, drop, replicate, set}
+use Rattle.claim.specs.Answer.{Memory}
+use Rattle.claim.specs.Press.{press}
+use Rattle.claim.specs.Answer as press
+use Rattle.press.specs.Showing.{show}
+use Rattle.press.specs.Showing as shown
+use Rattle.press.specs.Types.{answerOf, sessionOf, memoryOf, callOf}
+use Rattle.tables.specs.Load.{load}
+use Rattle.tables.specs.Load as tables
+use Rattle.tables.specs.Write.{write}
+use Rattle.tables.specs.Write as written
+use Rattle.tables.specs.declared.Answer as codeAnswer
+use Rattle.tables.specs.Types.{answerOf as tableAnswerOf}
+use Rattle.script.specs.declared.Side.{Side}
+use Rattle.script.specs.declared.Side.the-variants as side
+use Rattle.script.specs.declared.Call.{Call}
+use Rattle.script.specs.declared.Operation.{Operation}
+use Rattle.script.specs.declared.Operation.the-variants as operation
+use Rattle.script.specs.declared.calls.Kept.{Kept}
+use Rattle.script.specs.declared.calls.Part.{Part}
+use Rattle.script.specs.declared.calls.Report.{Report}
+use Rattle.script.specs.declared.calls.Report.the-variants as report
+use Rattle.script.specs.declared.calls.Done.{Done}
+use Rattle.script.specs.Script.{tableLimit, roomMost}
+
+-- What is kept from operation to operation: both workspaces and the session, and the last press's scratch at exit.
+pub record State : Type 0 where
+  pub memory : Memory
+  pub scratch : List ℕ
+
+-- What an operation tells: what a call answers, the part that is shown, a table that was written.
+pub data Told : Type 0 where
+  ofLoad : tables.Answer → Told
+  ofPress : press.Answer → Told
+  ofShow : shown.Part → Told
+  ofWrite : tables.Answer → (table : List ℕ) → Told
+  ofSet ofStore ofPrint : Told
+
+-- The state that an operation leaves, what it tells, and the words that it leaves at the start of the room for tables.
+pub record Performed : Type 0 where
+  pub state : State
+  pub told : Told
+  pub front : List ℕ
+
+-- The workspace of a side, and both workspaces with another in its place.
+abbrev pub chosen : Side → (left right : List ℕ) → List ℕ
+chosen side.Left l r = l
+chosen side.Right l r = r
+
+abbrev pub changed : Side → (left right new : List ℕ) → List ℕ × List ℕ
+changed side.Left l r new = (new, r)
+changed side.Right l r new = (l, new)
+
+abbrev pub replaced : Memory → List ℕ × List ℕ → Memory
+replaced m ws = record { left = ws .0; right = ws .1; session = m .session }
+
+-- A scratch and a table are first filled with this word.
+abbrev pub filler : ℕ
+filler = 7
+
+-- The side by the lengths alone: of the part, and those of both sides' terms.
+abbrev pub sideShown : (part left right : ℕ) → Side
+sideShown part l r = cond (eqb part 0) side.Left (cond (ltb r l) side.Right side.Left)
+
+abbrev pub performLoad : State → Side → (table : List ℕ) → Performed
+performLoad s side table =
+    let loaded = load table (chosen side (s .memory .left) (s .memory .right)) in
+    record {
+      state =
+          record {
+            memory = replaced (s .memory) (changed side (s .memory .left) (s .memory .right) (loaded .workspace));
+            scratch = s .scratch;
+          };
+      told = ofLoad (loaded .answer);
+      front = [];
+    }
+
+abbrev pub afterPress : press.Pressed → Performed
+afterPress p = record { state = record { memory = p .memory; scratch = p .scratch }; told = ofPress (p .answer); front = [] }
+
+abbrev pub performPress : State → Call → Performed
+performPress s c = afterPress (press (s .memory) (callOf (replicate (c .scratch) filler) (c .left) (c .right) (c .budget)))
+
+abbrev pub performShow : State → (left right : ℕ) → Performed
+performShow s l r =
+    let m = s .memory in
+    record { state = s; told = ofShow (show (m .left) (m .right) l r); front = [] }
+
+abbrev pub afterWrite : State → written.Written → Performed
+afterWrite s w = record { state = s; told = ofWrite (w .answer) (w .table); front = w .table }
+
+abbrev pub performWrite : State → Side → (len table : ℕ) → Performed
+performWrite s side len table = afterWrite s (write (chosen side (s .memory .left) (s .memory .right)) len (replicate table filler))
+
+-- A store changes nothing outside.
+abbrev pub performStore : State → Side → (at word : ℕ) → Performed
+performStore s side at word =
+    let l = s .memory .left in
+    let r = s .memory .right in
+    record {
+      state = record { memory = replaced (s .memory) (changed side l r (set (chosen side l r) at word)); scratch = s .scratch };
+      told = ofStore;
+      front = [];
+    }
+
+-- What an operation that stands in words does and tells.
+abbrev pub performed : (words : List ℕ) → Operation → State → Performed
+performed words (operation.Load side at table) s = performLoad s side (take table (drop at words))
+performed words (operation.Press call) s = performPress s call
+performed words (operation.Show l r) s = performShow s l r
+performed words (operation.Write side len table) s = performWrite s side len table
+performed words (operation.Set session) s =
+    record {
+      state =
+          record {
+            memory = record { left = s .memory .left; right = s .memory .right; session = sessionOf session };
+            scratch = s .scratch;
+          };
+      told = ofSet;
+      front = [];
+    }
+performed words (operation.Store side at word) s = performStore s side at word
+performed words operation.Print s = record { state = s; told = ofPrint; front = [] }
+
+-- The state in lent slices: the scratch is the first words of a longer slice.
+abbrev pub stateOf : (left right scratch : List ℕ) → Kept → State
+stateOf l r s k = record { memory = memoryOf l r (k .session); scratch = take (k .scratch) s }
+
+-- What a report stands for. A table that was written is the first words of the room.
+abbrev pub sideOf : Side → shown.Side
+sideOf side.Left = shown.left
+sideOf side.Right = shown.right
+
+abbrev pub partOf : Part → shown.Part
+partOf p = record { side = sideOf (p .side); count = p .words }
+
+abbrev pub reportOf : (room : List ℕ) → Report → Told
+reportOf room (report.Loaded a) = ofLoad (tableAnswerOf a)
+reportOf room (report.Pressed a) = ofPress (answerOf a)
+reportOf room (report.Shown p) = ofShow (partOf p)
+reportOf room (report.Written a n) = ofWrite (tableAnswerOf a) (take n room)
+reportOf room report.Set = ofSet
+reportOf room report.Stored = ofStore
+reportOf room report.State = ofPrint
+
+-- What an operation was to do is done: the slices and what is kept are the state that it leaves, and the report is what it tells. The words behind the
+-- scratch stay, and so do those behind what is left at the start of the room.
+pub record Does (due : Performed) (scratch room left′ right′ scratch′ room′ : List ℕ) (r : Done) : Type 0 where
+  pub state : stateOf left′ right′ scratch′ (r .kept) ≡ due .state
+  pub told : reportOf room′ (r .report) ≡ due .told
+  pub behind : drop (r .kept .scratch) scratch′ ≡ drop (r .kept .scratch) scratch
+  pub placed : room′ ≡ due .front ++ drop (length (due .front)) room
+
+-- Loading by itself: both workspaces, and the answer.
+pub record Loads (side : Side) (table left right left′ right′ : List ℕ) (r : codeAnswer.Answer) : Type 0 where
+  pub workspaces : (left′, right′) ≡ changed side left right (load table (chosen side left right) .workspace)
+  pub answer : tableAnswerOf r ≡ load table (chosen side left right) .answer
+
+-- The slices are as long as the operations need.
+pub record Lent (scratch room : List ℕ) : Type 0 where
+  pub scratch-full : length scratch ≡ tableLimit
+  pub room-full : length room ≡ roomMost

@@ -1,0 +1,242 @@
+// What the operations of a script do: the unit's calls on the lent slices, each with what it reports.
+use crate::Call;
+use crate::Operation;
+use crate::Side;
+use press::answer::Answer;
+use press::answer::Pressed;
+use press::state::Session;
+use session::press_owned;
+use words::slices::fill;
+ghost use mathlib.Core.Path.{_≡_};
+ghost use Prim.Native.Nat.{_≤_};
+ghost use lib.ListN.{length, replicate, set};
+ghost use lib.ListN.{length as List·length};
+ghost use Rattle.claim.specs.Press.{press};
+ghost use Rattle.press.specs.Showing.{show};
+ghost use Rattle.press.specs.Types.{memoryOf, callOf, pressedOf};
+ghost use Rattle.tables.specs.Load.{load};
+ghost use Rattle.tables.specs.Write.{write};
+ghost use Rattle.tables.specs.Types.{writtenOf};
+ghost use Rattle.script.specs.Script.{Fits};
+ghost use Rattle.script.specs.Calls.{filler, chosen, changed, sideShown, partOf};
+ghost use Rattle.script.specs.Calls.{performPress, performed, stateOf, Does, Loads, Lent};
+
+// A scratch and a table are first filled with this word.
+const FILLER: u32 = 7;
+
+// What is kept beside the lent slices: the length of the last press's scratch, and the session.
+pub struct Kept {
+    pub scratch: usize,
+    pub session: Session,
+}
+
+// A part that is shown: the first words of a side's workspace.
+pub struct Part {
+    pub side: Side,
+    pub words: usize,
+}
+
+// What an operation tells. A table that was written is the first words of the room.
+pub enum Report {
+    Loaded(tables::Answer),
+    Pressed(Answer),
+    Shown(Part),
+    Written {
+        answer: tables::Answer,
+        words: usize,
+    },
+    Set,
+    Stored,
+    State,
+}
+
+// What an operation leaves to keep, and what it tells.
+pub struct Done {
+    pub kept: Kept,
+    pub report: Report,
+}
+
+fn fill_all(slice: &mut [u32])
+    ensures { λ r. ⌜ now (slice .exit) ≡ replicate (length (now (slice .entry))) filler ⌝ }
+{
+    let end = slice.len();
+    fill(slice, 0, end, FILLER);
+}
+
+// A press with a scratch that is first filled.
+fn press_filled(
+    call: Call,
+    left: &mut [u32],
+    right: &mut [u32],
+    scratch: &mut [u32],
+    session: Session,
+) -> Pressed
+    ensures { λ p. ⌜ pressedOf p (now (left .exit)) (now (right .exit)) (now (scratch .exit)) ≡ press (memoryOf (now (left .entry)) (now (right .entry)) session) (callOf (replicate (length (now (scratch .entry))) filler) (call .left) (call .right) (call .budget)) ⌝ }
+{
+    fill_all(scratch);
+    press_owned(
+        left,
+        right,
+        scratch,
+        call.left,
+        call.right,
+        call.budget,
+        session,
+    )
+}
+
+fn press(
+    call: Call,
+    left: &mut [u32],
+    right: &mut [u32],
+    scratch: &mut [u32],
+    kept: Kept,
+    room: &[u32],
+) -> Done
+    requires { ⌜ call .scratch ≤ length (now scratch) ⌝ }
+    ensures { λ r. ⌜ Does (performPress (stateOf (now (left .entry)) (now (right .entry)) (now (scratch .entry)) kept) call) (now (scratch .entry)) (now (room .entry)) (now (left .exit)) (now (right .exit)) (now (scratch .exit)) (now (room .entry)) r ⌝ }
+{
+    let n = call.scratch;
+    let session = kept.session;
+    let pressed = press_filled(call, left, right, &mut scratch[..n], session);
+    let answer = pressed.answer;
+    let after = pressed.session;
+    Done {
+        kept: Kept {
+            scratch: n,
+            session: after,
+        },
+        report: Report::Pressed(answer),
+    }
+}
+
+// The side that a shown part of so many words belongs to.
+fn shown_side(part: usize, left_length: usize, right_length: usize) -> Side
+    ensures { λ r. ⌜ r ≡ sideShown part «left_length» «right_length» ⌝ }
+{
+    if part == 0 {
+        return Side::Left;
+    }
+    if right_length < left_length {
+        return Side::Right;
+    }
+    Side::Left
+}
+
+fn show<'a>(left: &'a [u32], right: &'a [u32], left_length: usize, right_length: usize) -> Part
+    ensures { λ r. ⌜ partOf r ≡ show (now (left .entry)) (now (right .entry)) «left_length» «right_length» ⌝ }
+{
+    let part = press::show(left, right, left_length, right_length);
+    Part {
+        side: shown_side(part.len(), left_length, right_length),
+        words: part.len(),
+    }
+}
+
+// Loads a table into the workspace of a side.
+fn load(side: Side, left: &mut [u32], right: &mut [u32], table: &[u32]) -> tables::Answer
+    ensures { λ r. ⌜ Loads side (now (table .entry)) (now (left .entry)) (now (right .entry)) (now (left .exit)) (now (right .exit)) r ⌝ }
+{
+    match side {
+        Side::Left => tables::load(table, left),
+        Side::Right => tables::load(table, right),
+    }
+}
+
+// The workspace of a side.
+pub fn chosen<'a>(side: Side, left: &'a [u32], right: &'a [u32]) -> &'a [u32]
+    ensures { λ r. ⌜ now r ≡ chosen side (now (left .entry)) (now (right .entry)) ⌝ }
+{
+    match side {
+        Side::Left => left,
+        Side::Right => right,
+    }
+}
+
+// A write into a table that is first filled.
+fn write<'a>(
+    side: Side,
+    length: usize,
+    left: &'a [u32],
+    right: &'a [u32],
+    table: &mut [u32],
+) -> tables::Answer
+    ensures { λ r. ⌜ writtenOf r (now (table .exit)) ≡ write (chosen side (now (left .entry)) (now (right .entry))) length (replicate (List·length (now (table .entry))) filler) ⌝ }
+{
+    fill_all(table);
+    tables::write(chosen(side, left, right), length, table)
+}
+
+// A store where the position is inside.
+fn store_in(words: &mut [u32], at: usize, word: u32)
+    ensures { λ r. ⌜ now (words .exit) ≡ set (now (words .entry)) at word ⌝ }
+{
+    if at < words.len() {
+        words[at] = word;
+    }
+}
+
+fn store(side: Side, at: usize, word: u32, left: &mut [u32], right: &mut [u32])
+    ensures { λ r. ⌜ (now (left .exit), now (right .exit)) ≡ changed side (now (left .entry)) (now (right .entry)) (set (chosen side (now (left .entry)) (now (right .entry))) at word) ⌝ }
+{
+    match side {
+        Side::Left => store_in(left, at, word),
+        Side::Right => store_in(right, at, word),
+    }
+}
+
+// Performs an operation whose words stand at the start of the room: the slices and what is kept are then the state that it leaves, and the report is what
+// it tells.
+pub fn perform(
+    operation: Operation,
+    left: &mut [u32],
+    right: &mut [u32],
+    scratch: &mut [u32],
+    room: &mut [u32],
+    kept: Kept,
+) -> Done
+    requires { ⌜ Fits (now room) operation ⌝ }
+    requires { ⌜ Lent (now scratch) (now room) ⌝ }
+    ensures { λ r. ⌜ Does (performed (now (room .entry)) operation (stateOf (now (left .entry)) (now (right .entry)) (now (scratch .entry)) kept)) (now (scratch .entry)) (now (room .entry)) (now (left .exit)) (now (right .exit)) (now (scratch .exit)) (now (room .exit)) r ⌝ }
+{
+    match operation {
+        Operation::Load { side, at, words } => {
+            let end = at + words;
+            let answer = load(side, left, right, &room[at..end]);
+            let report = Report::Loaded(answer);
+            Done { kept, report }
+        }
+        Operation::Press(call) => press(call, left, right, scratch, kept, room),
+        Operation::Show { left: l, right: r } => {
+            let part = show(left, right, l, r);
+            let report = Report::Shown(part);
+            Done { kept, report }
+        }
+        Operation::Write {
+            side,
+            length,
+            words,
+        } => {
+            let answer = write(side, length, left, right, &mut room[..words]);
+            let report = Report::Written { answer, words };
+            Done { kept, report }
+        }
+        Operation::Set(session) => {
+            let scratch = kept.scratch;
+            let report = Report::Set;
+            Done {
+                kept: Kept { scratch, session },
+                report,
+            }
+        }
+        Operation::Store { side, at, word } => {
+            store(side, at, word, left, right);
+            let report = Report::Stored;
+            Done { kept, report }
+        }
+        Operation::Print => {
+            let report = Report::State;
+            Done { kept, report }
+        }
+    }
+}

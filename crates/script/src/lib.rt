@@ -1,0 +1,293 @@
+// What a script asks: operations of words, one after the other. The first word of an operation is its number; one table tells how many
+// words each has, and one the largest number that each of its operands may be.
+use press::state::Session;
+use rounds::Verdict;
+use words::Word;
+ghost use mathlib.Core.Path.{_≡_};
+ghost use Prim.Native.Nat.{_≤_, _<_};
+ghost use lib.ListN.{length};
+ghost use Rattle.script.specs.Script.{sideOf, verdictNumbered, tableLimit, operations, operandsMost, wordsOf, mostOf};
+ghost use Rattle.script.specs.Script.{operandAt, operandsIn, within, following, operationOf, operationIn, roomMost, Reads};
+
+pub mod calls;
+
+// The operations' numbers. 7 is a print, and 0 is none.
+const LOAD: u32 = 1;
+
+const PRESS: u32 = 2;
+
+const SHOW: u32 = 3;
+
+const WRITE: u32 = 4;
+
+const SET: u32 = 5;
+
+const STORE: u32 = 6;
+
+const OPERATIONS: usize = 8;
+
+// The words of each operation, its number's included; those of a load stand before its table.
+const WORDS: [usize; OPERATIONS] = [0, 3, 5, 3, 4, 5, 4, 1];
+
+// The words of a record, and the most words of a table and of a scratch: those of a header and of as many records as a workspace has words.
+const RECORD_WORDS: usize = 4;
+
+pub const TABLE_MOST: usize = RECORD_WORDS * (Word::WORKSPACE_MOST + 1);
+
+// The largest numbers of operands: of a side, of a verdict, of a length of a table or a scratch, and of any other.
+const SIDE: u32 = 1;
+
+const VERDICT: u32 = 3;
+
+const TABLE: u32 = TABLE_MOST as u32;
+
+const ANY: u32 = 4294967295;
+
+// No operation has more operands.
+const OPERANDS: usize = 4;
+
+// Room for the words of every operation: its own, and a table's.
+pub const ROOM_MOST: usize = 1 + OPERANDS + TABLE_MOST;
+
+// A line for each operation: the largest numbers of its operands.
+const MOST: [u32; OPERATIONS * OPERANDS] = [
+    ANY,
+    ANY,
+    ANY,
+    ANY,
+    SIDE,
+    TABLE,
+    ANY,
+    ANY,
+    TABLE,
+    ANY,
+    ANY,
+    ANY,
+    ANY,
+    ANY,
+    ANY,
+    ANY,
+    SIDE,
+    ANY,
+    TABLE,
+    ANY,
+    ANY,
+    ANY,
+    ANY,
+    VERDICT,
+    SIDE,
+    ANY,
+    ANY,
+    ANY,
+    ANY,
+    ANY,
+    ANY,
+    ANY,
+];
+
+// What stands behind an operation's number; 0 for those that it does not have.
+pub struct Operands {
+    pub first: u32,
+    pub second: u32,
+    pub third: u32,
+    pub fourth: u32,
+}
+
+pub enum Side {
+    Left,
+    Right,
+}
+
+// A press: the scratch's length, the length of each side's term, and the budget.
+pub struct Call {
+    pub scratch: usize,
+    pub left: usize,
+    pub right: usize,
+    pub budget: u32,
+}
+
+// A table is told by the position of its first word among the operation's, and its words.
+pub enum Operation {
+    Load {
+        side: Side,
+        at: usize,
+        words: usize,
+    },
+    Press(Call),
+    Show {
+        left: usize,
+        right: usize,
+    },
+    Write {
+        side: Side,
+        length: usize,
+        words: usize,
+    },
+    Set(Session),
+    Store {
+        side: Side,
+        at: usize,
+        word: u32,
+    },
+    Print,
+}
+
+// What words come to: the start of an operation, a whole one, or neither.
+pub enum Read {
+    Open,
+    Whole(Operation),
+    Broken,
+}
+
+fn side_of(number: u32) -> Side
+    ensures { λ r. ⌜ r ≡ sideOf number ⌝ }
+{
+    if number == 0 {
+        return Side::Left;
+    }
+    Side::Right
+}
+
+fn verdict_of(number: u32) -> Verdict
+    ensures { λ r. ⌜ r ≡ verdictNumbered number ⌝ }
+{
+    match number {
+        0 => Verdict::Same,
+        1 => Verdict::Different,
+        2 => Verdict::Budget,
+        _ => Verdict::Full,
+    }
+}
+
+// The words of the operation of a number; 0 where none has it.
+fn words_of(number: u32) -> usize
+    ensures { λ r. ⌜ r ≡ wordsOf number ⌝ }
+{
+    let n = number as usize;
+    if OPERATIONS <= n {
+        return 0;
+    }
+    WORDS[n]
+}
+
+// The largest number of an operand.
+fn most_of(number: u32, k: usize) -> u32
+    requires { ⌜ (number < operations) × (k < operandsMost) ⌝ }
+    ensures { λ r. ⌜ r ≡ mostOf number k ⌝ }
+{
+    MOST[OPERANDS * number as usize + k]
+}
+
+// Whether no operand is above its largest number.
+fn within(number: u32, o: Operands) -> bool
+    requires { ⌜ number < operations ⌝ }
+    ensures { λ r. ⌜ r ≡ within number o ⌝ }
+{
+    (o.first <= most_of(number, 0))
+        & (o.second <= most_of(number, 1))
+        & (o.third <= most_of(number, 2))
+        & (o.fourth <= most_of(number, 3))
+}
+
+// The k-th word of an operation of so many words.
+fn operand_at(words: &[u32], count: usize, k: usize) -> u32
+    requires { ⌜ count ≤ length (now words) ⌝ }
+    ensures { λ r. ⌜ r ≡ operandAt (now (words .entry)) count k ⌝ }
+{
+    if k < count {
+        return words[k];
+    }
+    0
+}
+
+fn operands_in(words: &[u32], count: usize) -> Operands
+    requires { ⌜ count ≤ length (now words) ⌝ }
+    ensures { λ r. ⌜ r ≡ operandsIn (now (words .entry)) count ⌝ }
+{
+    Operands {
+        first: operand_at(words, count, 1),
+        second: operand_at(words, count, 2),
+        third: operand_at(words, count, 3),
+        fourth: operand_at(words, count, 4),
+    }
+}
+
+// How many words follow an operation's own: those of a load's table.
+fn following(number: u32, o: Operands) -> usize
+    ensures { λ r. ⌜ r ≡ following number o ⌝ }
+{
+    if number == LOAD {
+        return o.second as usize;
+    }
+    0
+}
+
+// The operation of a number, with what follows it at a position.
+fn operation_of(number: u32, o: Operands, from: usize) -> Operation
+    ensures { λ r. ⌜ r ≡ operationOf number o from ⌝ }
+{
+    match number {
+        LOAD => Operation::Load {
+            side: side_of(o.first),
+            at: from,
+            words: o.second as usize,
+        },
+        PRESS => Operation::Press(Call {
+            scratch: o.first as usize,
+            left: o.second as usize,
+            right: o.third as usize,
+            budget: o.fourth,
+        }),
+        SHOW => Operation::Show {
+            left: o.first as usize,
+            right: o.second as usize,
+        },
+        WRITE => Operation::Write {
+            side: side_of(o.first),
+            length: o.second as usize,
+            words: o.third as usize,
+        },
+        SET => Operation::Set(Session {
+            total: o.first,
+            left: o.second as usize,
+            right: o.third as usize,
+            verdict: verdict_of(o.fourth),
+        }),
+        STORE => Operation::Store {
+            side: side_of(o.first),
+            at: o.second as usize,
+            word: o.third,
+        },
+        _ => Operation::Print,
+    }
+}
+
+// What words come to.
+pub fn operation_in(words: &[u32]) -> Read
+    requires { ⌜ 1 ≤ length (now words) ⌝ }
+    ensures { λ r. ⌜ Reads (now (words .entry)) (operationIn (now (words .entry))) r ⌝ }
+{
+    let number = words[0];
+    let count = words_of(number);
+    if count < 1 {
+        return Read::Broken;
+    }
+    if words.len() < count {
+        return Read::Open;
+    }
+    let operands = operands_in(words, count);
+    if !within(number, operands) {
+        return Read::Broken;
+    }
+    let more = following(number, operands);
+    if words.len() - count < more {
+        return Read::Open;
+    }
+    Read::Whole(operation_of(number, operands, count))
+}
+
+// Does nothing. Its contract says that each constant is the number that the definitions give its name.
+fn constants()
+    ensures { λ r. do ⌜ (← ⟦TABLE_MOST⟧ .entry) ≡ tableLimit ⌝ }
+    ensures { λ r. do ⌜ (← ⟦ROOM_MOST⟧ .entry) ≡ roomMost ⌝ }
+{}
