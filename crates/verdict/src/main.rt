@@ -2,7 +2,7 @@
 use libc::STDIN_FILENO;
 use libc::STDOUT_FILENO;
 use request::INPUT_MOST;
-use verdict_line::print::LINE_MOST;
+use verdict_text::LINE_MOST;
 
 fn main() {
     // One byte more than a request can have shows that an input is longer.

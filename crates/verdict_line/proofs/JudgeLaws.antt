@@ -18,8 +18,9 @@ use Rattle.tables.specs.declared.Answer.{Answer}
 use Rattle.tables.specs.declared.Answer.the-variants as answer
 use Rattle.tables.specs.Load.{load}
 use Rattle.tables.specs.Types.{loadedOf}
-use Rattle.verdict_line.specs.Line.{refuses, lineOf, loadedLeft, loadedRight, judged}
 use Rattle.request.specs.Request.{Request}
+use Rattle.verdict_text.specs.Line.{refuses}
+use Rattle.verdict_line.specs.Line.{lineOf, loadedLeft, loadedRight, judged}
 use Rattle.verdict_line.specs.Judge.{lentMost}
 use Rattle.words.proofs.RoomLaws.{take-replicate}
 

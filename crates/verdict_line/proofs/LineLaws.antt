@@ -1,52 +1,23 @@
--- The length of a line, and the line of a workspace that is lent in part.
-use Prim.Native.Nat.{ℕ, zero, suc, _/_, _%_, _≤_, _<_, min}
-use mathlib.Core.Path.{_≡_, refl, sym, _∙_, ap}
-use mathlib.Core.Bool.{Bool, true, false, and-false}
-use mathlib.Core.List.{List, [], _∷_}
+-- What is printed fits, and the line of a workspace that is lent in part.
+use Prim.Native.Nat.{ℕ, _≤_, _<_, min}
+use mathlib.Core.Path.{_≡_, sym, _∙_}
+use mathlib.Core.Bool.{and-false}
+use mathlib.Core.List.{List}
 use mathlib.Core.Option.{some}
 use native.Mathlib.Omega.{arith}
 use native.Mathlib.Decide.{decLt}
 use lib.Seq.{length-sets}
 use borrow.Author.Tests.{lt-leb}
-use lib.ListN.{length, take, replicate, length-append, length-replicate}
-use Rattle.calculus.specs.Rounds.{Verdict, Same, Different, Budget, Full}
-use Rattle.verdict_line.specs.Line.{Line, input, refuses, shows, judged, nameOf, positionField, lineBytes, lineMost, printed}
+use lib.ListN.{length, replicate, length-replicate}
 use Rattle.calculus.specs.Words.{workspaceMost}
 use Rattle.calculus.specs.Refusal.{WrongWorkspace, number}
 use Rattle.tables.specs.Load.{refused, loadStored, load}
 use Rattle.request.specs.Request.{Request, request}
 use Rattle.words.specs.Placed.{Placed}
-use Rattle.text.specs.Decimal.{field}
-use Rattle.text.proofs.DecimalLaws.{length-decimal}
+use Rattle.verdict_text.specs.Line.{refuses, lineMost}
+use Rattle.verdict_text.proofs.LineLaws.{line-length}
+use Rattle.verdict_line.specs.Line.{judged, printed}
 use Rattle.verdict_line.specs.Judge.{lentMost}
-
-pub length-name : (v : Verdict) → length (nameOf v) ≤ 9
-length-name Same = omega arith
-length-name Different = omega arith
-length-name Budget = omega arith
-length-name Full = omega arith
-
-length-position : (v : Verdict) (p : ℕ) → length (positionField v p) ≤ length (field p)
-length-position Same p = omega arith
-length-position Different p = omega arith
-length-position Budget p = omega arith
-length-position Full p = omega arith
-
--- No line is longer than `lineMost`.
-pub line-length : (l : Line) → length (lineBytes l) ≤ lineMost
-line-length input = omega arith
-line-length (refuses n) = simp length-append (omega (arith, length-decimal n))
-line-length (shows a) =
-    simp length-append
-    (omega (
-      arith,
-      length-name (a .verdict),
-      length-decimal (a .spent),
-      length-decimal (a .left),
-      length-decimal (a .right),
-      length-position (a .verdict) (a .position),
-      length-decimal (a .position),
-    ))
 
 -- What is printed fits where it is put.
 pub printed-fits : {before after : List ℕ} (bytes : List ℕ) {r : ℕ} → Placed before 0 (printed bytes) after r → length before ≡ lineMost → r ≤ length after

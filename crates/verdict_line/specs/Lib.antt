@@ -1,5 +1,4 @@
 -- What the verdict program prints for the bytes that it reads.
 pub mod Line
-pub mod Types
 pub mod Judge
 pub mod Examples

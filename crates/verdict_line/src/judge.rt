@@ -1,5 +1,4 @@
 // What a request comes to: left is loaded, then right, then one press with a fresh session.
-use crate::print::Line;
 use press::answer::Answer;
 use press::state::Session;
 use request::Parsed;
@@ -8,6 +7,7 @@ use request::Table;
 use request::parse;
 use session::press_owned;
 use text::bytes::words_from;
+use verdict_text::Line;
 use words::Word;
 ghost use mathlib.Core.Path.{_≡_};
 ghost use mathlib.Core.Option.{some};
@@ -17,8 +17,8 @@ ghost use Rattle.tables.specs.Load.{load};
 ghost use Rattle.tables.specs.Types.{loadedOf};
 ghost use Rattle.request.specs.Request.{request};
 ghost use Rattle.request.specs.Parse.{wordsOfTable, Stands};
+ghost use Rattle.verdict_text.specs.Types.{printedLine};
 ghost use Rattle.verdict_line.specs.Line.{lineOf, judged};
-ghost use Rattle.verdict_line.specs.Types.{printedLine};
 ghost use Rattle.verdict_line.specs.Judge.{lentMost, requestFor};
 
 // A workspace is lent by so many words at most, one above its limit, so that loading itself refuses it.

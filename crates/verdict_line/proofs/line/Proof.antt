@@ -1,8 +1,8 @@
 -- `line` meets its contract: no line is longer than `out`.
 use native.Mathlib.Omega.{arith}
+use Rattle.verdict_text.specs.Types.{printedLine}
+use Rattle.verdict_text.proofs.LineLaws.{line-length}
 use Rattle.verdict_line.specs.Line.{printed}
-use Rattle.verdict_line.specs.Types.{printedLine}
-use Rattle.verdict_line.proofs.LineLaws.{line-length}
 use borrow.Author.Needs.{needs}
 use Rattle.verdict_line.proofs.line.Statement.{statement}
 use Rattle.verdict_line.proofs.line.Tie as tie

@@ -3,7 +3,8 @@ use Prim.Native.Nat.{_≤_}
 use mathlib.Core.Path.{_≡_, sym, _∙_, ap}
 use mathlib.Core.Option.{some}
 use native.Mathlib.Omega.{arith}
-use Rattle.verdict_line.specs.Line.{judged, refuses}
+use Rattle.verdict_text.specs.Line.{refuses}
+use Rattle.verdict_line.specs.Line.{judged}
 use Rattle.verdict_line.specs.Judge.{lentMost, requestFor}
 use Rattle.verdict_line.proofs.LineLaws.{judged-lent}
 use Rattle.verdict_line.proofs.JudgeLaws.{lent-length, again-fits, again-length, refused-left, refused-right, pressed-line}

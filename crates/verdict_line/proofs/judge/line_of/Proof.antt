@@ -1,6 +1,6 @@
 use mathlib.Core.Path.{ap}
 use borrow.Author.Needs.{needs}
-use Rattle.verdict_line.specs.Line.{refuses}
+use Rattle.verdict_text.specs.Line.{refuses}
 use Rattle.verdict_line.proofs.judge.line_of.Statement.{statement}
 use Rattle.verdict_line.proofs.judge.line_of.Tie as tie
 

@@ -1,8 +1,8 @@
 -- `put_line` meets its contract, by the line.
 use native.Mathlib.Omega.{arith}
 use borrow.Author.Needs.{needs}
-use Rattle.verdict_line.proofs.print.put_line.Statement.{statement}
-use Rattle.verdict_line.proofs.print.put_line.Tie as tie
+use Rattle.verdict_text.proofs.put_line.Statement.{statement}
+use Rattle.verdict_text.proofs.put_line.Tie as tie
 
 enum-told : tie.Need-enum-told
 enum-told c = search needs

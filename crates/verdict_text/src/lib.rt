@@ -5,11 +5,12 @@ use text::decimal::DIGITS_MOST;
 use text::decimal::put_bytes;
 use text::decimal::put_end;
 use text::decimal::put_field;
+ghost use mathlib.Core.Path.{_≡_};
 ghost use Prim.Native.Nat.{_≤_, _+_};
 ghost use lib.ListN.{length};
 ghost use Rattle.rounds.specs.Types.{verdictOf, shownOf};
-ghost use Rattle.verdict_line.specs.Line.{nameOf, positionField, lineBytes, refuses, shows};
-ghost use Rattle.verdict_line.specs.Types.{printedLine};
+ghost use Rattle.verdict_text.specs.Line.{nameOf, positionField, lineBytes, lineMost, refuses, shows};
+ghost use Rattle.verdict_text.specs.Types.{printedLine};
 ghost use Rattle.words.specs.Placed.{Placed};
 
 // The bytes of the longest verdict, `Different`.
@@ -83,3 +84,8 @@ pub fn put_line(line: Line, out: &mut [u8]) -> usize
         Line::Shows(shown) => put_answer(shown, out),
     }
 }
+
+// Does nothing. Its contract says that the constant is the number that the definitions give its name.
+fn constants()
+    ensures { λ r. do ⌜ (← ⟦LINE_MOST⟧ .entry) ≡ lineMost ⌝ }
+{}

@@ -1,8 +1,8 @@
 -- `put_position` meets its contract, by the verdict.
 use borrow.Author.Needs.{needs}
 use Rattle.words.proofs.PlacedLaws.{placed-none}
-use Rattle.verdict_line.proofs.print.put_position.Statement.{statement}
-use Rattle.verdict_line.proofs.print.put_position.Tie as tie
+use Rattle.verdict_text.proofs.put_position.Statement.{statement}
+use Rattle.verdict_text.proofs.put_position.Tie as tie
 
 enum-told : tie.Need-enum-told
 enum-told c = search needs

@@ -3,8 +3,8 @@ use native.Mathlib.Omega.{arith}
 use lib.ListN.{length-append}
 use Rattle.words.proofs.PlacedLaws.{placed-append}
 use borrow.Author.Needs.{needs}
-use Rattle.verdict_line.proofs.print.put_answer.Statement.{statement}
-use Rattle.verdict_line.proofs.print.put_answer.Tie as tie
+use Rattle.verdict_text.proofs.put_answer.Statement.{statement}
+use Rattle.verdict_text.proofs.put_answer.Tie as tie
 
 -- The places after the pieces, each from the next one.
 abbrev called : tie.After-put-verdict → tie.Start

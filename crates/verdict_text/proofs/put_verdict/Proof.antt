@@ -1,7 +1,7 @@
 -- `put_verdict` meets its contract, by the verdict.
 use borrow.Author.Needs.{needs}
-use Rattle.verdict_line.proofs.print.put_verdict.Statement.{statement}
-use Rattle.verdict_line.proofs.print.put_verdict.Tie as tie
+use Rattle.verdict_text.proofs.put_verdict.Statement.{statement}
+use Rattle.verdict_text.proofs.put_verdict.Tie as tie
 
 enum-told : tie.Need-enum-told
 enum-told c = search needs

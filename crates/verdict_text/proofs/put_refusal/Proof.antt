@@ -3,8 +3,8 @@ use native.Mathlib.Omega.{arith}
 use lib.ListN.{length-append}
 use Rattle.words.proofs.PlacedLaws.{placed-append}
 use borrow.Author.Needs.{needs}
-use Rattle.verdict_line.proofs.print.put_refusal.Statement.{statement}
-use Rattle.verdict_line.proofs.print.put_refusal.Tie as tie
+use Rattle.verdict_text.proofs.put_refusal.Statement.{statement}
+use Rattle.verdict_text.proofs.put_refusal.Tie as tie
 
 slice-aggregate-put-bytes : tie.Need-slice-aggregate-put-bytes
 slice-aggregate-put-bytes c = search needs
