@@ -3,7 +3,8 @@ use Prim.Native.Nat.{ℕ}
 use mathlib.Core.List.{List}
 use Rattle.words.specs.declared.refusal.Refusal as codeRefusal
 use Rattle.words.specs.Types.{refusalOf}
-use Rattle.rounds.specs.Types.{verdictOf, shownOf}
+use Rattle.turn.specs.Types.{verdictOf}
+use Rattle.rounds.specs.Types.{shownOf}
 use Rattle.press.specs.declared.state.Session as codeSession
 use Rattle.press.specs.declared.answer.Answer as codeAnswer
 use Rattle.press.specs.declared.answer.Answer.the-variants as answer

@@ -2,7 +2,7 @@
 ghost use mathlib.Core.Path.{_≡_};
 ghost use Rattle.claim.specs.State.{fresh, affordable, totalLimit, budgetLimit};
 ghost use Rattle.press.specs.Types.{sessionOf};
-use rounds::Verdict;
+use turn::Verdict;
 
 // Total spent, both lengths and the last verdict.
 pub struct Session {

@@ -3,11 +3,11 @@ ghost use mathlib.Core.Path.{_≡_};
 ghost use Rattle.script.specs.Script.{sideNumber};
 use libc::STDOUT_FILENO;
 use press::answer::Answer;
-use rounds::Verdict;
 use script::Side;
 use script::calls::Kept;
 use script::calls::Report;
 use script::calls::chosen;
+use turn::Verdict;
 use words::refusal::Refusal;
 
 fn print(text: &[u8]) {

@@ -1,9 +1,9 @@
 -- The loop of the rounds: before each turn both workspaces hold the current terms, and the rounds still to make with what is left of the budget
 -- end in what all the rounds end in.
-use Prim.Native.Nat.{ℕ, _+_, _-_, _*_, _≤_, _<_}
+use Prim.Native.Nat.{ℕ, _+_, _-_, _*_, _≤_}
 use mathlib.Core.Path.{_≡_, refl, sym, _∙_, ap, subst, subst⁻¹}
 use mathlib.Core.List.{List, _++_}
-use mathlib.Core.Option.{some, none}
+use mathlib.Core.Option.{some}
 use native.Mathlib.Omega.{arith}
 use lib.ListN.{length, take, drop}
 use lib.Seq.{length-take-le}
@@ -11,29 +11,27 @@ use Rattle.calculus.specs.Term.{Term}
 use Rattle.calculus.specs.Words.{workspaceMost, words, size}
 use Rattle.calculus.specs.Accepted.{Accepted}
 use Rattle.calculus.specs.Workspace.{termAt}
-use Rattle.calculus.specs.Position.{contractAt}
 use Rattle.calculus.specs.Comparison.{Comparison, compareWords, compare, positionOf}
 use Rattle.calculus.specs.Rounds.{Verdict, shownPosition, shows, Round, ends, goes, round, next, nextLength, same, roundBy, ended, after, rounds}
-use Rattle.calculus.proofs.PositionLaws.{redex-first}
-use Rattle.calculus.proofs.ResumeLaws.{none-before, none-anywhere}
 use Rattle.calculus.proofs.AcceptedLaws.{leftmost-keeps-accepted}
 use Rattle.calculus.proofs.WorkspaceLaws.{termAt-words}
 use Rattle.redex.specs.Held.{held, Holds}
 use Rattle.search.specs.declared.Plan as code
 use Rattle.search.specs.Search as search
 use Rattle.search.specs.Search.{Searched}
-use Rattle.rounds.specs.Compare.{Agrees, Compares}
-use Rattle.rounds.specs.Turn.{Plan, lengthIn, planned, atOnce}
-use Rattle.rounds.specs.Resume.{resumeAt, agreeAfter, Agreeing}
+use Rattle.turn.specs.Compare.{Agrees, Compares}
+use Rattle.turn.specs.Turn.{Plan, lengthIn, planned, atOnce}
+use Rattle.resume.specs.Resume.{agreeAfter, Agreeing}
 use Rattle.rounds.specs.Advance.{Advances, Advanced}
 use Rattle.rounds.specs.Run.{Ready, Ran}
-use Rattle.rounds.proofs.CompareLaws.{agrees-none, compared-agrees}
+use Rattle.turn.proofs.CompareLaws.{agrees-none, compared-agrees}
 use Rattle.words.proofs.RoomLaws.{room-of-length}
 use Rattle.redex.proofs.HeldLaws.{held-term, holds-term, Start, termAt-start}
-use Rattle.rounds.proofs.AgreeLaws.{agree-after}
+use Rattle.resume.proofs.ResumeLaws.{resumes}
+use Rattle.resume.proofs.AgreeLaws.{agree-after}
 use Rattle.rounds.proofs.RunCode.{searched}
 use Rattle.calculus.proofs.RoundsLaws.{Goes, goes-on, goes-wider, Moves, here, further, rounds-end, rounds-go, walk-fits, after-zero, after-after}
-use Rattle.rounds.proofs.TurnLaws.{Planned, is-normal, contracts, planned-tells, next-is, next-normal, planned-length, asked}
+use Rattle.turn.proofs.TurnLaws.{Planned, is-normal, contracts, planned-tells, next-is, next-normal, planned-length, asked}
 
 begins : {ws : List ℕ} {n : ℕ} → Holds ws n → Start ws n (held ws n)
 begins {ws} {n} h = termAt-start ws n (held ws n) (h .term)
@@ -52,11 +50,6 @@ next-accepted t h = by (planned-tells t)
     by : {p : Plan} → Planned t p → Accepted 0 (next t)
     by (is-normal r l) = rw (next-normal t l) h
     by (contracts p u r c l) = rw (next-is t l) (leftmost-keeps-accepted 0 t u l h)
-
--- In the term after a side's part in a round no redex starts before the position to resume at.
-resumes : (t : Term) (n : ℕ) {plan : Plan} → Planned t plan → (q : ℕ) → q < resumeAt n plan → contractAt q (next t) ≡ none
-resumes t n (is-normal r l) q h = rw (next-normal t l) (none-anywhere t r q)
-resumes t n (contracts p u r c l) q h = rw (next-is t l) (none-before p t u c (redex-first t p .0 r .1) q h)
 
 -- A workspace after a side's part in a round.
 module _ {ws ws′ scratch scratch′ : List ℕ} {n r from : ℕ} {todo : code.Plan} (h : Holds ws n) (kept : length ws′ ≡ length ws)

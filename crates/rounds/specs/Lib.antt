@@ -1,7 +1,4 @@
--- The rounds of a press over workspaces: comparison, one round, and what is taken up again in the next one.
-pub mod Compare
-pub mod Turn
-pub mod Resume
+-- What the contracts of the rounds cite beside a round's judgement and what the next round takes up.
 pub mod Advance
 pub mod Run
 pub mod Types

@@ -1,25 +1,9 @@
--- What the code's types stand for: the verdict's, the comparison's and the round's enum case by case, what is shown, and what a side would do.
-use Rattle.calculus.specs.Comparison.{Comparison, equal, differ}
-use Rattle.calculus.specs.Rounds.{Verdict, Same, Different, Budget, Full, Shown, Round, ends, goes}
-use Rattle.search.specs.declared.Plan as codePlan
-use Rattle.search.specs.declared.Plan.the-variants as plan
-use Rattle.rounds.specs.declared.Verdict as code
-use Rattle.rounds.specs.declared.Verdict.the-variants as verdict
-use Rattle.rounds.specs.declared.Shown as codeShown
-use Rattle.rounds.specs.declared.compare.Comparison as codeComparison
-use Rattle.rounds.specs.declared.compare.Comparison.the-variants as comparison
-use Rattle.rounds.specs.declared.turn.Round as codeRound
-use Rattle.rounds.specs.declared.turn.Round.the-variants as round
-use Rattle.rounds.specs.Turn.{Plan, normal, contract}
+-- What the code's record of what is shown stands for.
+use Rattle.calculus.specs.Rounds.{Shown}
+use Rattle.turn.specs.Types.{verdictOf}
+use Rattle.rounds.specs.declared.Shown as code
 
--- The four verdicts.
-abbrev pub verdictOf : code.Verdict → Verdict
-verdictOf verdict.Same = Same
-verdictOf verdict.Different = Different
-verdictOf verdict.Budget = Budget
-verdictOf verdict.Full = Full
-
-abbrev pub shownOf : codeShown.Shown → Shown
+abbrev pub shownOf : code.Shown → Shown
 shownOf shown =
     record {
       verdict = verdictOf (shown .verdict);
@@ -28,16 +12,3 @@ shownOf shown =
       right = shown .right;
       position = shown .position;
     }
-
--- Equal, or the position where two terms differ.
-abbrev pub comparisonOf : codeComparison.Comparison → Comparison
-comparisonOf comparison.Equal = equal
-comparisonOf (comparison.Differ position) = differ position
-
-abbrev pub planOf : codePlan.Plan → Plan
-planOf plan.Normal = normal
-planOf (plan.Contract redex) = contract (redex .at) (redex .length)
-
-abbrev pub roundOf : codeRound.Round → Round
-roundOf (round.Ends verdict) = ends (verdictOf verdict)
-roundOf (round.Goes count) = goes count

@@ -4,26 +4,19 @@ ghost use Rattle.calculus.specs.Rounds.{rounds};
 ghost use Rattle.rounds.specs.Run.{Ready, Ran};
 ghost use Rattle.rounds.specs.Types.{shownOf};
 ghost use Rattle.redex.specs.Held.{held};
-use crate::compare::compare_terms;
-use crate::compare::position;
-use crate::turn::Round;
-use crate::turn::Side;
-use crate::turn::advance;
-use crate::turn::agreed;
-use crate::turn::judge;
-use crate::turn::shown_position;
+use resume::agreed;
 use search::find;
+use side::Side;
+use side::advance;
+use turn::Round;
+use turn::Verdict;
+use turn::compare::compare_terms;
+use turn::compare::position;
+use turn::judge;
+use turn::shown_position;
 use words::Word;
 
-mod compare;
-mod turn;
-
-pub enum Verdict {
-    Same,
-    Different,
-    Budget,
-    Full,
-}
+mod side;
 
 // What a press shows: the verdict, spent, both lengths and the position, where the terms differ with Different and otherwise 0.
 pub struct Shown {

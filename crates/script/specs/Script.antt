@@ -6,8 +6,8 @@ use mathlib.Core.List.{List, [], _∷_}
 use lib.Dec.{leb, ltb, eqb}
 use lib.ListN.{length, getD}
 use Rattle.calculus.specs.Words.{workspaceMost}
-use Rattle.rounds.specs.declared.Verdict.{Verdict}
-use Rattle.rounds.specs.declared.Verdict.the-variants as verdict
+use Rattle.turn.specs.declared.Verdict.{Verdict}
+use Rattle.turn.specs.declared.Verdict.the-variants as verdict
 use Rattle.records.specs.Records.{form1}
 use Rattle.script.specs.declared.Side.{Side}
 use Rattle.script.specs.declared.Side.the-variants as side

@@ -1,7 +1,7 @@
 // What a script asks: operations of words, one after the other. The first word of an operation is its number; one table tells how many
 // words each has, and one the largest number that each of its operands may be.
 use press::state::Session;
-use rounds::Verdict;
+use turn::Verdict;
 use words::Word;
 ghost use mathlib.Core.Path.{_≡_};
 ghost use Prim.Native.Nat.{_≤_, _<_};

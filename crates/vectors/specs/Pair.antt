@@ -6,12 +6,12 @@ use lib.Dec.{eqb, leb}
 use lib.ListN.{length, take, replicate}
 use Rattle.calculus.specs.Words.{workspaceMost}
 use Rattle.calculus.specs.Rounds.{Verdict, Full}
-use Rattle.rounds.specs.declared.Verdict.the-variants as verdict
+use Rattle.turn.specs.declared.Verdict.the-variants as verdict
 use Rattle.claim.specs.State.{Session, fresh}
 use Rattle.claim.specs.Answer.{Answer, Pressed}
 use Rattle.claim.specs.Press.{press}
 use Rattle.press.specs.Showing.{show, partBy}
-use Rattle.rounds.specs.Types.{verdictOf}
+use Rattle.turn.specs.Types.{verdictOf}
 use Rattle.press.specs.Types.{sessionOf, callOf}
 use Rattle.vector_text.specs.Text.{nowhere, after, numberAt, settingAt}
 use Rattle.vectors.specs.Keywords.{totalWord, leftWord, rightWord, scratchWord, pressWord, showWord}

@@ -1,14 +1,15 @@
 // The line that the verdict program prints.
 use rounds::Shown;
-use rounds::Verdict;
 use text::decimal::DIGITS_MOST;
 use text::decimal::put_bytes;
 use text::decimal::put_end;
 use text::decimal::put_field;
+use turn::Verdict;
 ghost use mathlib.Core.Path.{_≡_};
 ghost use Prim.Native.Nat.{_≤_, _+_};
 ghost use lib.ListN.{length};
-ghost use Rattle.rounds.specs.Types.{verdictOf, shownOf};
+ghost use Rattle.turn.specs.Types.{verdictOf};
+ghost use Rattle.rounds.specs.Types.{shownOf};
 ghost use Rattle.verdict_text.specs.Line.{nameOf, positionField, lineBytes, lineMost, refuses, shows};
 ghost use Rattle.verdict_text.specs.Types.{printedLine};
 ghost use Rattle.words.specs.Placed.{Placed};

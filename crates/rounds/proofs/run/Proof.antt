@@ -8,8 +8,8 @@ use borrow.Author.Needs.{needs}
 use Rattle.calculus.specs.Comparison.{compareWords}
 use Rattle.calculus.specs.Rounds.{Round, goes, shownPosition, same, roundBy}
 use Rattle.redex.specs.Held.{held}
-use Rattle.rounds.specs.Turn.{planned}
-use Rattle.rounds.specs.Types.{verdictOf, comparisonOf, planOf, roundOf}
+use Rattle.turn.specs.Turn.{planned}
+use Rattle.turn.specs.Types.{verdictOf, comparisonOf, planOf, roundOf}
 use Rattle.rounds.proofs.RunCode.{plan-is}
 use Rattle.rounds.proofs.RunLoop.{Going, going-first, left-room, right-room, compares, judged, agreeing, ran, spends, left-advances, right-advances, going-on}
 use Rattle.rounds.proofs.run.Statement.{statement}

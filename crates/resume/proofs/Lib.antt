@@ -1,0 +1,2 @@
+pub mod ResumeLaws
+pub mod AgreeLaws

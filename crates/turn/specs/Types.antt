@@ -1,0 +1,32 @@
+-- What the code's types stand for: the verdict's, the comparison's and the round's enum case by case, and what a side would do.
+use Rattle.calculus.specs.Comparison.{Comparison, equal, differ}
+use Rattle.calculus.specs.Rounds.{Verdict, Same, Different, Budget, Full, Round, ends, goes}
+use Rattle.search.specs.declared.Plan as codePlan
+use Rattle.search.specs.declared.Plan.the-variants as plan
+use Rattle.turn.specs.declared.Verdict as code
+use Rattle.turn.specs.declared.Verdict.the-variants as verdict
+use Rattle.turn.specs.declared.compare.Comparison as codeComparison
+use Rattle.turn.specs.declared.compare.Comparison.the-variants as comparison
+use Rattle.turn.specs.declared.Round as codeRound
+use Rattle.turn.specs.declared.Round.the-variants as round
+use Rattle.turn.specs.Turn.{Plan, normal, contract}
+
+-- The four verdicts.
+abbrev pub verdictOf : code.Verdict → Verdict
+verdictOf verdict.Same = Same
+verdictOf verdict.Different = Different
+verdictOf verdict.Budget = Budget
+verdictOf verdict.Full = Full
+
+-- Equal, or the position where two terms differ.
+abbrev pub comparisonOf : codeComparison.Comparison → Comparison
+comparisonOf comparison.Equal = equal
+comparisonOf (comparison.Differ position) = differ position
+
+abbrev pub planOf : codePlan.Plan → Plan
+planOf plan.Normal = normal
+planOf (plan.Contract redex) = contract (redex .at) (redex .length)
+
+abbrev pub roundOf : codeRound.Round → Round
+roundOf (round.Ends verdict) = ends (verdictOf verdict)
+roundOf (round.Goes count) = goes count
