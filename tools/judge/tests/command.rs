@@ -312,7 +312,10 @@ if cmp -s source target/stamp/verdict; then
     exit
 fi
 echo 'what the prover has to say' >&2
-echo 'rt: words proved (unchanged since it was last proved)'
+for name in calculus words terms; do
+    echo \"rt: $name proved (unchanged since it was last proved)\"
+done
+echo 'rt: rounds proved (4 s)'
 echo 'rt: press proved (2 s)'
 if grep -q wrong source; then
     echo 'rt: verdict NOT PROVED (exit 1, 3 s)'
@@ -326,6 +329,17 @@ cp source target/stamp/verdict
 echo 'rt: verdict proved (3 s)'
 ";
 
+/// The crates that RT speaks of, and one that the program does not need.
+const CRATES: &str = "\
+calculus:
+words: calculus
+terms: words
+rounds: words
+press: terms rounds
+vectors: press
+verdict: press io
+";
+
 /// A repository of its own, whose program is built by RT.
 struct Repository {
     root: PathBuf,
@@ -336,7 +350,7 @@ impl Repository {
         let root = Path::new(env!("CARGO_TARGET_TMPDIR")).join(name);
         let _ = fs::remove_dir_all(&root);
         fs::create_dir_all(root.join("below")).expect("a folder in the repository");
-        fs::write(root.join("crates.txt"), "").expect("a list of crates");
+        fs::write(root.join("crates.txt"), CRATES).expect("a list of crates");
         fs::write(root.join("source"), source).expect("a source");
         Repository { root }
     }
@@ -375,8 +389,7 @@ fn the_program_is_built_once_and_its_progress_told() {
         message,
         format!(
             "judge: proving and building the program first, which can take minutes (log: {})\n\
-             judge: press proved (2 s)\n\
-             judge: verdict proved (3 s)\n",
+             judge: 5 of 6 crates proved\n",
             log.display()
         )
     );
@@ -439,7 +452,7 @@ fn a_deleted_program_is_built_again() {
     fs::remove_file(repository.root.join("target/bin/verdict")).expect("it is there");
     let (status, output, message) = repository.judge();
     assert_eq!((status, output.as_str()), (0, "Same 0 1 1\n"), "{message}");
-    assert!(message.ends_with("judge: verdict proved (3 s)\n"));
+    assert!(message.ends_with("judge: 5 of 6 crates proved\n"));
 }
 
 #[test]

@@ -10,6 +10,8 @@ use std::time::Duration;
 
 /// The list of crates, which stands at the root.
 const CRATES: &str = "crates.txt";
+/// The crate that is the program.
+const NAME: &str = "verdict";
 const PROGRAM: &str = "target/bin/verdict";
 /// What makes rt take the program for built, even where it is gone.
 const STAMP: &str = "target/stamp/verdict";
@@ -18,6 +20,9 @@ const LOG: &str = "target/log/judge.out";
 
 /// With nothing to prove, rt says its first word sooner than this.
 const SOON: Duration = Duration::from_secs(2);
+
+/// So many crates are proved from one line of progress to the next.
+const CRATES_A_LINE: usize = 5;
 
 /// The root of the repository that the folder lies in.
 pub fn find(folder: &Path) -> Option<PathBuf> {
@@ -41,7 +46,7 @@ pub fn program(root: &Path, tell: &mut dyn FnMut(&str)) -> Result<PathBuf, Strin
         let _ = fs::remove_file(root.join(STAMP));
     }
     let checked = match start(root) {
-        Ok(child) => watch(child, &root.join(LOG), tell),
+        Ok(child) => watch(child, root, tell),
         Err(error) if error.kind() == ErrorKind::NotFound => return unchecked(program, tell),
         Err(error) => Err(error),
     };
@@ -68,19 +73,22 @@ fn unchecked(program: PathBuf, tell: &mut dyn FnMut(&str)) -> Result<PathBuf, St
 
 fn start(root: &Path) -> io::Result<Child> {
     let mut rt = Command::new("rt");
-    rt.args(["check", "verdict"]).current_dir(root);
+    rt.args(["check", NAME]).current_dir(root);
     rt.stdin(Stdio::null()).stdout(Stdio::piped());
     rt.stderr(Stdio::piped()).spawn()
 }
 
 /// Waits for rt: all that it prints goes to the log, its progress to `tell`.
-fn watch(mut rt: Child, log: &Path, tell: &mut dyn FnMut(&str)) -> io::Result<ExitStatus> {
+fn watch(mut rt: Child, root: &Path, tell: &mut dyn FnMut(&str)) -> io::Result<ExitStatus> {
     let lines = lines(&mut rt);
+    let log = root.join(LOG);
     let mut progress = Progress {
-        log: log.to_path_buf(),
+        log: log.clone(),
+        needed: needed(&fs::read_to_string(root.join(CRATES))?, NAME),
+        proved: 0,
         is_told: false,
     };
-    fs::create_dir_all(log.parent().unwrap_or(log))?;
+    fs::create_dir_all(log.parent().unwrap_or(&log))?;
     let mut log = File::create(log)?;
     loop {
         match lines.recv_timeout(SOON) {
@@ -113,9 +121,25 @@ fn lines(child: &mut Child) -> Receiver<String> {
     receiver
 }
 
+/// How many crates of a list, which has the lowest first, a crate needs, itself among them.
+fn needed(list: &str, name: &str) -> usize {
+    let mut wanted = vec![name];
+    let mut count = 0;
+    for (name, needs) in list.lines().rev().filter_map(|line| line.split_once(':')) {
+        if wanted.contains(&name.trim()) {
+            count += 1;
+            wanted.extend(needs.split_whitespace());
+        }
+    }
+    count
+}
+
 /// What of rt's log the user is told.
 struct Progress {
     log: PathBuf,
+    /// Crates that the program needs, and those of them that are proved, now or before.
+    needed: usize,
+    proved: usize,
     is_told: bool,
 }
 
@@ -134,10 +158,87 @@ impl Progress {
         let Some(said) = line.strip_prefix("rt: ") else {
             return;
         };
-        let is_new = said.contains(" proved (") && !said.contains("(unchanged");
-        if is_new || said.contains("NOT PROVED") {
+        if said.contains("NOT PROVED") {
             self.start(tell);
             tell(said);
+        } else if said.contains(" proved (") {
+            self.proved += 1;
+            if !said.contains("(unchanged") {
+                self.start(tell);
+            }
+            if self.is_told && self.proved % CRATES_A_LINE == 0 {
+                tell(&format!("{} of {} crates proved", self.proved, self.needed));
+            }
         }
+    }
+}
+
+#[cfg(test)]
+mod tests {
+    use super::*;
+
+    const LIST: &str = "\
+# A line for each crate, lowest first.
+low:
+side: low
+middle: low io
+
+high: middle
+";
+
+    #[test]
+    fn the_crates_below_a_crate_are_counted_once() {
+        assert_eq!(needed(LIST, "low"), 1);
+        assert_eq!(needed(LIST, "middle"), 2);
+        assert_eq!(needed(LIST, "high"), 3);
+        assert_eq!(needed(LIST, "io"), 0);
+        assert_eq!(needed("a:\nb: a\nc: a\nd: b c\n", "d"), 4);
+    }
+
+    /// What is told of these lines, with six crates needed.
+    fn told(lines: &[&str]) -> Vec<String> {
+        let mut progress = Progress {
+            log: PathBuf::from("log"),
+            needed: 6,
+            proved: 0,
+            is_told: false,
+        };
+        let mut told = Vec::new();
+        for line in lines {
+            progress.line(line, &mut |text| told.push(text.to_string()));
+        }
+        told
+    }
+
+    const STARTED: &str =
+        "proving and building the program first, which can take minutes (log: log)";
+    const NEW: &str = "rt: words proved (2 s)";
+    const OLD: &str = "rt: words proved (unchanged since it was last proved)";
+
+    #[test]
+    fn every_fifth_crate_is_told() {
+        assert_eq!(told(&[NEW; 4]), [STARTED]);
+        assert_eq!(told(&[NEW; 5]), [STARTED, "5 of 6 crates proved"]);
+        assert_eq!(told(&[NEW; 6]), [STARTED, "5 of 6 crates proved"]);
+    }
+
+    #[test]
+    fn crates_that_were_proved_before_count_but_are_not_told_alone() {
+        assert_eq!(told(&[OLD; 6]), [""; 0]);
+        assert_eq!(
+            told(&[OLD, OLD, OLD, OLD, NEW, NEW]),
+            [STARTED, "5 of 6 crates proved"]
+        );
+        assert_eq!(told(&[OLD, OLD, OLD, OLD, OLD, NEW]), [STARTED]);
+    }
+
+    #[test]
+    fn a_crate_that_is_not_proved_is_told_at_once() {
+        let failed = "rt: words NOT PROVED (exit 1, 3 s)";
+        assert_eq!(
+            told(&[failed, NEW]),
+            [STARTED, "words NOT PROVED (exit 1, 3 s)"]
+        );
+        assert_eq!(told(&["words proved (2 s)", "note"]), [""; 0]);
     }
 }
