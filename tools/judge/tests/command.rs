@@ -9,6 +9,7 @@ use std::os::unix::fs::{symlink, PermissionsExt};
 use std::path::{Path, PathBuf};
 use std::process::{Command, Output, Stdio};
 use std::sync::OnceLock;
+use std::thread;
 
 /// Prints the words of its input on one line.
 const ECHO: &str = "#!/bin/sh\necho $(od -An -v -tu4)\n";
@@ -302,10 +303,12 @@ fn a_folder_that_is_no_repository_is_left_alone() {
 }
 
 /// Stands in for rt: builds a program from the file `source` unless its stamp is of that source. What
-/// stands on standard input is not for it.
+/// stands on standard input is not for it, and it does not work beside another one.
 const RT: &str = "#!/bin/sh
 [ \"$*\" = 'check verdict' ] || exit 2
 [ -z \"$(cat)\" ] || exit 2
+mkdir working || exit 2
+trap 'rmdir working' EXIT
 grep -q slow source && sleep 2.5
 if cmp -s source target/stamp/verdict; then
     echo 'rt: verdict proved (unchanged since it was last proved)'
@@ -443,6 +446,24 @@ fn a_silent_build_is_announced() {
         "{message}"
     );
     assert_eq!(message.lines().count(), 1, "{message}");
+}
+
+#[test]
+fn several_at_once_wait_for_each_other() {
+    let source = Repository::prints("Same 0 1 1") + "# slow\n";
+    let repository = Repository::new("parallel", &source);
+    let answers: Vec<_> = thread::scope(|scope| {
+        let judges: Vec<_> = (0..3).map(|_| scope.spawn(|| repository.judge())).collect();
+        let ended = judges.into_iter().map(|judge| judge.join());
+        ended.map(|answer| answer.expect("judge runs")).collect()
+    });
+    let waiting = "judge: waiting for another judge, which is building the program\n";
+    let mut waited = 0;
+    for (status, output, message) in &answers {
+        assert_eq!((*status, output.as_str()), (0, "Same 0 1 1\n"), "{message}");
+        waited += usize::from(message.contains(waiting));
+    }
+    assert_eq!(waited, 2, "{answers:?}");
 }
 
 #[test]

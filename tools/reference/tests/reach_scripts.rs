@@ -23,7 +23,7 @@ fn word(bytes: &[u8], place: usize) -> Option<u32> {
 /// Why bytes are no input, by the side whose table is wrong first.
 fn look_at_bytes(bytes: &[u8], census: &mut Census) {
     census.meet_if(bytes.is_empty(), "no byte");
-    census.meet_if(bytes.len() % 4 != 0, "no whole words");
+    census.meet_if(!bytes.len().is_multiple_of(4), "no whole words");
     let mut at = 2;
     for side in ["left", "right"] {
         let Some(count) = word(bytes, at) else {

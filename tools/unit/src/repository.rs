@@ -1,12 +1,12 @@
 //! The repository that holds the unit, and its program built from the sources as they are.
 
-use std::fs::{self, File};
+use std::fs::{self, File, TryLockError};
 use std::io::{self, BufRead, BufReader, ErrorKind, Write};
 use std::path::{Path, PathBuf};
 use std::process::{Child, Command, ExitStatus, Stdio};
 use std::sync::mpsc::{self, Receiver, RecvTimeoutError};
 use std::thread;
-use std::time::Duration;
+use std::time::{Duration, Instant};
 
 /// The list of crates, which stands at the root.
 const CRATES: &str = "crates.txt";
@@ -18,8 +18,13 @@ const STAMP: &str = "target/stamp/verdict";
 /// All that rt printed when it was last asked for the program.
 const LOG: &str = "target/log/judge.out";
 
+/// Locked while rt works: two of them in one repository would take each other's results for their own.
+const LOCK: &str = "target/judge.lock";
+
 /// With nothing to prove, rt says its first word sooner than this.
 const SOON: Duration = Duration::from_secs(2);
+/// Between two looks at a lock that another process has.
+const PAUSE: Duration = Duration::from_millis(20);
 
 /// So many crates are proved from one line of progress to the next.
 const CRATES_A_LINE: usize = 5;
@@ -41,8 +46,9 @@ pub fn program(root: &Path, tell: &mut dyn FnMut(&str)) -> Result<PathBuf, Strin
         ));
     }
     let program = root.join(PROGRAM);
+    // Where it cannot be locked, or the stamp not removed, rt builds nothing, and that is found below.
+    let _held = hold(&root.join(LOCK), tell);
     if !program.is_file() {
-        // Where it cannot be removed rt builds nothing, and that is found below.
         let _ = fs::remove_file(root.join(STAMP));
     }
     let checked = match start(root) {
@@ -57,6 +63,25 @@ pub fn program(root: &Path, tell: &mut dyn FnMut(&str)) -> Result<PathBuf, Strin
             root.join(LOG).display()
         )),
         Err(error) => Err(format!("`rt check verdict` cannot be followed: {error}")),
+    }
+}
+
+/// Waits until no other process has the lock. It is free again when the file is dropped.
+fn hold(lock: &Path, tell: &mut dyn FnMut(&str)) -> io::Result<File> {
+    fs::create_dir_all(lock.parent().unwrap_or(lock))?;
+    let file = File::create(lock)?;
+    let start = Instant::now();
+    let mut is_told = false;
+    loop {
+        match file.try_lock() {
+            Ok(()) => return Ok(file),
+            Err(TryLockError::WouldBlock) => thread::sleep(PAUSE),
+            Err(TryLockError::Error(error)) => return Err(error),
+        }
+        if !is_told && start.elapsed() > SOON {
+            is_told = true;
+            tell("waiting for another judge, which is building the program");
+        }
     }
 }
 
@@ -125,7 +150,8 @@ fn lines(child: &mut Child) -> Receiver<String> {
 fn needed(list: &str, name: &str) -> usize {
     let mut wanted = vec![name];
     let mut count = 0;
-    for (name, needs) in list.lines().rev().filter_map(|line| line.split_once(':')) {
+    let lines = list.lines().rev().map(|line| line.split('#').next());
+    for (name, needs) in lines.filter_map(|line| line?.split_once(':')) {
         if wanted.contains(&name.trim()) {
             count += 1;
             wanted.extend(needs.split_whitespace());
@@ -166,7 +192,7 @@ impl Progress {
             if !said.contains("(unchanged") {
                 self.start(tell);
             }
-            if self.is_told && self.proved % CRATES_A_LINE == 0 {
+            if self.is_told && self.proved.is_multiple_of(CRATES_A_LINE) {
                 tell(&format!("{} of {} crates proved", self.proved, self.needed));
             }
         }

@@ -61,7 +61,7 @@ fn line(bytes: &[u8], answer: fn(&Request) -> Result<Answer, u32>) -> String {
 }
 
 fn read(bytes: &[u8]) -> Option<Request> {
-    if bytes.len() % 4 != 0 {
+    if !bytes.len().is_multiple_of(4) {
         return None;
     }
     let words = bytes.chunks_exact(4);
