@@ -3,10 +3,10 @@
 mod common;
 
 use common::loaded;
-use reference::contraction::church;
+use reference::contraction::{church, step};
 use reference::generate::damage::{faulty_numeral, faulty_table, FAULTS};
 use reference::generate::inputs::{self, Aim};
-use reference::generate::pairs::{near_trial, numeral_trial, pair, trial, Trial};
+use reference::generate::pairs::{named, near_trial, numeral_trial, pair, trial, Trial};
 use reference::generate::tables::{term_table, Order};
 use reference::generate::terms::{replace, subterms, term, Style};
 use reference::generate::{families, near, scripts};
@@ -18,7 +18,7 @@ use reference::random::Random;
 use reference::refusal::Refusal;
 use reference::replay::VERDICTS;
 use reference::table::write;
-use reference::term::{abs, app, con, var, Term};
+use reference::term::{abs, app, branch, case, con, var, Term};
 use reference::words::{read, words};
 use std::collections::{HashMap, HashSet};
 
@@ -214,18 +214,36 @@ fn every_outcome_has_its_share_of_the_aims() {
 }
 
 #[test]
+fn near_pairs_have_normal_forms_that_differ_late() {
+    let late = |case: &u64| {
+        let (left, right) = near::pair(&mut Random::new(13, *case));
+        let end = rounds(left, right, 2_048, 300);
+        end.verdict == Verdict::Different && end.position() > 0
+    };
+    let late = on_large_stack(|| (0..400).filter(late).count());
+    assert!(late >= 360, "{late}");
+}
+
+#[test]
 fn near_trials_give_different_behind_equal_words() {
-    let late = on_large_stack(|| {
-        let mut late = 0;
+    let (late, larger) = on_large_stack(|| {
+        let (mut late, mut larger) = (0, [0; 2]);
         for case in 0..400 {
             let trial = near_trial(&mut Random::new(13, case));
             let end = rounds(trial.left, trial.right, trial.capacity, trial.budget);
             assert_eq!(end.verdict, Verdict::Different);
             late += usize::from(end.position() > 0);
+            let [left, right] = [&end.left, &end.right].map(words);
+            let at = end.position() as usize;
+            if left[at] % 8 == 5 && right[at] % 8 == 5 {
+                larger[usize::from(left[at] < right[at])] += 1;
+            }
         }
-        late
+        (late, larger)
     });
     assert!(late >= 360, "{late}");
+    // A branch is changed to one with a larger word, on either side.
+    assert!(larger.iter().all(|count| *count >= 5), "{larger:?}");
 }
 
 #[test]
@@ -261,4 +279,88 @@ fn changed_terms_stay_terms() {
         let whole = |term: &Term| term.size() <= 2_048 && read(&words(term)).is_some();
         assert!(whole(&left) && whole(&right));
     });
+}
+
+/// All that many changes make of a term, each of them accepted.
+fn changes(whole: &Term, style: Style) -> Vec<Term> {
+    let change = |case| near::changed(&mut Random::new(7, case), whole, style);
+    let changes: Vec<Term> = (0..2_000).map(change).collect();
+    let accepted = |term: &Term| read(&words(term)).as_ref() == Some(term);
+    assert!(changes.iter().all(accepted), "{whole:?}");
+    changes
+}
+
+/// Variables, abstractions and applications.
+const PLAIN: Style = Style {
+    redexes: 0,
+    data: 0,
+    free: 0,
+    numerals: 0,
+    aim: None,
+};
+
+fn assert_changes(whole: &Term, made: &[Term]) {
+    let changes = changes(whole, PLAIN);
+    for term in made {
+        assert!(changes.contains(term), "{whole:?} {term:?}");
+    }
+}
+
+#[test]
+fn a_variable_is_changed_to_others_and_to_longer_terms() {
+    // In place of the same variable comes a constructor.
+    let others = [var(1), con(1, Vec::new()), abs(var(0))];
+    assert_changes(&var(0), &others);
+}
+
+#[test]
+fn a_constructor_is_changed_in_its_tag_and_its_arguments() {
+    let of = |tag, count| con(tag, vec![var(0); count]);
+    assert_changes(&of(3, 0), &[of(4, 0), of(3, 1)]);
+    assert_changes(&of(3, 2), &[of(4, 2), of(3, 1), of(3, 3)]);
+    assert_changes(&of(255, 15), &[of(1, 15), of(255, 14)]);
+}
+
+#[test]
+fn a_case_is_changed_in_its_branches() {
+    let of = |heads: &[(u32, u32)]| {
+        let branches = heads.iter().map(|head| branch(head.0, head.1, var(0)));
+        case(var(0), branches.collect())
+    };
+    assert_changes(&of(&[]), &[of(&[(1, 0)])]);
+    let others = [&[(4, 1)][..], &[(3, 2)], &[(3, 1), (4, 0)], &[]];
+    assert_changes(&of(&[(3, 1)]), &others.map(of));
+    assert_changes(&of(&[(255, 15)]), &[of(&[])]);
+    let most: Vec<(u32, u32)> = (1..=15).map(|tag| (tag, 0)).collect();
+    assert_changes(&of(&most), &[of(&most[..14])]);
+}
+
+#[test]
+fn a_change_puts_in_no_redex() {
+    // Arguments of a constructor make no redex with what is around them.
+    let whole = con(1, vec![var(0); 15]);
+    for data in [0, 80] {
+        let style = Style {
+            redexes: 80,
+            data,
+            ..PLAIN
+        };
+        let changes = changes(&whole, style);
+        assert!(changes.iter().all(|term| step(term).is_none()));
+    }
+}
+
+#[test]
+fn a_function_of_any_part_under_no_binder_contracts_to_the_term() {
+    // f0 (\ f0): the last variable is under a binder.
+    let whole = app(var(0), abs(var(1)));
+    let mut parts = Vec::new();
+    for case in 0..100 {
+        let (function, part) = named(&mut Random::new(7, case), &whole);
+        assert_eq!(step(&app(function, part.clone())).as_ref(), Some(&whole));
+        parts.push(part);
+    }
+    for part in [&whole, &var(0), &abs(var(1))] {
+        assert!(parts.contains(part), "{part:?}");
+    }
 }

@@ -6,8 +6,10 @@ mod common;
 use common::census::Census;
 use common::flat_position;
 use common::presses::{of_inputs, of_scripts, Press};
+use reference::generate::scripts;
 use reference::on_large_stack;
-use reference::press::{Answer, Verdict};
+use reference::press::{Answer, Side, Verdict};
+use reference::replay::{run_watched, Event, Operation};
 use std::cmp::Ordering;
 
 /// What was met: where forms differ, in what they do, and how presses follow
@@ -168,4 +170,36 @@ fn scripts_reach_every_difference() {
     met.words.assert_reaches(10, &WORDS);
     let following = ["the same", "another", "Same", "Budget", "Full"];
     met.following.assert_reaches(5, &following);
+}
+
+#[test]
+fn scripts_about_forms_apart() {
+    let met = on_large_stack(|| {
+        let mut met = Census::default();
+        // The last of nine subjects.
+        for case in (8..1_350).step_by(9) {
+            let mut sides = Vec::new();
+            let transcript = run_watched(&scripts::script(53, case), |_, operation| {
+                if let Operation::Load { side, .. } = operation {
+                    sides.push(*side);
+                }
+            });
+            let answers = transcript.events.iter().filter_map(|event| match event {
+                Event::Press(Ok(answer)) => Some(*answer),
+                _ => None,
+            });
+            let answers: Vec<Answer> = answers.collect();
+            let parts = |first: &Answer| first.verdict == Verdict::Budget && first.spent > 0;
+            met.meet_if(answers.first().is_some_and(parts), "pressed in parts");
+            let different = |answer: &&Answer| answer.verdict == Verdict::Different;
+            let apart = answers.iter().find(different);
+            let behind = apart.is_some_and(|answer| answer.position > 0);
+            met.meet_if(behind, "behind equal words");
+            met.meet_if(sides.get(2) == Some(&Side::Left), "left again");
+            met.meet_if(sides.get(2) == Some(&Side::Right), "right again");
+        }
+        met
+    });
+    met.assert_meets(20, &["pressed in parts", "left again", "right again"]);
+    met.assert_meets(140, &["behind equal words"]);
 }

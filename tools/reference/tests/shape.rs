@@ -4,7 +4,7 @@ mod common;
 
 use common::workspace;
 use reference::replay::{Machine, Operation};
-use reference::shape::{of_call, Shape};
+use reference::shape::{of_call, Shape, SHAPES};
 
 /// What comes of a press in workspaces of `capacity` words.
 fn pressing(left: &[u32], right: &[u32], capacity: usize, budget: u32) -> Vec<Shape> {
@@ -19,15 +19,17 @@ fn pressing(left: &[u32], right: &[u32], capacity: usize, budget: u32) -> Vec<Sh
     of_call(&machine, &press)
 }
 
-/// A press of normal forms.
-fn apart(left: &[u32], right: &[u32]) -> Vec<Shape> {
-    pressing(left, right, 512, 0)
+/// A press of normal forms, whichever is left.
+fn apart(one: &[u32], other: &[u32]) -> Vec<Shape> {
+    let shapes = pressing(one, other, 512, 0);
+    assert_eq!(pressing(other, one, 512, 0), shapes);
+    shapes
 }
 
 #[test]
 fn forms_that_differ_at_once() {
     assert_eq!(apart(&[0], &[8]), []);
-    assert_eq!(apart(&[0], &[1, 0]), []);
+    assert_eq!(apart(&[0], &[1, 8]), []);
     // 1(f0) and 2(f1).
     assert_eq!(apart(&[139, 0], &[267, 8]), [Shape::Several]);
     assert_eq!(apart(&[0], &[0]), []);
@@ -44,7 +46,7 @@ fn forms_that_differ_behind_equal_words() {
     let last = [Shape::Behind, Shape::LastWord, Shape::EqualLengths];
     assert_eq!(apart(&three, &[155, 0, 8, 0]), last);
     let last = [Shape::Behind, Shape::LastWord, Shape::UnequalLengths];
-    assert_eq!(apart(&three, &[155, 0, 8, 1, 0]), last);
+    assert_eq!(apart(&three, &[155, 0, 8, 1, 8]), last);
     // Words 1 and 2 differ, 3 does not.
     let unequal = [Shape::Behind, Shape::UnequalLengths, Shape::Several];
     assert_eq!(apart(&[155, 0, 8, 8], &[155, 1, 0, 8, 8]), unequal);
@@ -88,9 +90,31 @@ fn other_verdicts() {
     assert_eq!(pressing(&left, &[0], 16, 0), []);
     assert_eq!(pressing(&left, &[0], 16, 1), []);
     assert_eq!(pressing(&left, &left, 16, 0), []);
+    // 1((\ 0) f0, 7) differs from 1(f0, f1) at words 1 and 2, and 1(f0, 7) at
+    // word 2 alone; 1((\ 0) f0, f1) comes to be equal.
+    let redex = |last| [147, 2, 1, 0, 0, last];
+    assert_eq!(pressing(&redex(62), &right, 16, 0), [Shape::Budget]);
+    assert_eq!(pressing(&redex(62), &right, 16, 1), [Shape::Budget]);
+    assert_eq!(pressing(&redex(8), &right, 16, 1), []);
     // Refused.
     assert_eq!(pressing(&left, &right, 15, 0), []);
     assert_eq!(pressing(&left, &right, 16, 1_000_001), []);
     let show = Operation::Show { lengths: (1, 1) };
     assert_eq!(of_call(&Machine::new(16, 16), &show), []);
+}
+
+#[test]
+fn names() {
+    let names = [
+        "press Different behind equal words",
+        "press Different behind 100 equal words",
+        "press Different at the shorter's last word",
+        "press Different at equal lengths",
+        "press Different at unequal lengths",
+        "press Different elsewhere than before",
+        "press Different at several words",
+        "press Budget behind equal words",
+        "press Full behind equal words",
+    ];
+    assert_eq!(SHAPES.map(|shape| shape.to_string()), names);
 }

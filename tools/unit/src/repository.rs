@@ -219,6 +219,7 @@ high: middle
         assert_eq!(needed(LIST, "high"), 3);
         assert_eq!(needed(LIST, "io"), 0);
         assert_eq!(needed("a:\nb: a\nc: a\nd: b c\n", "d"), 4);
+        assert_eq!(needed(" a:\n\tb :  a\n", "b"), 2);
     }
 
     /// What is told of these lines, with six crates needed.
@@ -256,6 +257,17 @@ high: middle
             [STARTED, "5 of 6 crates proved"]
         );
         assert_eq!(told(&[OLD, OLD, OLD, OLD, OLD, NEW]), [STARTED]);
+    }
+
+    #[test]
+    fn runs_and_the_last_line_are_no_crates() {
+        for other in [
+            "rt: words proved, and its run FAILED (1 s)",
+            "rt: words ran, and wrote what its file 'stdout' has (1 s)",
+            "rt: ok, 4 crates proved",
+        ] {
+            assert_eq!(told(&[NEW, NEW, NEW, NEW, other]), [STARTED], "{other}");
+        }
     }
 
     #[test]
