@@ -220,6 +220,7 @@ high: middle
         assert_eq!(needed(LIST, "io"), 0);
         assert_eq!(needed("a:\nb: a\nc: a\nd: b c\n", "d"), 4);
         assert_eq!(needed(" a:\n\tb :  a\n", "b"), 2);
+        assert_eq!(needed("a:\nb:\nc: a # b\n# c: a\n", "c"), 2);
     }
 
     /// What is told of these lines, with six crates needed.
