@@ -74,11 +74,11 @@ pub fn read(arguments: &[&str]) -> Result<Task, Failure> {
         } else {
             let mut option = Argument::new(argument, &mut rest);
             match option.name {
-                "--help" | "-h" => return Ok(Task::Help),
-                "--version" | "-V" => return Ok(Task::Version),
-                "--table" => mode = option.mode(Mode::Table)?,
-                "--show-words" => mode = option.mode(Mode::Words)?,
-                "--text" => mode = option.mode(Mode::Text)?,
+                "--help" | "-h" => return option.is_alone().map(|_| Task::Help),
+                "--version" | "-V" => return option.is_alone().map(|_| Task::Version),
+                "--table" => mode = option.mode(mode, Mode::Table)?,
+                "--show-words" => mode = option.mode(mode, Mode::Words)?,
+                "--text" => mode = option.mode(mode, Mode::Text)?,
                 "--exit-code" => settings.exit_code = option.is_alone()?,
                 "--budget" => settings.budget = option.number()?,
                 "--words" => settings.words = option.number()?,
@@ -114,8 +114,16 @@ impl<'a, 'r> Argument<'a, 'r> {
         }
     }
 
-    fn mode(&self, mode: Mode) -> Result<Mode, Failure> {
-        self.is_alone().map(|_| mode)
+    /// The mode that it asks for, unless an option before it asked for one.
+    fn mode(&self, before: Mode, mode: Mode) -> Result<Mode, Failure> {
+        self.is_alone()?;
+        if before == Mode::Judge {
+            return Ok(mode);
+        }
+        Err(Failure::usage(format!(
+            "{} and another option ask for two things at once",
+            self.name
+        )))
     }
 
     fn value(&mut self) -> Result<&'a str, Failure> {

@@ -457,7 +457,8 @@ fn several_at_once_wait_for_each_other() {
         let ended = judges.into_iter().map(|judge| judge.join());
         ended.map(|answer| answer.expect("judge runs")).collect()
     });
-    let waiting = "judge: waiting for another judge, which is building the program\n";
+    let waiting =
+        "judge: waiting for another judge in this repository; with --program none waits\n";
     let mut waited = 0;
     for (status, output, message) in &answers {
         assert_eq!((*status, output.as_str()), (0, "Same 0 1 1\n"), "{message}");
@@ -683,6 +684,16 @@ fn bad_usage_is_status_2() {
         (&["--fast", "0", "0"], "--fast is no option"),
         (&["--exit-code=1", "0", "0"], "--exit-code takes no value"),
         (&["--table=0"], "--table takes no value"),
+        (&["--help=1"], "--help takes no value"),
+        (&["--version=1"], "--version takes no value"),
+        (
+            &["--show-words", "--table", "0"],
+            "--table and another option ask for two things at once",
+        ),
+        (
+            &["--table", "--text", "0"],
+            "--text and another option ask for two things at once",
+        ),
         (&["--table"], "one term in single quotes is needed"),
         (
             &["--show-words", "0", "1"],

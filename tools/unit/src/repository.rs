@@ -80,7 +80,7 @@ fn hold(lock: &Path, tell: &mut dyn FnMut(&str)) -> io::Result<File> {
         }
         if !is_told && start.elapsed() > SOON {
             is_told = true;
-            tell("waiting for another judge, which is building the program");
+            tell("waiting for another judge in this repository; with --program none waits");
         }
     }
 }
