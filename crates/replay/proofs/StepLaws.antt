@@ -1,8 +1,9 @@
 -- A script word by word: what a further word comes to in the lent slices, and a piece of words one after the other.
-use Prim.Native.Nat.{ℕ, zero, suc, _+_, _*_, _-_, _≤_, _<_}
+use Prim.Native.Nat.{ℕ, zero, suc, _+_, _*_, _/_, _-_, _≤_, _<_}
 use mathlib.Core.Path.{_≡_, refl, sym, _∙_, ap, subst}
 use mathlib.Core.Bool.{Bool, true, false}
 use mathlib.Core.List.{List, [], _∷_, _++_}
+use mathlib.Core.Option.{Option, some, none}
 use native.Mathlib.Numerals.{add-one}
 use native.Mathlib.Omega.{arith}
 use lib.ListN.{length, take, drop, set, length-set, length-append, length-drop}
@@ -15,10 +16,11 @@ use Rattle.script.specs.declared.Read.{Read}
 use Rattle.script.specs.declared.Read.the-variants as read
 use Rattle.script.specs.declared.calls.Done.{Done}
 use Rattle.replay.specs.declared.steps.Progress.{Progress}
+use Rattle.replay.specs.declared.steps.Due.the-variants as due
 use Rattle.script.specs.Script.{operationIn, roomMost, Fits, Standing, Reads}
-use Rattle.script.specs.Calls.{State, performLoad, performed, stateOf, Does}
+use Rattle.script.specs.Calls.{State, Told, performLoad, performed, stateOf, Does}
 use Rattle.script.proofs.CallLaws.{take-full}
-use Rattle.replay.specs.Steps.{Machine, after, taken, takenAll, Any-pieces, machineOf, Comes}
+use Rattle.replay.specs.Steps.{Machine, after, taken, tellsBy, tells, takenAll, Any-pieces, Stop, stopAt, upTo, Any-stop, machineOf, wordsAt, Comes, Steps}
 
 -- A part of the first words is that part of all words.
 part-within : (room : List ℕ) (at n m : ℕ) → at + n ≤ m → take n (drop at (take m room)) ≡ take n (drop at room)
@@ -83,33 +85,50 @@ module _ (room : List ℕ) (p : Progress) (w : ℕ) (inside : p .words < roomMos
       unfolding taken
       taken-is = ap (after m front) (reads .meaning) ∙ ap (λ ws. after m ws (operationIn ws)) front-is
 
-      pub takes-open : x ≡ read.Open → Comes (taken m w) l r s room₁ (record { kept = p .kept; words = p .words + 1; broken = false })
+      tells-is : tellsBy m front x ≡ tells m w
+      unfolding tells
+      tells-is = ap (tellsBy m front) (reads .meaning) ∙ ap (λ ws. tellsBy m ws (operationIn ws)) front-is
+
+      pub takes-open : x ≡ read.Open
+          → Steps (taken m w) (tells m w) l r s room₁ (record { progress = record { kept = p .kept; words = p .words + 1; broken = false }; due = due.Nothing })
       takes-open e =
           let short : length front < roomMost = subst (Standing front) e (reads .standing) in
-          record { machine = ap (after m front) (sym e) ∙ taken-is; within = omega (arith, front-length) }
+          record {
+            comes = record { machine = ap (after m front) (sym e) ∙ taken-is; within = omega (arith, front-length) };
+            tells = ap (tellsBy m front) (sym e) ∙ tells-is;
+          }
 
-      pub takes-broken : x ≡ read.Broken → Comes (taken m w) l r s room₁ (record { kept = p .kept; words = p .words; broken = true })
+      pub takes-broken : x ≡ read.Broken
+          → Steps (taken m w) (tells m w) l r s room₁ (record { progress = record { kept = p .kept; words = p .words; broken = true }; due = due.Nothing })
       takes-broken e =
           record {
-            machine =
-                ap (λ ws. record { state = stateOf l r s (p .kept); words = ws; broken = true })
-                (take-set-le (p .words) room (p .words) w (omega arith))
-                ∙ ap (after m front) (sym e)
-                ∙ taken-is;
-            within = inside;
+            comes =
+                record {
+                  machine =
+                      ap (λ ws. record { state = stateOf l r s (p .kept); words = ws; broken = true })
+                      (take-set-le (p .words) room (p .words) w (omega arith))
+                      ∙ ap (after m front) (sym e)
+                      ∙ taken-is;
+                  within = inside;
+                };
+            tells = ap (tellsBy m front) (sym e) ∙ tells-is;
           }
 
       pub takes-whole : {o : Operation} → x ≡ read.Whole o → {l′ r′ s′ room′ : List ℕ} {d : Done}
           → Does (performed room₁ o (stateOf l r s (p .kept))) s room₁ l′ r′ s′ room′ d
-          → Comes (taken m w) l′ r′ s′ room′ (record { kept = d .kept; words = 0; broken = false })
+          → Steps (taken m w) (tells m w) l′ r′ s′ room′ (record { progress = record { kept = d .kept; words = 0; broken = false }; due = due.Told (d .report) })
       takes-whole {o} e does =
+          let same = performed-room room₁ (p .words + 1) front-inside o (m .state) (whole-stands e) in
           record {
-            machine =
-                ap (λ t. record { state = t; words = []; broken = false })
-                (does .state ∙ ap (λ q. q .state) (performed-room room₁ (p .words + 1) front-inside o (m .state) (whole-stands e)))
-                ∙ ap (after m front) (sym e)
-                ∙ taken-is;
-            within = omega arith;
+            comes =
+                record {
+                  machine =
+                      ap (λ t. record { state = t; words = []; broken = false }) (does .state ∙ ap (λ q. q .state) same)
+                      ∙ ap (after m front) (sym e)
+                      ∙ taken-is;
+                  within = omega arith;
+                };
+            tells = ap some (does .told ∙ ap (λ q. q .told) same) ∙ ap (tellsBy m front) (sym e) ∙ tells-is;
           }
 
 -- Where a script is broken, it stays as it is.
@@ -135,28 +154,73 @@ any-pieces m (w ∷ ws) rest = by (any-pieces (taken m w) ws rest) (m .broken) r
     by later true e = ap (λ q. takenAll q rest) (broken-stays m (w ∷ ws) e) ∙ broken-stays m rest e ∙ sym (broken-stays m (w ∷ (ws ++ rest)) e)
     by later false e = ap (λ q. takenAll q rest) (taken-next m w ws e) ∙ later ∙ sym (taken-next m w (ws ++ rest) e)
 
--- The words of a piece from the i-th on still lead to what all of them lead to.
-module _ (piece : List ℕ) (count : ℕ) where
-  pub record Ahead (due m : Machine) (i : ℕ) : Type 0 where
-    pub leads : takenAll m (wordsFrom (count - i) piece (wordBytes * i)) ≡ due
+upTo-next : (m : Machine) (w : ℕ) (ws : List ℕ) → m .broken ≡ false → upTo m (w ∷ ws) ≡ stopAt (tells m w) (taken m w) ws (upTo (taken m w) ws)
+unfolding upTo
+upTo-next m w ws e = rw e
 
-  pub ahead-start : (m : Machine) → Ahead (takenAll m (wordsFrom count piece 0)) m 0
-  ahead-start m = let e : count - 0 ≡ count = omega arith in record { leads = rw e }
+upTo-broken : (m : Machine) (w : ℕ) (ws : List ℕ) → m .broken ≡ true → upTo m (w ∷ ws) ≡ record { machine = m; told = none; rest = w ∷ ws }
+unfolding upTo
+upTo-broken m w ws e = rw e
 
-  module _ {due m : Machine} {i : ℕ} (ahead : Ahead due m i) where
-    pub ahead-next : i < count → m .broken ≡ false → {w : ℕ} → w ≡ wordAt piece (wordBytes * i) → {m′ : Machine} → m′ ≡ taken m w → Ahead due m′ (i + 1)
-    unfolding wordsFrom
-    ahead-next h e word next =
-        let left : count - i ≡ suc (count - (i + 1)) = omega arith in
-        let at : wordBytes * (i + 1) ≡ wordBytes * i + wordBytes = omega arith in
-        record { leads = rw (next, word, at) (sym (taken-next m _ _ e) ∙ (rw left at (ahead .leads))) }
+upTo-none : (m : Machine) → upTo m [] ≡ record { machine = m; told = none; rest = [] }
+unfolding upTo
+upTo-none m = refl
 
-    pub ahead-broken : m .broken ≡ true → m ≡ due
-    ahead-broken e = sym (broken-stays m _ e) ∙ ahead .leads
+pub any-stop : Any-stop
+any-stop m [] = ap (λ q. takenAll (q .machine) (q .rest)) (upTo-none m)
+any-stop m (w ∷ ws) = by (any-stop (taken m w) ws) (m .broken) refl
+  where
+    on : takenAll (upTo (taken m w) ws .machine) (upTo (taken m w) ws .rest) ≡ takenAll (taken m w) ws → (o : Option Told)
+        → takenAll (stopAt o (taken m w) ws (upTo (taken m w) ws) .machine) (stopAt o (taken m w) ws (upTo (taken m w) ws) .rest) ≡ takenAll (taken m w) ws
+    on later (some t) = refl
+    on later none = later
 
-    pub ahead-none : count ≤ i → m ≡ due
-    unfolding wordsFrom
-    ahead-none h = let none : count - i ≡ 0 = omega arith in sym (taken-none m) ∙ (rw none at (ahead .leads))
+    by : takenAll (upTo (taken m w) ws .machine) (upTo (taken m w) ws .rest) ≡ takenAll (taken m w) ws → (b : Bool) → m .broken ≡ b
+        → takenAll (upTo m (w ∷ ws) .machine) (upTo m (w ∷ ws) .rest) ≡ takenAll m (w ∷ ws)
+    by later true e = ap (λ q. takenAll (q .machine) (q .rest)) (upTo-broken m w ws e)
+    by later false e = ap (λ q. takenAll (q .machine) (q .rest)) (upTo-next m w ws e) ∙ on later (tells m w) ∙ sym (taken-next m w ws e)
+
+abbrev stopped : Machine → List ℕ → Stop
+stopped m rest = record { machine = m; told = none; rest = rest }
+
+-- The words of a piece from the i-th on still lead to the stop that all of them lead to.
+module _ (piece : List ℕ) where
+  abbrev count : ℕ
+  count = length piece / wordBytes
+
+  words-next : (i : ℕ) → i < count → wordsAt piece i ≡ wordAt piece (wordBytes * i) ∷ wordsAt piece (i + 1)
+  unfolding wordsFrom
+  words-next i h =
+      let left : count - i ≡ suc (count - (i + 1)) = omega arith in
+      let at : wordBytes * (i + 1) ≡ wordBytes * i + wordBytes = omega arith in
+      rw (left, at)
+
+  words-none : (i : ℕ) → count ≤ i → wordsAt piece i ≡ []
+  unfolding wordsFrom
+  words-none i h = let none : count - i ≡ 0 = omega arith in rw none
+
+  pub record Ahead (stop : Stop) (m : Machine) (i : ℕ) : Type 0 where
+    pub leads : upTo m (wordsAt piece i) ≡ stop
+
+  module _ {stop : Stop} {m : Machine} {i : ℕ} (ahead : Ahead stop m i) where
+    further : i < count → m .broken ≡ false → {w : ℕ} → w ≡ wordAt piece (wordBytes * i)
+        → stopAt (tells m w) (taken m w) (wordsAt piece (i + 1)) (upTo (taken m w) (wordsAt piece (i + 1))) ≡ stop
+    further h e word = rw word (sym (upTo-next m _ _ e) ∙ sym (ap (upTo m) (words-next i h)) ∙ ahead .leads)
+
+    pub ahead-next : i < count → m .broken ≡ false → {w : ℕ} → w ≡ wordAt piece (wordBytes * i) → {m′ : Machine} → m′ ≡ taken m w → none ≡ tells m w
+        → Ahead stop m′ (i + 1)
+    ahead-next h e word next quiet = record { leads = ap (λ q. upTo q (wordsAt piece (i + 1))) next ∙ (rw (sym quiet) at (further h e word)) }
+
+    pub ahead-told : i < count → m .broken ≡ false → {w : ℕ} → w ≡ wordAt piece (wordBytes * i) → {m′ : Machine} → m′ ≡ taken m w → {t : Told} → some t ≡ tells m w
+        → record { machine = m′; told = some t; rest = wordsAt piece (i + 1) } ≡ stop
+    ahead-told h e word next {t} said = ap (λ q. record { machine = q; told = some t; rest = wordsAt piece (i + 1) }) next ∙ (rw (sym said) at (further h e word))
+
+    pub ahead-broken : i < count → m .broken ≡ true → record { machine = m; told = none; rest = wordsAt piece i } ≡ stop
+    ahead-broken h e =
+        ap (stopped m) (words-next i h) ∙ sym (upTo-broken m _ _ e) ∙ sym (ap (upTo m) (words-next i h)) ∙ ahead .leads
+
+    pub ahead-none : count ≤ i → record { machine = m; told = none; rest = wordsAt piece i } ≡ stop
+    ahead-none h = ap (stopped m) (words-none i h) ∙ sym (upTo-none m) ∙ sym (ap (upTo m) (words-none i h)) ∙ ahead .leads
 
 -- A call on the first words of an array keeps the array's length.
 pub part-kept : {n limit : ℕ} (xs new : List ℕ) → n ≤ limit → length xs ≡ limit → length new ≡ length (take n xs) → length (new ++ drop n xs) ≡ limit

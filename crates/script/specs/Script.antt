@@ -24,11 +24,6 @@ sideMost = 1
 abbrev pub sideOf : ℕ → Side
 sideOf n = cond (eqb n 0) side.Left side.Right
 
--- The number that a side is printed as.
-abbrev pub sideNumber : Side → ℕ
-sideNumber side.Left = 0
-sideNumber side.Right = 1
-
 -- The verdicts' numbers: 0 Same, 1 Different, 2 Budget, 3 Full.
 abbrev pub verdictMost : ℕ
 verdictMost = 3

@@ -39,10 +39,10 @@ returns-2 : tie.Need-returns-2
 returns-2 c = let start = c .before .before .before .before .before .before .before .before .before in takes-broken (start .args .room .now) (start .args .progress) (start .args .word) (start .pre .1) (start .pre .0 .room-full) (c .before .before .operation-in .ensures) _ _ _ (c .enum-told2 .given .1)
 
 room-kept : tie.Need-same-length-6
-room-kept c = let start = c .before .before .before .before .before .before .before .before .before .before .before .before .before .before .before .before .before .before .before .before .before .before .before .before .before .before .before .before .before .args in c .before .before .before .before .before .before .before .before .before .before .before .before .before .before .perform .kept .1 .1 .1 .1 .0 ∙ length-set (start .room .now) (start .progress .words) (start .word)
+room-kept c = let start = c .before .before .before .before .before .before .before .before .before .before .before .before .before .before .before .before .before .before .before .before .before .before .before .before .args in c .before .before .before .before .before .before .before .before .before .perform .kept .1 .1 .1 .1 .0 ∙ length-set (start .room .now) (start .progress .words) (start .word)
 
 returns-3 : tie.Need-returns-3
-returns-3 c = let start = c .before .before .before .before .before .before .before .before .before .before .before .before .before .before .before .before .before .before .before .before .before .before .before .before .before .before .before .before .before in takes-whole (start .args .room .now) (start .args .progress) (start .args .word) (start .pre .1) (start .pre .0 .room-full) (c .before .before .before .before .before .before .before .before .before .before .before .before .before .before .before .before .before .before .before .before .before .before .operation-in .ensures) _ _ _ (c .before .before .before .before .before .before .before .before .before .before .before .before .before .before .before .before .before .before .before .before .operation .given .1) (c .before .before .before .before .before .before .before .before .before .before .before .before .before .before .perform .ensures)
+returns-3 c = let start = c .before .before .before .before .before .before .before .before .before .before .before .before .before .before .before .before .before .before .before .before .before .before .before .before in takes-whole (start .args .room .now) (start .args .progress) (start .args .word) (start .pre .1) (start .pre .0 .room-full) (c .before .before .before .before .before .before .before .before .before .before .before .before .before .before .before .before .before .operation-in .ensures) _ _ _ (c .before .before .before .before .before .before .before .before .before .before .before .before .before .before .before .operation .given .1) (c .before .before .before .before .before .before .before .before .before .perform .ensures)
 
 pub take-spec : {M : Type 1} → statement M
 take-spec =
@@ -58,7 +58,6 @@ take-spec =
     (λ c. search needs)
     (λ c. search needs)
     perform-requires
-    (λ c κs. search needs)
     (λ c. search needs)
     returns
     (λ c. search needs)

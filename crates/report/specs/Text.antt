@@ -1,0 +1,112 @@
+-- The lines that an operation of a script prints ("A program that replays calls"): what the call answers, and words behind it; four lines for the state.
+use Prim.Native.Nat.{ℕ, _+_, _*_}
+use mathlib.Core.List.{List, [], _∷_, _++_}
+use lib.ListN.{length, take}
+use Rattle.calculus.specs.Refusal.{Refusal, number}
+use Rattle.calculus.specs.Rounds.{Different}
+use Rattle.claim.specs.State.{Session}
+use Rattle.claim.specs.Answer as press
+use Rattle.press.specs.Showing.{Side, Part, left, right, partBy}
+use Rattle.tables.specs.Load as tables
+use Rattle.text.specs.Decimal.{digitsMost, field, newline}
+use Rattle.verdict_text.specs.Line.{nameOf}
+use Rattle.script.specs.Calls.{State, Told, ofLoad, ofPress, ofShow, ofWrite, ofSet, ofStore, ofPrint}
+
+-- A line: its head, and its words, each behind a space.
+pub record Row : Type 0 where
+  pub head : List ℕ
+  pub words : List ℕ
+
+abbrev pub fields : List ℕ → List ℕ
+fields [] = []
+fields (w ∷ ws) = field w ++ fields ws
+
+-- The bytes of a line, the newline included.
+abbrev pub lineBytes : Row → List ℕ
+lineBytes r = r .head ++ (fields (r .words) ++ (newline ∷ []))
+
+-- What is printed: the bytes of lines, one after the other.
+abbrev pub textOf : List Row → List ℕ
+textOf [] = []
+textOf (r ∷ rs) = lineBytes r ++ textOf rs
+
+-- The words that are printed, as ASCII.
+abbrev pub loadName : List ℕ
+loadName = 108 ∷ 111 ∷ 97 ∷ 100 ∷ []
+
+abbrev pub writeName : List ℕ
+writeName = 119 ∷ 114 ∷ 105 ∷ 116 ∷ 101 ∷ []
+
+abbrev pub showName : List ℕ
+showName = 115 ∷ 104 ∷ 111 ∷ 119 ∷ []
+
+abbrev pub sessionName : List ℕ
+sessionName = 115 ∷ 101 ∷ 115 ∷ 115 ∷ 105 ∷ 111 ∷ 110 ∷ []
+
+abbrev pub storeName : List ℕ
+storeName = 115 ∷ 116 ∷ 111 ∷ 114 ∷ 101 ∷ []
+
+abbrev pub leftName : List ℕ
+leftName = 108 ∷ 101 ∷ 102 ∷ 116 ∷ []
+
+abbrev pub rightName : List ℕ
+rightName = 114 ∷ 105 ∷ 103 ∷ 104 ∷ 116 ∷ []
+
+abbrev pub scratchName : List ℕ
+scratchName = 115 ∷ 99 ∷ 114 ∷ 97 ∷ 116 ∷ 99 ∷ 104 ∷ []
+
+abbrev pub refusedName : List ℕ
+refusedName = 114 ∷ 101 ∷ 102 ∷ 117 ∷ 115 ∷ 101 ∷ 100 ∷ []
+
+abbrev pub space : ℕ
+space = 32
+
+-- A refusal's number.
+abbrev pub refusedHead : Refusal → List ℕ
+refusedHead why = refusedName ++ field (number why)
+
+-- What loading or writing returns, behind the call's name.
+abbrev pub tableHead : (name : List ℕ) → tables.Answer → List ℕ
+tableHead name (tables.refused why) = refusedHead why
+tableHead name (tables.returned n) = name ++ field n
+
+-- The verdict, spent, both lengths and the position.
+abbrev pub pressHead : press.Answer → List ℕ
+pressHead (press.refused why) = refusedHead why
+pressHead (press.shown a) =
+    nameOf (a .verdict) ++ (field (a .spent) ++ (field (a .left) ++ (field (a .right) ++ field (a .position))))
+
+-- The number that a side is printed as.
+abbrev pub sideNumber : Side → ℕ
+sideNumber left = 0
+sideNumber right = 1
+
+abbrev pub showHead : Part → List ℕ
+showHead p = showName ++ field (sideNumber (p .side))
+
+-- Total, both lengths and the last verdict.
+abbrev pub sessionHead : Session → List ℕ
+sessionHead s =
+    sessionName ++ (field (s .total) ++ (field (s .left) ++ (field (s .right) ++ ((space ∷ []) ++ nameOf (s .verdict)))))
+
+abbrev pub row : (head words : List ℕ) → Row
+row head words = record { head = head; words = words }
+
+-- The lines of what an operation tells, with the state that it leaves.
+abbrev pub rowsOf : Told → State → List Row
+rowsOf (ofLoad a) s = row (tableHead loadName a) [] ∷ []
+rowsOf (ofPress a) s = row (pressHead a) [] ∷ []
+rowsOf (ofShow p) s = row (showHead p) (take (p .count) (partBy (p .side) (s .memory .left) (s .memory .right))) ∷ []
+rowsOf (ofWrite a table) s = row (tableHead writeName a) table ∷ []
+rowsOf ofSet s = row sessionName [] ∷ []
+rowsOf ofStore s = row storeName [] ∷ []
+rowsOf ofPrint s =
+    row leftName (s .memory .left)
+    ∷ row rightName (s .memory .right)
+    ∷ row scratchName (s .scratch)
+    ∷ row (sessionHead (s .memory .session)) []
+    ∷ []
+
+-- The most bytes of a head: the longest verdict and four numbers behind a space.
+abbrev pub headMost : ℕ
+headMost = length (nameOf Different) + 4 * (1 + digitsMost)
