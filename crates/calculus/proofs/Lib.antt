@@ -32,3 +32,5 @@ pub mod UnlimitedLaws
 pub mod Focus
 pub mod SizeLaws
 pub mod WorkspaceLaws
+pub mod Held
+pub mod BringingLaws

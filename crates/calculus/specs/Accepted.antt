@@ -26,7 +26,7 @@ freeLimit = 255
 abbrev pub numeralLimit : ℕ
 numeralLimit = 31
 
--- The largest index of a variable in a stored table. No accepted term in a workspace has a larger one (`Indices-bounded`).
+-- The largest index of a variable in a stored table or in a line. No accepted term in a workspace has a larger one (`Indices-bounded`).
 abbrev pub indexLimit : ℕ
 indexLimit = 32767
 

@@ -9,6 +9,7 @@ pub mod Skip
 pub mod First
 pub mod Workspace
 pub mod Refusal
+pub mod Bringing
 pub mod Traverse
 pub mod Shift
 pub mod Substitution

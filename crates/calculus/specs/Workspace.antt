@@ -1,7 +1,7 @@
 -- Workspaces ("A press", "Numbers for refused calls"): which lengths they may have, which term the first words of one are, and a workspace that
 -- holds a term with zeros after it.
 use Prim.Native.Nat.{ℕ, _-_}
-use mathlib.Core.Bool.{Bool, true, cond, _&&_}
+use mathlib.Core.Bool.{Bool, true, not, cond, _&&_}
 use mathlib.Core.List.{List, [], _∷_, _++_}
 use mathlib.Core.Option.{Option, none}
 use lib.Dec.{leb, eqb}
@@ -18,6 +18,10 @@ equalTo C (n ∷ ns) = eqb n C && equalTo C ns
 abbrev pub sized : List ℕ → Bool
 sized [] = true
 sized (C ∷ ns) = leb workspaceLeast C && (leb C workspaceMost && equalTo C ns)
+
+-- Refusal 7 where one workspace is lent.
+abbrev pub wrongWorkspace : (C : ℕ) → Bool
+wrongWorkspace C = not (sized (C ∷ []))
 
 -- The whole term that the first n words of a workspace are; none is refusal 10. No term has 0 words.
 unfoldable pub termAt : List ℕ → ℕ → Option Term

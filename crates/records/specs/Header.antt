@@ -1,16 +1,10 @@
--- Refusals 7, 1, 2 and 8 ("Numbers for refused calls"): the workspace, the length of the words, the header, and whether the term fits.
+-- Refusals 1, 2 and 8 ("Numbers for refused calls"): the length of the words, the header, and whether the term fits.
 use Prim.Native.Nat.{ℕ, _+_, _*_}
 use mathlib.Core.Bool.{Bool, not, _&&_, _||_}
-use mathlib.Core.List.{[], _∷_}
 use lib.Dec.{leb, ltb, eqb}
 use lib.ListN.{length}
 use Rattle.calculus.specs.Words.{workspaceMost}
-use Rattle.calculus.specs.Workspace.{sized}
 use Rattle.records.specs.Records.{Table, isRecord, Stored, view}
-
--- Refusal 7: a workspace has 16 to 2,048 words.
-abbrev pub wrongWorkspace : (C : ℕ) → Bool
-wrongWorkspace C = not (sized (C ∷ []))
 
 -- Refusal 1: the length is not the words of a record × (n + 1), 4 × (n + 1) in form 1, with n from 1 to 2,048, the most words that a workspace
 -- has. A table shorter than a record has no header and meets it too.

@@ -1,20 +1,12 @@
-// Refusals 7, 1 and 2: the workspace, the table's length and its header.
+// Refusals 1 and 2: the table's length and its header.
 use crate::Form;
 use crate::count;
 use crate::root;
 use words::Word;
-use words::workspace::sized;
 ghost use mathlib.Core.Path.{_≡_};
 ghost use mathlib.Core.Bool.{false};
 ghost use Rattle.records.specs.Types.{stored};
-ghost use Rattle.records.specs.Header.{wrongWorkspace, wrongLength, wrongHeader};
-
-// Whether a workspace of so many words is refused.
-pub fn wrong_workspace(length: usize) -> bool
-    ensures { λ r. ⌜ r ≡ wrongWorkspace length ⌝ }
-{
-    !sized(length, length, length)
-}
+ghost use Rattle.records.specs.Header.{wrongLength, wrongHeader};
 
 pub fn wrong_length(table: &[u32], form: Form) -> bool
     ensures { λ r. ⌜ r ≡ wrongLength (stored form (now (table .entry))) ⌝ }

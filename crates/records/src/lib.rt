@@ -9,7 +9,6 @@ ghost use mathlib.Core.List.{[], _∷_};
 ghost use lib.ListN.{length, getD};
 ghost use lib.Seq.{sets};
 ghost use Rattle.calculus.specs.Words.{tagOf};
-ghost use Rattle.calculus.specs.Accepted.{indexLimit};
 ghost use Rattle.records.specs.Records.{headerCount, headerRoot, recordAt, declaredAt, Inside, form1, inForm1, recordsWords, Puttable};
 ghost use Rattle.records.specs.Types.{formOf, stored, declaredOf, recordOf};
 
@@ -70,9 +69,6 @@ impl Record {
     pub const FORM: u32 = 1;
 
     pub const WORDS: usize = 4;
-
-    // The largest index that a record can hold.
-    pub const INDEX_MOST: u32 = 32767;
 
     // The record at an index.
     pub fn at(table: &[u32], form: Form, i: usize) -> Self
@@ -151,5 +147,4 @@ pub fn root(table: &[u32]) -> usize
 fn constants()
     ensures { λ r. do ⌜ (← ⟦Record::FORM⟧ .entry) ≡ form1 .number ⌝ }
     ensures { λ r. do ⌜ (← ⟦Record::WORDS⟧ .entry) ≡ form1 .recordWords ⌝ }
-    ensures { λ r. do ⌜ (← ⟦Record::INDEX_MOST⟧ .entry) ≡ indexLimit ⌝ }
 {}

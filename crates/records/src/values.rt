@@ -41,7 +41,7 @@ fn kind_fits(kind: u32, value: u32) -> bool
         return false;
     }
     match kind {
-        Word::VARIABLE => value <= Record::INDEX_MOST,
+        Word::VARIABLE => value <= Word::INDEX_MOST,
         Word::CONSTRUCTOR => is_tag(value),
         Word::BRANCH => is_tagged(value),
         Word::NUMERAL => value <= Word::NUMERAL_MOST,

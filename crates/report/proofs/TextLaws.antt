@@ -14,8 +14,8 @@ use Rattle.press.specs.Showing as shown
 use Rattle.press.specs.Showing.{partBy}
 use Rattle.press.specs.declared.state.Session as codeSession
 use Rattle.press.specs.Types.{answerOf, sessionOf}
-use Rattle.tables.specs.Load as tables
-use Rattle.tables.specs.Types.{answerOf as tableAnswerOf}
+use Rattle.calculus.specs.Bringing as bring
+use Rattle.words.specs.Types.{answerOf as tableAnswerOf}
 use Rattle.text.specs.Decimal.{field}
 use Rattle.words.specs.Placed.{Placed}
 use Rattle.text.proofs.DecimalLaws.{length-decimal}
@@ -48,9 +48,9 @@ lines-exact report.State l r s room k = refl
 length-refused : (why : Refusal) → length (refusedHead why) ≤ headMost
 length-refused why = omega (arith, length-decimal (number why))
 
-pub length-table : (name : List ℕ) → length name ≤ 5 → (a : tables.Answer) → length (tableHead name a) ≤ headMost
-length-table name h (tables.refused why) = length-refused why
-length-table name h (tables.returned n) = omega (arith, length-append name (field n), length-decimal n)
+pub length-table : (name : List ℕ) → length name ≤ 5 → (a : bring.Answer) → length (tableHead name a) ≤ headMost
+length-table name h (bring.refused why) = length-refused why
+length-table name h (bring.returned n) = omega (arith, length-append name (field n), length-decimal n)
 
 pub length-pressed : (a : press.Answer) → length (pressHead a) ≤ headMost
 length-pressed (press.refused why) = length-refused why

@@ -6,7 +6,7 @@ use Rattle.calculus.specs.Refusal.{WrongLength, OverBudget, NoTerm}
 use Rattle.calculus.specs.Rounds.{Different, Full}
 use Rattle.claim.specs.Answer as press
 use Rattle.press.specs.Showing.{left, right}
-use Rattle.tables.specs.Load as tables
+use Rattle.calculus.specs.Bringing as bring
 use Rattle.script.specs.Calls.{State, Told, ofLoad, ofPress, ofShow, ofWrite, ofSet, ofStore, ofPrint}
 use Rattle.report.specs.Text.{rowsOf, textOf}
 
@@ -29,11 +29,11 @@ printed told = textOf (rowsOf told state)
 pub record Line-examples : Type 0 where
   -- load 12
   pub loaded :
-      printed (ofLoad (tables.returned 12))
+      printed (ofLoad (bring.returned 12))
       ≡ 108 ∷ 111 ∷ 97 ∷ 100 ∷ 32 ∷ 49 ∷ 50 ∷ 10 ∷ []
   -- refused 1
   pub load-refused :
-      printed (ofLoad (tables.refused WrongLength))
+      printed (ofLoad (bring.refused WrongLength))
       ≡ 114 ∷ 101 ∷ 102 ∷ 117 ∷ 115 ∷ 101 ∷ 100 ∷ 32 ∷ 49 ∷ 10 ∷ []
   -- Different 0 1 1 0
   pub pressed :
@@ -57,11 +57,11 @@ pub record Line-examples : Type 0 where
       ≡ 115 ∷ 104 ∷ 111 ∷ 119 ∷ 32 ∷ 48 ∷ 10 ∷ []
   -- write 1 40 7
   pub written :
-      printed (ofWrite (tables.returned 1) (40 ∷ 7 ∷ []))
+      printed (ofWrite (bring.returned 1) (40 ∷ 7 ∷ []))
       ≡ 119 ∷ 114 ∷ 105 ∷ 116 ∷ 101 ∷ 32 ∷ 49 ∷ 32 ∷ 52 ∷ 48 ∷ 32 ∷ 55 ∷ 10 ∷ []
   -- refused 10 7
   pub write-refused :
-      printed (ofWrite (tables.refused NoTerm) (7 ∷ []))
+      printed (ofWrite (bring.refused NoTerm) (7 ∷ []))
       ≡ 114 ∷ 101 ∷ 102 ∷ 117 ∷ 115 ∷ 101 ∷ 100 ∷ 32 ∷ 49 ∷ 48 ∷ 32 ∷ 55 ∷ 10 ∷ []
   -- session
   pub session-set :

@@ -7,7 +7,7 @@ use Rattle.calculus.specs.Rounds.{Different}
 use Rattle.claim.specs.State.{Session}
 use Rattle.claim.specs.Answer as press
 use Rattle.press.specs.Showing.{Side, Part, left, right, partBy}
-use Rattle.tables.specs.Load as tables
+use Rattle.calculus.specs.Bringing as bring
 use Rattle.text.specs.Decimal.{digitsMost, field, newline}
 use Rattle.verdict_text.specs.Line.{nameOf}
 use Rattle.script.specs.Calls.{State, Told, ofLoad, ofPress, ofShow, ofWrite, ofSet, ofStore, ofPrint}
@@ -66,9 +66,9 @@ abbrev pub refusedHead : Refusal → List ℕ
 refusedHead why = refusedName ++ field (number why)
 
 -- What loading or writing returns, behind the call's name.
-abbrev pub tableHead : (name : List ℕ) → tables.Answer → List ℕ
-tableHead name (tables.refused why) = refusedHead why
-tableHead name (tables.returned n) = name ++ field n
+abbrev pub tableHead : (name : List ℕ) → bring.Answer → List ℕ
+tableHead name (bring.refused why) = refusedHead why
+tableHead name (bring.returned n) = name ++ field n
 
 -- The verdict, spent, both lengths and the position.
 abbrev pub pressHead : press.Answer → List ℕ

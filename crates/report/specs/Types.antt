@@ -7,7 +7,7 @@ use lib.Dec.{eqb}
 use lib.ListN.{length, take}
 use Rattle.press.specs.declared.state.Session as codeSession
 use Rattle.press.specs.Types.{answerOf, sessionOf}
-use Rattle.tables.specs.Types.{answerOf as tableAnswerOf}
+use Rattle.words.specs.Types.{answerOf as tableAnswerOf}
 use Rattle.script.specs.declared.calls.Report.{Report}
 use Rattle.script.specs.declared.calls.Report.the-variants as report
 use Rattle.script.specs.declared.calls.Kept.{Kept}

@@ -21,7 +21,7 @@ ghost use Rattle.words.specs.Types.{refusalOf};
 ghost use Rattle.rounds.specs.Types.{shownOf};
 ghost use Rattle.press.specs.Types.{answerOf, sessionOf};
 ghost use Rattle.claim.specs.Answer.{shown as press·shown};
-ghost use Rattle.tables.specs.Types.{answerOf as tableAnswerOf};
+ghost use Rattle.words.specs.Types.{answerOf as tableAnswerOf};
 ghost use Rattle.script.specs.Calls.{chosen, partOf, sideOf};
 ghost use Rattle.report.specs.Text.{headMost, refusedHead, tableHead, pressHead, showHead, sessionHead, sideNumber};
 ghost use Rattle.report.specs.Types.{Counts, countOf, headOf, stateHead, stateWords, wordsOf};
@@ -43,13 +43,13 @@ fn put_refused(refusal: Refusal, out: &mut [u8]) -> usize
 }
 
 // What loading or writing returned, behind the call's name.
-fn put_table(name: &[u8], answer: tables::Answer, out: &mut [u8]) -> usize
+fn put_table(name: &[u8], answer: words::answer::Answer, out: &mut [u8]) -> usize
     requires { ⌜ length (tableHead (now name) (tableAnswerOf answer)) ≤ length (now out) ⌝ }
     ensures { λ r. ⌜ Placed (now (out .entry)) 0 (tableHead (now (name .entry)) (tableAnswerOf answer)) (now (out .exit)) r ⌝ }
 {
     match answer {
-        tables::Answer::Refused(refusal) => put_refused(refusal, out),
-        tables::Answer::Returned(number) => {
+        words::answer::Answer::Refused(refusal) => put_refused(refusal, out),
+        words::answer::Answer::Returned(number) => {
             let end = put_bytes(name, out, 0);
             put_field(number, out, end)
         }

@@ -8,8 +8,9 @@ use lib.Seq.{sets, take-at, drop-at, length-take-le}
 use Rattle.press.specs.declared.answer.Pressed.{Pressed}
 use Rattle.claim.specs.Press.{press}
 use Rattle.press.specs.Types.{memoryOf, callOf, pressedOf}
-use Rattle.tables.specs.declared.Answer.{Answer}
-use Rattle.tables.specs.Types.{writtenOf, answerOf as tableAnswerOf}
+use Rattle.words.specs.declared.answer.Answer.{Answer}
+use Rattle.words.specs.Types.{answerOf as tableAnswerOf}
+use Rattle.tables.specs.Types.{writtenOf}
 use Rattle.tables.specs.Write.{write}
 use Rattle.words.proofs.PlacedLaws.{sets-whole}
 use Rattle.script.specs.declared.Call.{Call}

@@ -5,6 +5,7 @@ use mathlib.Core.Bool.{cond}
 use mathlib.Core.List.{List, [], _++_}
 use lib.Dec.{eqb, ltb}
 use lib.ListN.{length, take, drop, replicate, set}
+use Rattle.calculus.specs.Bringing as bring
 use Rattle.claim.specs.Answer.{Memory}
 use Rattle.claim.specs.Press.{press}
 use Rattle.claim.specs.Answer as press
@@ -12,11 +13,10 @@ use Rattle.press.specs.Showing.{show}
 use Rattle.press.specs.Showing as shown
 use Rattle.press.specs.Types.{answerOf, sessionOf, memoryOf, callOf}
 use Rattle.tables.specs.Load.{load}
-use Rattle.tables.specs.Load as tables
 use Rattle.tables.specs.Write.{write}
 use Rattle.tables.specs.Write as written
-use Rattle.tables.specs.declared.Answer as codeAnswer
-use Rattle.tables.specs.Types.{answerOf as tableAnswerOf}
+use Rattle.words.specs.declared.answer.Answer as codeAnswer
+use Rattle.words.specs.Types.{answerOf as tableAnswerOf}
 use Rattle.script.specs.declared.Side.{Side}
 use Rattle.script.specs.declared.Side.the-variants as side
 use Rattle.script.specs.declared.Call.{Call}
@@ -36,10 +36,10 @@ pub record State : Type 0 where
 
 -- What an operation tells: what a call answers, the part that is shown, a table that was written.
 pub data Told : Type 0 where
-  ofLoad : tables.Answer → Told
+  ofLoad : bring.Answer → Told
   ofPress : press.Answer → Told
   ofShow : shown.Part → Told
-  ofWrite : tables.Answer → (table : List ℕ) → Told
+  ofWrite : bring.Answer → (table : List ℕ) → Told
   ofSet ofStore ofPrint : Told
 
 -- The state that an operation leaves, what it tells, and the words that it leaves at the start of the room for tables.

@@ -38,11 +38,11 @@ pub struct Part {
 
 // What an operation tells. A table that was written is the first words of the room.
 pub enum Report {
-    Loaded(tables::Answer),
+    Loaded(words::answer::Answer),
     Pressed(Answer),
     Shown(Part),
     Written {
-        answer: tables::Answer,
+        answer: words::answer::Answer,
         words: usize,
     },
     Set,
@@ -134,7 +134,7 @@ fn show<'a>(left: &'a [u32], right: &'a [u32], left_length: usize, right_length:
 }
 
 // Loads a table into the workspace of a side.
-fn load(side: Side, left: &mut [u32], right: &mut [u32], table: &[u32]) -> tables::Answer
+fn load(side: Side, left: &mut [u32], right: &mut [u32], table: &[u32]) -> words::answer::Answer
     ensures { λ r. ⌜ Loads side (now (table .entry)) (now (left .entry)) (now (right .entry)) (now (left .exit)) (now (right .exit)) r ⌝ }
 {
     match side {
@@ -160,7 +160,7 @@ fn write<'a>(
     left: &'a [u32],
     right: &'a [u32],
     table: &mut [u32],
-) -> tables::Answer
+) -> words::answer::Answer
     ensures { λ r. ⌜ writtenOf r (now (table .exit)) ≡ write (chosen side (now (left .entry)) (now (right .entry))) length (replicate (List·length (now (table .entry))) filler) ⌝ }
 {
     fill_all(table);

@@ -20,7 +20,8 @@ use Rattle.records.specs.Header.{wrongLength, wrongHeader}
 use Rattle.records.specs.Values.{valueFits, wrongValue}
 use Rattle.records.specs.Links.{namings, wrongLink}
 use Rattle.records.specs.Children.{numberFits, childrenFit, wrongChildren}
-use Rattle.tables.specs.Load.{Answer, refused, returned, Loaded, loadStored, load}
+use Rattle.calculus.specs.Bringing.{Answer, refused, returned, Brought}
+use Rattle.tables.specs.Load.{loadStored, load}
 use Rattle.tables.specs.PrefixOrder.{InPrefixOrder, nothing, chained}
 use Rattle.tables.specs.Write.{write}
 use Rattle.tables.proofs.Written.PrefixStanding.{fills-first, record-fills}
@@ -37,10 +38,10 @@ table (r ∷ rs) = r .0 ∷ r .1 ∷ r .2 ∷ r .3 ∷ table rs
 abbrev fresh : List ℕ
 fresh = replicate 16 9
 
-abbrev loading : List Four → Loaded
+abbrev loading : List Four → Brought
 loading rs = load (table rs) fresh
 
-abbrev holding : (len zeros : ℕ) → List ℕ → Loaded
+abbrev holding : (len zeros : ℕ) → List ℕ → Brought
 holding len zeros ws = record { answer = returned len; workspace = ws ++ replicate zeros 0 }
 
 -- A refusal by its number, which leaves what was lent as it was.

@@ -12,36 +12,20 @@ use borrow.Author.Tests.{not-false}
 use Rattle.calculus.specs.Term.{term, Term}
 use Rattle.calculus.specs.Words.{words, size}
 use Rattle.calculus.specs.Refusal.{Refusal}
-use Rattle.calculus.specs.Workspace.{padded}
+use Rattle.calculus.specs.Bringing.{refused, returned, firstMet, FirstMet, NoneMet, refuse, place, bringUnless}
+use Rattle.calculus.proofs.BringingLaws.{settled, first-met, none-met}
+use Rattle.calculus.specs.Workspace.{wrongWorkspace, padded}
 use Rattle.records.specs.Records.{Stored, view, isRecord}
-use Rattle.tables.specs.Meaning.{Means}
-use Rattle.records.specs.Header.{wrongWorkspace, wrongLength, wrongHeader, tooLong}
+use Rattle.tables.specs.Meaning.{Means, meaning}
+use Rattle.records.specs.Header.{wrongLength, wrongHeader, tooLong}
 use Rattle.records.specs.Values.{wrongValue}
 use Rattle.records.specs.Links.{wrongLink}
 use Rattle.records.specs.Children.{wrongChildren}
 use Rattle.tables.specs.FreeNumbers.{wrongFree}
-use Rattle.tables.specs.Load.{refused, returned, checks, firstMet, refuseLoad, place, loadUnless, loadStored}
-use Rattle.tables.specs.Theorems.{Sound, Meant, FirstMet, NoneMet, LoadsExactly, Loading-exact}
+use Rattle.tables.specs.Load.{checks, loadStored}
+use Rattle.tables.specs.Theorems.{Sound, Meant, LoadsExactly, Loading-exact}
 use Rattle.tables.proofs.Meaning.MeaningLaws.{meaning-complete}
 use Rattle.tables.proofs.Meaning.SoundMeans.{sound-means}
-
--- A list of refusals has one that is met first, or none is met.
-pub settled : (cs : List (Refusal × Bool)) → ((k : Refusal) × FirstMet k cs) ⊎ NoneMet cs
-settled [] = inr tt
-settled (c ∷ cs) = go (c .1) refl (settled cs)
-  where
-    go : (b : Bool) → c .1 ≡ b → ((k : Refusal) × FirstMet k cs) ⊎ NoneMet cs → ((k : Refusal) × FirstMet k (c ∷ cs)) ⊎ NoneMet (c ∷ cs)
-    go true e s = inl (c .0, inl (e, refl))
-    go false e (inl s) = inl (s .0, inr (e, s .1))
-    go false e (inr s) = inr (e, s)
-
-pub first-met : (k : Refusal) (cs : List (Refusal × Bool)) → FirstMet k cs → firstMet cs ≡ some k
-first-met k (c ∷ cs) (inl h) = rw (h .0) (ap some (h .1))
-first-met k (c ∷ cs) (inr h) = rw (h .0) (first-met k cs (h .1))
-
-none-met : (cs : List (Refusal × Bool)) → NoneMet cs → firstMet cs ≡ none
-none-met [] h = refl
-none-met (c ∷ cs) h = rw (h .0) (none-met cs (h .1))
 
 -- No refusal is met, each by its name.
 pub record Passes (S : Stored) (C : ℕ) : Type 0 where
@@ -83,15 +67,15 @@ never : _≡_ {A = ℕ} 0 1 → ⊥
 never e = omega arith
 
 module _ (S : Stored) (workspace : List ℕ) where
-  pub load-refused : (k : Refusal) → FirstMet k (checks S (length workspace)) → loadStored S workspace ≡ refuseLoad workspace k
+  pub load-refused : (k : Refusal) → FirstMet k (checks S (length workspace)) → loadStored S workspace ≡ refuse workspace k
   unfolding loadStored
-  load-refused k h = ap (λ o. loadUnless o S workspace) (first-met k (checks S (length workspace)) h)
+  load-refused k h = ap (λ o. bringUnless o (meaning (view S)) workspace) (first-met k (checks S (length workspace)) h)
 
   pub load-returned : NoneMet (checks S (length workspace)) → (t : Term) → Means (view S) term (view S .root) t
       → loadStored S workspace ≡ record { answer = returned (size t); workspace = padded (length workspace) (words t) }
   unfolding loadStored
   load-returned h t m =
-      ap (λ o. loadUnless o S workspace) (none-met (checks S (length workspace)) h)
+      ap (λ o. bringUnless o (meaning (view S)) workspace) (none-met (checks S (length workspace)) h)
       ∙ ap (place workspace) (meaning-complete (view S) t (passes S (length workspace) h .links-fit) m)
 
   exact-refused : (k : Refusal) → FirstMet k (checks S (length workspace)) → LoadsExactly S workspace

@@ -1,23 +1,24 @@
 -- What is owed about tables: each statement is a type with a name, and its proof in proofs/ has that type.
 use Prim.Native.Nat.{ℕ, _+_, _-_, _*_, _≤_}
 use mathlib.Core.Path.{_≡_}
-use mathlib.Core.Bool.{Bool, true, false}
-use mathlib.Core.List.{List, [], _∷_, _++_}
-use mathlib.Core.Logic.{_↔_, _⊎_}
+use mathlib.Core.Bool.{true, false}
+use mathlib.Core.List.{List, _++_}
+use mathlib.Core.Logic.{_↔_}
 use mathlib.Core.Option.{some}
 use lib.ListN.{length, replicate}
 use Rattle.calculus.specs.Term.{Sort, term, Exp, Term}
 use Rattle.calculus.specs.Words.{words, size}
 use Rattle.calculus.specs.Accepted.{Accepted}
+use Rattle.calculus.specs.Workspace.{wrongWorkspace}
 use Rattle.calculus.specs.Refusal.{Refusal}
+use Rattle.calculus.specs.Bringing.{refused, returned, FirstMet, NoneMet}
 use Rattle.records.specs.Records.{Table, form1, Stored, view, inForm1, isRecord}
 use Rattle.tables.specs.Meaning.{Means, meaning}
-use Rattle.records.specs.Header.{wrongWorkspace}
 use Rattle.records.specs.Values.{wrongValue}
 use Rattle.records.specs.Links.{wrongLink}
 use Rattle.records.specs.Children.{wrongChildren}
 use Rattle.tables.specs.FreeNumbers.{wrongFree}
-use Rattle.tables.specs.Load.{refused, returned, checks, loadStored, load}
+use Rattle.tables.specs.Load.{checks, loadStored, load}
 use Rattle.tables.specs.PrefixOrder.{InPrefixOrder}
 use Rattle.tables.specs.Write.{write}
 
@@ -49,15 +50,6 @@ Meaning-sound = (T : Table) (t : Term) → meaning T ≡ some t → Means T term
 
 abbrev pub Meaning-complete : Type 0
 Meaning-complete = (T : Table) (t : Term) → wrongLink T ≡ false → Means T term (T .root) t → meaning T ≡ some t
-
--- This refusal is met, and none before it is.
-abbrev pub FirstMet : Refusal → List (Refusal × Bool) → Type 0
-FirstMet why [] = ⊥
-FirstMet why (c ∷ cs) = ((c .1 ≡ true) × (c .0 ≡ why)) ⊎ ((c .1 ≡ false) × FirstMet why cs)
-
-abbrev pub NoneMet : List (Refusal × Bool) → Type 0
-NoneMet [] = Unit {0}
-NoneMet (c ∷ cs) = (c .1 ≡ false) × NoneMet cs
 
 -- Loading refuses exactly what it must, and a refusal changes nothing; otherwise the workspace holds the term that the table means, with zeros
 -- after it, and its length is returned. This holds in every form.

@@ -8,11 +8,10 @@ use lib.Dec.{eqb}
 use lib.ListN.{length}
 use Rattle.calculus.specs.Term.{Sort, Exp, var, lam, app, con, case, num, nil, cons, end, branch, Term, count}
 use Rattle.calculus.specs.Words.{variableKind, abstractionKind, applicationKind, constructorKind, caseKind, branchKind, numeralKind, pack, size}
-use Rattle.calculus.specs.Workspace.{termAt}
+use Rattle.calculus.specs.Workspace.{wrongWorkspace, termAt}
 use Rattle.calculus.specs.Refusal.{Refusal, WrongLength, WrongWorkspace, NoTerm}
+use Rattle.calculus.specs.Bringing.{Answer, refused, returned}
 use Rattle.records.specs.Records.{Record, entry, form1, recordsWords}
-use Rattle.records.specs.Header.{wrongWorkspace}
-use Rattle.tables.specs.Load.{Answer, refused, returned}
 
 -- A link to i, where a list of arguments or branches stands; 0 where it is empty.
 abbrev pub linkTo : {s : Sort} → ℕ → Exp s → ℕ

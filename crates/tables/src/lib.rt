@@ -8,7 +8,6 @@ use records::children::wrong_children;
 use records::count;
 use records::header::wrong_header;
 use records::header::wrong_length;
-use records::header::wrong_workspace;
 use records::links::wrong_links;
 use records::root;
 use records::values::wrong_values;
@@ -16,9 +15,11 @@ use terms::is_term;
 use transcription::reading::read_term;
 use transcription::writing::put_table;
 use words::Word;
+use words::answer::Answer;
 use words::clear;
 use words::refusal::Refusal;
 use words::slices::copy;
+use words::workspace::wrong_workspace;
 ghost use mathlib.Core.Path.{_≡_};
 ghost use mathlib.Core.Bool.{false};
 ghost use Prim.Native.Nat.{_≤_};
@@ -26,16 +27,12 @@ ghost use lib.ListN.{length};
 ghost use Rattle.words.specs.Placed.{Placed};
 ghost use Rattle.records.specs.Header.{wrongLength, wrongHeader};
 ghost use Rattle.transcription.specs.Reading.{termWords, Readable};
-ghost use Rattle.tables.specs.Load.{recordChecks, checks, firstMet, load};
+ghost use Rattle.calculus.specs.Bringing.{firstMet};
+ghost use Rattle.words.specs.Types.{broughtOf};
+ghost use Rattle.tables.specs.Load.{recordChecks, checks, load};
 ghost use Rattle.tables.specs.Write.{write};
 ghost use Rattle.records.specs.Types.{stored, viewed};
-ghost use Rattle.tables.specs.Types.{metOf, loadedOf, writtenOf};
-
-// What loading and writing answer: a refusal, or the length of the term or the number of records.
-pub enum Answer {
-    Refused(Refusal),
-    Returned(usize),
-}
+ghost use Rattle.tables.specs.Types.{metOf, writtenOf};
 
 // What the checks of a table come to: the refusal that is met first, or that none is met.
 enum Check {
@@ -95,7 +92,7 @@ fn put_term(table: &[u32], form: Form, workspace: &mut [u32]) -> usize
 
 // Puts the term that a table means into a workspace, with zeros after it. A refusal changes nothing.
 pub fn load(table: &[u32], workspace: &mut [u32]) -> Answer
-    ensures { λ r. ⌜ loadedOf r (now (workspace .exit)) ≡ load (now (table .entry)) (now (workspace .entry)) ⌝ }
+    ensures { λ r. ⌜ broughtOf r (now (workspace .exit)) ≡ load (now (table .entry)) (now (workspace .entry)) ⌝ }
 {
     let form = Form::One;
     match first_met(table, form, workspace.len()) {

@@ -3,3 +3,4 @@ pub mod Packed
 pub mod Scan
 pub mod Stack
 pub mod IsTerm
+pub mod FreeNumbers

@@ -8,7 +8,7 @@ use mathlib.Core.List.{List, [], _++_, append-nil}
 use lib.ListN.{length, set, drop-of-length-le, length-set}
 use lib.Seq.{sets, sets-eq}
 use borrow.Author.Tests.{eq-eqb, ne-eqb}
-use Rattle.tables.specs.Load.{Loaded}
+use Rattle.calculus.specs.Bringing.{Brought}
 use Rattle.tables.specs.Write.{Written}
 use Rattle.vector_text.specs.Text.{nowhere, after, numberAt}
 use Rattle.vectors.specs.Keywords.{refusedWord, givesWord}
@@ -57,7 +57,7 @@ module _ (line : List ℕ) (at : ℕ) (loaded : List ℕ) (len : ℕ) (w : Writt
   pub write-given : from ≡ nowhere → writtenAs line at loaded len w ≡ record { holds = isReturned (w .answer) len && isTable line at (w .table) loaded; words = w .table }
   write-given e = rw (← is, eq-eqb from nowhere e)
 
-module _ (line : List ℕ) (at : ℕ) (table : List ℕ) (q : Loaded) (from : ℕ) (is : from ≡ after line at refusedWord) where
+module _ (line : List ℕ) (at : ℕ) (table : List ℕ) (q : Brought) (from : ℕ) (is : from ≡ after line at refusedWord) where
   pub load-refused : (from ≡ nowhere → ⊥) → loadedAs line at table q ≡ (refusedLast line from (q .answer) && areWords (q .workspace) (q .workspace) 0 junk)
   unfolding loadedAs
   load-refused n = rw (← is, ne-eqb from nowhere n)

@@ -6,7 +6,7 @@ use Rattle.calculus.specs.Rounds.{Verdict, Same, Different, Budget, Full}
 use Rattle.calculus.specs.Refusal.{number}
 use Rattle.claim.specs.State.{Session}
 use Rattle.claim.specs.Answer as press
-use Rattle.tables.specs.Load as tables
+use Rattle.calculus.specs.Bringing as bring
 
 -- The verdicts in the order in which the rules name them, from 0.
 abbrev pub numberOf : Verdict → ℕ
@@ -32,6 +32,6 @@ isRefused (press.refused why) k = eqb (number why) k
 isRefused (press.shown a) k = false
 
 -- Loading or writing returned this number.
-abbrev pub isReturned : tables.Answer → ℕ → Bool
-isReturned (tables.refused n) k = false
-isReturned (tables.returned n) k = eqb n k
+abbrev pub isReturned : bring.Answer → ℕ → Bool
+isReturned (bring.refused n) k = false
+isReturned (bring.returned n) k = eqb n k

@@ -10,7 +10,7 @@ use Rattle.calculus.specs.Rounds.{Same, Different, Budget, Full}
 use Rattle.calculus.specs.Refusal.{WrongLength, NoTerm}
 use Rattle.claim.specs.State.{Session, fresh}
 use Rattle.claim.specs.Answer.{Answer, refused, shown}
-use Rattle.tables.specs.Load as tables
+use Rattle.calculus.specs.Bringing as bring
 use Rattle.vector_text.specs.Text.{nowhere, after, numberAt, settingAt}
 use Rattle.vectors.specs.Keywords.{pairWord, loadWord, writeWord, leftWord, pressWord, showWord}
 use Rattle.vectors.specs.Keywords.{sameWord, differentWord, atWord, refusedWord, givesWord, writesWord}
@@ -147,10 +147,10 @@ countedStage equal session = countedAfter Different 3 4 0 (lentAs equal) answere
 
 -- Whether ` Refused 1` holds of a loading and of a writing that were refused so and left this word in what was lent.
 abbrev pub unloadedFrom : ℕ → Bool
-unloadedFrom w = loadedAs (spaced refusedWord ++ n1) 0 [] (record { answer = tables.refused WrongLength; workspace = w ∷ [] })
+unloadedFrom w = loadedAs (spaced refusedWord ++ n1) 0 [] (record { answer = bring.refused WrongLength; workspace = w ∷ [] })
 
 abbrev pub unwrittenFrom : ℕ → Bool
-unwrittenFrom w = writtenAs (spaced refusedWord ++ n1) 0 [] 0 (record { answer = tables.refused WrongLength; table = w ∷ [] }) .holds
+unwrittenFrom w = writtenAs (spaced refusedWord ++ n1) 0 [] 0 (record { answer = bring.refused WrongLength; table = w ∷ [] }) .holds
 
 pub record Passing-examples : Type 0 where
   pub pressed-right : passes (pressing differentWord n0 n0 n8) ≡ true

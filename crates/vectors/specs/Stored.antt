@@ -5,7 +5,8 @@ use mathlib.Core.List.{List, [], _∷_}
 use lib.Dec.{eqb, leb}
 use lib.ListN.{length, take, replicate}
 use Rattle.calculus.specs.Refusal.{number}
-use Rattle.tables.specs.Load.{Answer, refused, returned, Loaded, load}
+use Rattle.calculus.specs.Bringing.{Answer, refused, returned, Brought}
+use Rattle.tables.specs.Load.{load}
 use Rattle.tables.specs.Write.{Written, write}
 use Rattle.vector_text.specs.Text.{nowhere, after, numberAt}
 use Rattle.vectors.specs.Keywords.{refusedWord, chainKeyword, givesWord, writesWord}
@@ -90,17 +91,17 @@ unfoldable pub writesBack : List ℕ → (at : ℕ) → (loaded workspace : List
 writesBack line at loaded workspace len = writesInto line at loaded workspace len (junkTable (length loaded)) .holds
 
 -- Loading a table: a refusal changes nothing, and else the term is what the line gives, and is written.
-abbrev pub givesTerm : List ℕ → (table : List ℕ) → Loaded → Compared → Bool
+abbrev pub givesTerm : List ℕ → (table : List ℕ) → Brought → Compared → Bool
 givesTerm line table q c =
     (c .equal && isReturned (q .answer) (c .count)) && writesBack line (c .next) table (q .workspace) (c .count)
 
-unfoldable pub loadedAs : List ℕ → (at : ℕ) → (table : List ℕ) → Loaded → Bool
+unfoldable pub loadedAs : List ℕ → (at : ℕ) → (table : List ℕ) → Brought → Bool
 loadedAs line at table q =
     let from = after line at refusedWord in
     cond (eqb from nowhere) (givesTerm line table q (comparedAt line (after line at givesWord) (q .workspace) 0))
     (refusedLast line from (q .answer) && areWords (q .workspace) (q .workspace) 0 junk)
 
-abbrev pub loadingOf : List ℕ → (at : ℕ) → (table : List ℕ) → Loaded → Verified
+abbrev pub loadingOf : List ℕ → (at : ℕ) → (table : List ℕ) → Brought → Verified
 loadingOf line at table q = record { holds = loadedAs line at table q; words = q .workspace }
 
 unfoldable pub loading : List ℕ → (at : ℕ) → (table workspace : List ℕ) → Verified

@@ -10,7 +10,6 @@
 // table, `chain n index` is the table of n - 1 abstractions around a variable.
 use crate::pair::JUNK;
 use crate::pair::ROOM;
-use tables::Answer;
 use tables::load;
 use tables::write;
 use vector_text::LIST_MOST;
@@ -24,10 +23,11 @@ use vector_text::lent::holds;
 use vector_text::lent::lent;
 use vector_text::read_list;
 use vector_text::read_number;
+use words::answer::Answer;
 ghost use mathlib.Core.Path.{_≡_};
 ghost use Prim.Native.Nat.{_≤_};
 ghost use lib.ListN.{length};
-ghost use Rattle.tables.specs.Types.{answerOf};
+ghost use Rattle.words.specs.Types.{answerOf};
 ghost use Rattle.vectors.specs.Answers.{isReturned};
 ghost use Rattle.vector_text.specs.Lists.{listMost, listedOf};
 ghost use Rattle.vectors.specs.Stored.{verifiedOf, refusedLast, chainWord, chain, tableAt, isTable, writesInto, writesBack, loading, loadHolds, writesWords, writeHolds};

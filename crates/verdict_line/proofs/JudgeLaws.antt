@@ -14,10 +14,10 @@ use Rattle.press.specs.Types.{answerOf, sessionOf, memoryOf, callOf, pressedOf}
 use Rattle.calculus.specs.Refusal.{number}
 use Rattle.words.specs.declared.refusal.Refusal.{Refusal}
 use Rattle.words.specs.Types.{refusalOf}
-use Rattle.tables.specs.declared.Answer.{Answer}
-use Rattle.tables.specs.declared.Answer.the-variants as answer
+use Rattle.words.specs.declared.answer.Answer.{Answer}
+use Rattle.words.specs.declared.answer.Answer.the-variants as answer
 use Rattle.tables.specs.Load.{load}
-use Rattle.tables.specs.Types.{loadedOf}
+use Rattle.words.specs.Types.{broughtOf}
 use Rattle.request.specs.Request.{Request}
 use Rattle.verdict_text.specs.Line.{refuses}
 use Rattle.verdict_line.specs.Line.{lineOf, loadedLeft, loadedRight, judged}
@@ -48,10 +48,10 @@ module _ (n : ℕ) (h : n ≤ lentMost) where
     asked = record { budget = budget; C = n; left = left; right = right }
 
     -- Loading into the first n words is loading into n zeros.
-    loads : (table ws : List ℕ) {a b : Answer} → a ≡ b → loadedOf a ws ≡ load table (take n array) → loadedOf b ws ≡ load table (replicate n 0)
-    loads table ws e q = ap (λ x. loadedOf x ws) (sym e) ∙ q ∙ ap (load table) (take-replicate 0 n lentMost h)
+    loads : (table ws : List ℕ) {a b : Answer} → a ≡ b → broughtOf a ws ≡ load table (take n array) → broughtOf b ws ≡ load table (replicate n 0)
+    loads table ws e q = ap (λ x. broughtOf x ws) (sym e) ∙ q ∙ ap (load table) (take-replicate 0 n lentMost h)
 
-    module _ (ws : List ℕ) {a : Answer} (loaded : loadedOf a ws ≡ load left (take n array)) where
+    module _ (ws : List ℕ) {a : Answer} (loaded : broughtOf a ws ≡ load left (take n array)) where
       pub refused-left : {why : Refusal} → a ≡ answer.Refused why → refuses (number (refusalOf why)) ≡ judged (some asked)
       refused-left e = ap (λ q. loadedLeft asked (q .workspace) (q .answer)) (loads left ws e loaded)
 
@@ -59,7 +59,7 @@ module _ (n : ℕ) (h : n ≤ lentMost) where
           → loadedRight n budget ws l (load right (replicate n 0) .workspace) (load right (replicate n 0) .answer) ≡ judged (some asked)
       after-left e = ap (λ q. loadedLeft asked (q .workspace) (q .answer)) (loads left ws e loaded)
 
-      module _ {l : ℕ} (l-is : a ≡ answer.Returned l) (vs : List ℕ) {b : Answer} (loaded-right : loadedOf b vs ≡ load right (take n array)) where
+      module _ {l : ℕ} (l-is : a ≡ answer.Returned l) (vs : List ℕ) {b : Answer} (loaded-right : broughtOf b vs ≡ load right (take n array)) where
         pub refused-right : {why : Refusal} → b ≡ answer.Refused why → refuses (number (refusalOf why)) ≡ judged (some asked)
         refused-right e = ap (λ q. loadedRight n budget ws l (q .workspace) (q .answer)) (loads right vs e loaded-right) ∙ after-left l-is
 

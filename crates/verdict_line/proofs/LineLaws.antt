@@ -11,7 +11,8 @@ use borrow.Author.Tests.{lt-leb}
 use lib.ListN.{length, replicate, length-replicate}
 use Rattle.calculus.specs.Words.{workspaceMost}
 use Rattle.calculus.specs.Refusal.{WrongWorkspace, number}
-use Rattle.tables.specs.Load.{refused, loadStored, load}
+use Rattle.calculus.specs.Bringing.{refused}
+use Rattle.tables.specs.Load.{loadStored, load}
 use Rattle.request.specs.Request.{Request, request}
 use Rattle.words.specs.Placed.{Placed}
 use Rattle.verdict_text.specs.Line.{refuses, lineMost}

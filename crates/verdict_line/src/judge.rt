@@ -14,7 +14,7 @@ ghost use mathlib.Core.Option.{some};
 ghost use Prim.Native.Nat.{min};
 ghost use Rattle.press.specs.Types.{answerOf};
 ghost use Rattle.tables.specs.Load.{load};
-ghost use Rattle.tables.specs.Types.{loadedOf};
+ghost use Rattle.words.specs.Types.{broughtOf};
 ghost use Rattle.request.specs.Request.{request};
 ghost use Rattle.request.specs.Parse.{wordsOfTable, Stands};
 ghost use Rattle.verdict_text.specs.Types.{printedLine};
@@ -36,9 +36,9 @@ pub fn lent(c: u32) -> usize
 }
 
 // Loads the table that stands in the bytes.
-pub fn load_from(bytes: &[u8], table: Table, workspace: &mut [u32]) -> tables::Answer
+pub fn load_from(bytes: &[u8], table: Table, workspace: &mut [u32]) -> words::answer::Answer
     requires { ⌜ Stands (now bytes) table ⌝ }
-    ensures { λ r. ⌜ loadedOf r (now (workspace .exit)) ≡ load (wordsOfTable (now (bytes .entry)) table) (now (workspace .entry)) ⌝ }
+    ensures { λ r. ⌜ broughtOf r (now (workspace .exit)) ≡ load (wordsOfTable (now (bytes .entry)) table) (now (workspace .entry)) ⌝ }
 {
     let mut words = [0u32; TABLE_MOST];
     let n = table.words;
@@ -66,10 +66,10 @@ fn judge_with(bytes: &[u8], left: Table, right: Table, budget: u32, c: u32) -> L
     let mut right_words = [0u32; LENT_MOST];
     let mut scratch = [0u32; LENT_MOST];
     match load_from(bytes, left, &mut left_words[..n]) {
-        tables::Answer::Refused(refusal) => Line::Refuses(refusal.number()),
-        tables::Answer::Returned(l) => match load_from(bytes, right, &mut right_words[..n]) {
-            tables::Answer::Refused(refusal) => Line::Refuses(refusal.number()),
-            tables::Answer::Returned(r) => {
+        words::answer::Answer::Refused(refusal) => Line::Refuses(refusal.number()),
+        words::answer::Answer::Returned(l) => match load_from(bytes, right, &mut right_words[..n]) {
+            words::answer::Answer::Refused(refusal) => Line::Refuses(refusal.number()),
+            words::answer::Answer::Returned(r) => {
                 let pressed = press_owned(
                     &mut left_words[..n],
                     &mut right_words[..n],

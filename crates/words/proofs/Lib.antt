@@ -1,3 +1,4 @@
 pub mod Spans
 pub mod PlacedLaws
+pub mod BringingLaws
 pub mod RoomLaws

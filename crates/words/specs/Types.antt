@@ -1,7 +1,12 @@
 -- What the code's types stand for.
-use Rattle.calculus.specs.Refusal.{Refusal, WrongLength, WrongHeader, WrongValue, WrongLink, WrongChildren, WrongFree, WrongWorkspace, TooLong, OverBudget, NoTerm}
+use Prim.Native.Nat.{ℕ}
+use mathlib.Core.List.{List}
+use Rattle.calculus.specs.Refusal.{Refusal, WrongLength, WrongHeader, WrongValue, WrongLink, WrongChildren, WrongFree, WrongWorkspace, TooLong, OverBudget, NoTerm, WrongLine}
+use Rattle.calculus.specs.Bringing.{Answer, refused, returned, Brought}
 use Rattle.words.specs.declared.refusal.Refusal as code
 use Rattle.words.specs.declared.refusal.Refusal.the-variants as refusal
+use Rattle.words.specs.declared.answer.Answer as codeAnswer
+use Rattle.words.specs.declared.answer.Answer.the-variants as answer
 
 abbrev pub refusalOf : code.Refusal → Refusal
 refusalOf refusal.WrongLength = WrongLength
@@ -14,3 +19,13 @@ refusalOf refusal.WrongWorkspace = WrongWorkspace
 refusalOf refusal.TooLong = TooLong
 refusalOf refusal.OverBudget = OverBudget
 refusalOf refusal.NoTerm = NoTerm
+refusalOf refusal.WrongLine = WrongLine
+
+-- A refusal, or the length of the term or the number of records.
+abbrev pub answerOf : codeAnswer.Answer → Answer
+answerOf (answer.Refused why) = refused (refusalOf why)
+answerOf (answer.Returned l) = returned l
+
+-- Everything at exit of bringing a term in: the answer and the lent workspace.
+abbrev pub broughtOf : codeAnswer.Answer → (workspace : List ℕ) → Brought
+broughtOf a workspace = record { answer = answerOf a; workspace = workspace }

@@ -7,11 +7,12 @@ ghost use Prim.Native.Nat.{_≤_, _<_, _+_, _-_};
 ghost use lib.ListN.{length, take, drop, replicate};
 ghost use Rattle.calculus.specs.Words.{variableKind, abstractionKind, applicationKind, constructorKind, caseKind, branchKind, numeralKind, workspaceLeast, workspaceMost, libraryWords, kindBase, countBase};
 ghost use Rattle.calculus.specs.Words.{word, kindOf, payloadOf, tagOf, countOf};
-ghost use Rattle.calculus.specs.Accepted.{tagLimit, argumentLimit, branchLimit, freeLimit, numeralLimit};
+ghost use Rattle.calculus.specs.Accepted.{tagLimit, argumentLimit, branchLimit, freeLimit, numeralLimit, indexLimit};
 ghost use Rattle.calculus.specs.Skip.{arity, span};
 ghost use Rattle.words.specs.Limits.{payloadBound};
 ghost use Rattle.words.specs.Bound.{bound};
 
+pub mod answer;
 pub mod refusal;
 pub mod slices;
 pub mod workspace;
@@ -58,6 +59,9 @@ impl Word {
     pub const FREE_MOST: u32 = 255;
 
     pub const NUMERAL_MOST: u32 = 31;
+
+    // The largest index that a record or a line can hold.
+    pub const INDEX_MOST: u32 = 32767;
 
     // The word of a kind and a payload.
     pub fn new(kind: u32, payload: u32) -> Self
@@ -181,4 +185,5 @@ fn constants()
     ensures { λ r. do ⌜ (← ⟦Word::BRANCHES_MOST⟧ .entry) ≡ branchLimit ⌝ }
     ensures { λ r. do ⌜ (← ⟦Word::FREE_MOST⟧ .entry) ≡ freeLimit ⌝ }
     ensures { λ r. do ⌜ (← ⟦Word::NUMERAL_MOST⟧ .entry) ≡ numeralLimit ⌝ }
+    ensures { λ r. do ⌜ (← ⟦Word::INDEX_MOST⟧ .entry) ≡ indexLimit ⌝ }
 {}

@@ -14,6 +14,7 @@ pub enum Refusal {
     TooLong,
     OverBudget,
     NoTerm,
+    WrongLine,
 }
 
 impl Refusal {
@@ -31,6 +32,7 @@ impl Refusal {
             Refusal::TooLong => 8,
             Refusal::OverBudget => 9,
             Refusal::NoTerm => 10,
+            Refusal::WrongLine => 11,
         }
     }
 }

@@ -1,7 +1,7 @@
 // The lengths of workspaces.
 ghost use mathlib.Core.Path.{_≡_};
 ghost use mathlib.Core.List.{[], _∷_};
-ghost use Rattle.calculus.specs.Workspace.{sized};
+ghost use Rattle.calculus.specs.Workspace.{sized, wrongWorkspace};
 use crate::Word;
 
 // Whether workspaces and scratch of these lengths pass refusal 7. A call that is lent fewer than three names the first again.
@@ -18,4 +18,11 @@ pub fn sized(first: usize, second: usize, third: usize) -> bool
         return false;
     }
     third == first
+}
+
+// Whether a workspace of so many words is refused.
+pub fn wrong_workspace(length: usize) -> bool
+    ensures { λ r. ⌜ r ≡ wrongWorkspace length ⌝ }
+{
+    !sized(length, length, length)
 }

@@ -1,7 +1,7 @@
 -- `put_any` meets its contract, by the report.
 use native.Mathlib.Omega.{arith}
 use Rattle.press.specs.Types.{answerOf}
-use Rattle.tables.specs.Types.{answerOf as tableAnswerOf}
+use Rattle.words.specs.Types.{answerOf as tableAnswerOf}
 use Rattle.script.specs.Calls.{partOf}
 use Rattle.report.specs.Text.{loadName, writeName}
 use Rattle.report.proofs.TextLaws.{length-table, length-pressed, length-shown}

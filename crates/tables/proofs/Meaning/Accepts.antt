@@ -1,33 +1,25 @@
 -- What a table means is accepted where the table meets none of refusals 3 to 6: tags by 3, counts and rising tags by 5, free numbers by 6.
 use Prim.Native.Nat.{ℕ, suc, _+_, _≤_}
-use mathlib.Core.Path.{_≡_, refl, sym, _∙_}
-use mathlib.Core.Bool.{Bool, true, false, and-eq-true-iff}
+use mathlib.Core.Path.{_≡_}
+use mathlib.Core.Bool.{true, and-eq-true-iff}
 use mathlib.Core.List.{List, _++_}
-use mathlib.Core.Logic.{ite}
-use mathlib.Core.Option.{some, Option·none-ne-some}
 use native.Mathlib.Omega.{arith}
 use lib.Dec.{leb}
 use lib.ListN.{length}
-use lib.Seq.{take-append-seam}
 use borrow.Author.Tests.{leb-true}
 use Rattle.calculus.specs.Term.{Sort, term, terms, branches, Exp, Term, Terms, Branches, count}
 use Rattle.calculus.specs.Words.{words, size, workspaceMost, caseKind, branchKind, tagOf, countOf}
 use Rattle.calculus.specs.Accepted.{argumentLimit, branchLimit, indexLimit, IsTag, Rising, Scoped, Accepted}
-use Rattle.calculus.specs.Decide.{scoped?}
 use Rattle.calculus.specs.Theorems.{Packable}
-use Rattle.calculus.specs.Workspace.{termAt}
-use Rattle.calculus.proofs.WordLaws.{accepted-scoped, accepted-packable}
-use Rattle.calculus.proofs.ReadLaws.{words-injective}
-use Rattle.calculus.proofs.WorkspaceLaws.{termAt-words}
+use Rattle.calculus.proofs.WordLaws.{accepted-packable}
 use Rattle.terms.specs.IsTerm.{isTerm}
-use Rattle.terms.proofs.IsTerm.{isTerm-some, isTerm-none}
+use Rattle.terms.proofs.FreeNumbers.{scoped-is-term}
 use Rattle.records.specs.Records.{Table, OfKind}
 use Rattle.tables.specs.Meaning.{Means, plain, case-of, no-term, a-term, no-branch, a-branch}
 use Rattle.records.specs.Values.{isTag, valueFits}
 use Rattle.records.specs.Children.{children, numberFits, subjectFirst, sortsFit, childrenFit}
-use Rattle.tables.specs.FreeNumbers.{freeFits}
+use Rattle.calculus.specs.Bringing.{freeFits}
 use Rattle.tables.proofs.Meaning.Nodes.{tag-fits, node-accepted, node-scoped}
-use Rattle.tables.proofs.Meaning.Held.{held}
 use Rattle.records.proofs.LinkRules.{Linked}
 use Rattle.tables.proofs.Meaning.ChainMeaning.{terms-chain, case-chain}
 use Rattle.records.proofs.Fits.{Valued, Fitted}
@@ -82,19 +74,4 @@ module _ (T : Table) (L : Linked T) (values : Valued T) (fits : Fitted T) where
   -- Its free numbers are in range exactly if its words are an accepted term.
   pub free-is-term : {i : ℕ} {t : Term} → Means T term i t → (rest : List ℕ) → length (words t ++ rest) ≤ workspaceMost
       → freeFits t ≡ isTerm (words t ++ rest) (size t)
-  free-is-term {t = t} m rest short = go (scoped? 0 t) (isTerm (words t ++ rest) (size t)) refl
-    where
-      found : (u : Term) → termAt (words t ++ rest) (size t) ≡ some u → Scoped 0 t
-      found u q =
-          let is = held (words t ++ rest) (size t) u q in
-          let same : u ≡ t = words-injective u t (accepted-packable 0 u (is .accepted)) (means-packable m) (is .words-are ∙ take-append-seam (words t) rest) in
-          accepted-scoped 0 t (rw same at (is .accepted))
-
-      go : (d : Dec (Scoped 0 t)) (b : Bool) → isTerm (words t ++ rest) (size t) ≡ b → ite d true false ≡ b
-      go (yes a) true f = refl
-      go (no n) false f = refl
-      go (yes a) false f =
-          let some-term = termAt-words t rest (means-accepted m 0 a) in
-          let no-term = isTerm-none (words t ++ rest) (size t) short f in
-          absurd (Option·none-ne-some t (sym no-term ∙ some-term))
-      go (no n) true f = let u = isTerm-some (words t ++ rest) (size t) f in absurd (n (found (u .0) (u .1)))
+  free-is-term {t = t} m rest short = scoped-is-term t (means-packable m) (λ a. means-accepted m 0 a) rest short

@@ -16,7 +16,8 @@ use Rattle.records.specs.Records.{Table, Stored, view}
 use Rattle.tables.specs.Meaning.{Means, plain, case-of, no-term, a-term, no-branch, a-branch}
 use Rattle.records.specs.Children.{children}
 use Rattle.transcription.specs.Reading.{chainWords, termWords, Readable}
-use Rattle.tables.specs.FreeNumbers.{freeAbove, wrongFree}
+use Rattle.calculus.specs.Bringing.{freeAbove}
+use Rattle.tables.specs.FreeNumbers.{wrongFree}
 use Rattle.records.proofs.LinkRules.{Linked, linked}
 use Rattle.records.proofs.Fits.{Valued, valued, Fitted, fitted}
 use Rattle.tables.proofs.Meaning.Nodes.{node-words}

@@ -11,7 +11,7 @@ use Rattle.calculus.specs.Words.{size}
 use Rattle.calculus.specs.Decide.{scoped?}
 use Rattle.records.specs.Records.{Table}
 use Rattle.tables.specs.Meaning.{Means, meaning}
-use Rattle.tables.specs.FreeNumbers.{freeFits}
+use Rattle.calculus.specs.Bringing.{freeFits}
 use Rattle.tables.specs.Theorems.{Sound-means}
 use Rattle.records.proofs.Tests.{isRecord-true}
 use Rattle.records.proofs.LinkRules.{Linked, linked}

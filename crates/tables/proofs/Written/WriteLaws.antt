@@ -11,16 +11,15 @@ use Rattle.calculus.specs.Words.{words, size, workspaceMost}
 use Rattle.calculus.specs.Accepted.{Accepted}
 use Rattle.calculus.proofs.WorkspaceLaws.{termAt-words, length-padded, sized-most}
 use Rattle.records.specs.Records.{form1, recordsWords, entry}
-use Rattle.records.specs.Header.{wrongWorkspace}
-use Rattle.tables.specs.Load.{returned}
+use Rattle.calculus.specs.Bringing.{returned}
 use Rattle.tables.specs.Write.{tableOf, write, Written}
 use mathlib.Core.Option.{some}
 use lib.Seq.{sets}
-use Rattle.calculus.specs.Workspace.{termAt}
+use Rattle.calculus.specs.Workspace.{wrongWorkspace, termAt}
 use Rattle.calculus.proofs.WordLaws.{accepted-packable}
 use Rattle.words.proofs.PlacedLaws.{sets-whole}
 use Rattle.transcription.specs.Writing.{entries}
-use Rattle.tables.proofs.Meaning.Held.{Held, held}
+use Rattle.calculus.proofs.Held.{Held, held}
 use Rattle.tables.proofs.Written.WrittenTable.{tableOf-length}
 use Rattle.tables.proofs.Written.EntriesLaws.{entries-records}
 

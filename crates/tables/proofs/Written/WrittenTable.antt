@@ -15,7 +15,8 @@ use Rattle.calculus.proofs.WordLaws.{accepted-scoped, size-positive, accepted-p
 use Rattle.calculus.proofs.Indices.{indices-bounded}
 use Rattle.records.specs.Records.{form1, recordAt, inForm1, view, entry}
 use Rattle.tables.specs.Meaning.{Means}
-use Rattle.records.specs.Header.{wrongWorkspace, wrongLength, wrongHeader}
+use Rattle.calculus.specs.Workspace.{wrongWorkspace}
+use Rattle.records.specs.Header.{wrongLength, wrongHeader}
 use Rattle.records.specs.Links.{wrongLink}
 use Rattle.tables.specs.FreeNumbers.{wrongFree}
 use Rattle.tables.specs.PrefixOrder.{nothing, InPrefixOrder}

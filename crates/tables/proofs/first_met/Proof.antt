@@ -4,7 +4,8 @@ use mathlib.Core.Bool.{false}
 use borrow.Author.Needs.{needs}
 use borrow.Author.Tests.{lt-ltb, le-ltb}
 use Rattle.records.specs.Types.{stored, viewed}
-use Rattle.records.specs.Header.{wrongWorkspace, wrongLength, wrongHeader, tooLong}
+use Rattle.calculus.specs.Workspace.{wrongWorkspace}
+use Rattle.records.specs.Header.{wrongLength, wrongHeader, tooLong}
 use Rattle.records.proofs.RecordLaws.{headed}
 use Rattle.tables.proofs.first_met.Statement.{statement}
 use Rattle.tables.proofs.first_met.Tie as tie

@@ -4,7 +4,8 @@ use mathlib.Core.Option.{none}
 use native.Mathlib.Omega.{arith}
 use lib.ListN.{length}
 use borrow.Author.Needs.{needs}
-use Rattle.tables.specs.Load.{checks, firstMet, loadStored}
+use Rattle.calculus.specs.Bringing.{firstMet}
+use Rattle.tables.specs.Load.{checks, loadStored}
 use Rattle.records.specs.Records.{inForm1}
 use Rattle.tables.specs.Types.{metOf}
 use Rattle.tables.proofs.LoadCode.{root-readable, room, loaded}

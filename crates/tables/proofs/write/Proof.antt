@@ -10,11 +10,10 @@ use borrow.Author.Needs.{needs}
 use borrow.Author.Tests.{ne-eqb, not-true, not-false}
 use Rattle.calculus.specs.Term.{Term}
 use Rattle.calculus.specs.Words.{workspaceMost}
-use Rattle.calculus.specs.Workspace.{termAt}
+use Rattle.calculus.specs.Workspace.{wrongWorkspace, termAt}
 use Rattle.terms.proofs.IsTerm.{isTerm-some, isTerm-none}
-use Rattle.records.specs.Header.{wrongWorkspace}
 use Rattle.tables.specs.Write.{write}
-use Rattle.tables.proofs.Meaning.Held.{held}
+use Rattle.calculus.proofs.Held.{held}
 use Rattle.tables.proofs.Written.WriteLaws.{workspace-short, written}
 use Rattle.tables.proofs.write.Statement.{statement}
 use Rattle.tables.proofs.write.Tie as tie

@@ -1,6 +1,6 @@
 -- `loads` meets its contract.
 use mathlib.Core.Path.{sym, _∙_, ap}
-use Rattle.tables.specs.Types.{loadedOf}
+use Rattle.words.specs.Types.{broughtOf}
 use Rattle.vectors.specs.Stored.{verifiedOf, loadingOf, loading}
 use Rattle.vectors.proofs.StoredLaws.{load-refused, load-given}
 use borrow.Author.Needs.{needs}
@@ -27,7 +27,7 @@ same-length c = search needs
 
 returns : tie.Need-returns
 unfolding loading
-returns c = rw (c .filled .ensures, c .before .before .refuses .ensures) (ap (λ b. verifiedOf b (c .before .before .before .before .before .before .before .before .load .last .1 .0)) (sym (load-refused (c .before .before .before .before .before .before .before .before .before .before .before .before .before .args .line .now) (c .before .before .before .before .before .before .before .before .before .before .before .before .before .args .at) (c .before .before .before .before .before .before .before .before .before .before .before .before .before .args .table .now) (loadedOf (c .before .before .before .before .before .before .before .before .load .result) (c .before .before .before .before .before .before .before .before .load .last .1 .0)) _ (c .before .before .before .before .after .ensures) (c .before .before .before .if1 .taken))) ∙ ap (loadingOf (c .before .before .before .before .before .before .before .before .before .before .before .before .before .args .line .now) (c .before .before .before .before .before .before .before .before .before .before .before .before .before .args .at) (c .before .before .before .before .before .before .before .before .before .before .before .before .before .args .table .now)) (c .before .before .before .before .before .before .before .before .load .ensures))
+returns c = rw (c .filled .ensures, c .before .before .refuses .ensures) (ap (λ b. verifiedOf b (c .before .before .before .before .before .before .before .before .load .last .1 .0)) (sym (load-refused (c .before .before .before .before .before .before .before .before .before .before .before .before .before .args .line .now) (c .before .before .before .before .before .before .before .before .before .before .before .before .before .args .at) (c .before .before .before .before .before .before .before .before .before .before .before .before .before .args .table .now) (broughtOf (c .before .before .before .before .before .before .before .before .load .result) (c .before .before .before .before .before .before .before .before .load .last .1 .0)) _ (c .before .before .before .before .after .ensures) (c .before .before .before .if1 .taken))) ∙ ap (loadingOf (c .before .before .before .before .before .before .before .before .before .before .before .before .before .args .line .now) (c .before .before .before .before .before .before .before .before .before .before .before .before .before .args .at) (c .before .before .before .before .before .before .before .before .before .before .before .before .before .args .table .now)) (c .before .before .before .before .before .before .before .before .load .ensures))
 
 slice-aggregate-after-2 : tie.Need-slice-aggregate-after-2
 slice-aggregate-after-2 c = search needs
@@ -49,7 +49,7 @@ same-length-2 c = search needs
 
 returns-2 : tie.Need-returns-2
 unfolding loading
-returns-2 c = rw (c .before .before .before .returns-count .ensures, c .writes .ensures) (ap (λ b. verifiedOf b (c .before .before .before .before .before .before .before .before .before .before .before .before .before .load .last .1 .0)) (sym (load-given (c .before .before .before .before .before .before .before .before .before .before .before .before .before .before .before .before .before .before .args .line .now) (c .before .before .before .before .before .before .before .before .before .before .before .before .before .before .before .before .before .before .args .at) (c .before .before .before .before .before .before .before .before .before .before .before .before .before .before .before .before .before .before .args .table .now) (loadedOf (c .before .before .before .before .before .before .before .before .before .before .before .before .before .load .result) (c .before .before .before .before .before .before .before .before .before .before .before .before .before .load .last .1 .0)) _ (c .before .before .before .before .before .before .before .before .before .after .ensures) (c .before .before .before .before .compare .result) (c .before .before .before .before .before .before .before .before .if1 .left) (rw (← (c .before .before .before .before .before .before .after2 .ensures)) (c .before .before .before .before .compare .ensures)))) ∙ ap (loadingOf (c .before .before .before .before .before .before .before .before .before .before .before .before .before .before .before .before .before .before .args .line .now) (c .before .before .before .before .before .before .before .before .before .before .before .before .before .before .before .before .before .before .args .at) (c .before .before .before .before .before .before .before .before .before .before .before .before .before .before .before .before .before .before .args .table .now)) (c .before .before .before .before .before .before .before .before .before .before .before .before .before .load .ensures))
+returns-2 c = rw (c .before .before .before .returns-count .ensures, c .writes .ensures) (ap (λ b. verifiedOf b (c .before .before .before .before .before .before .before .before .before .before .before .before .before .load .last .1 .0)) (sym (load-given (c .before .before .before .before .before .before .before .before .before .before .before .before .before .before .before .before .before .before .args .line .now) (c .before .before .before .before .before .before .before .before .before .before .before .before .before .before .before .before .before .before .args .at) (c .before .before .before .before .before .before .before .before .before .before .before .before .before .before .before .before .before .before .args .table .now) (broughtOf (c .before .before .before .before .before .before .before .before .before .before .before .before .before .load .result) (c .before .before .before .before .before .before .before .before .before .before .before .before .before .load .last .1 .0)) _ (c .before .before .before .before .before .before .before .before .before .after .ensures) (c .before .before .before .before .compare .result) (c .before .before .before .before .before .before .before .before .if1 .left) (rw (← (c .before .before .before .before .before .before .after2 .ensures)) (c .before .before .before .before .compare .ensures)))) ∙ ap (loadingOf (c .before .before .before .before .before .before .before .before .before .before .before .before .before .before .before .before .before .before .args .line .now) (c .before .before .before .before .before .before .before .before .before .before .before .before .before .before .before .before .before .before .args .at) (c .before .before .before .before .before .before .before .before .before .before .before .before .before .before .before .before .before .before .args .table .now)) (c .before .before .before .before .before .before .before .before .before .before .before .before .before .load .ensures))
 
 pub loads-spec : {M : Type 1} → statement M
 loads-spec =

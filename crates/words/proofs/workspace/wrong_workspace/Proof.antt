@@ -3,8 +3,8 @@ use mathlib.Core.Path.{ap, _∙_}
 use mathlib.Core.Bool.{not}
 use borrow.Author.Needs.{needs}
 use Rattle.calculus.proofs.WorkspaceLaws.{sized-one}
-use Rattle.records.proofs.header.wrong_workspace.Statement.{statement}
-use Rattle.records.proofs.header.wrong_workspace.Tie as tie
+use Rattle.words.proofs.workspace.wrong_workspace.Statement.{statement}
+use Rattle.words.proofs.workspace.wrong_workspace.Tie as tie
 
 returns : tie.Need-returns
 returns c = ap not (c .sized .ensures ∙ sized-one (c .before .args .length))
