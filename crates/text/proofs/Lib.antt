@@ -1,3 +1,4 @@
+pub mod ByteLaws
 pub mod Storing
 pub mod DecodeLaws
 pub mod DecimalLaws

@@ -1,8 +1,10 @@
-// Little-endian 32-bit words in bytes.
+// Little-endian 32-bit words in bytes, and words that are a byte each.
 ghost use mathlib.Core.Path.{_≡_};
 ghost use Prim.Native.Nat.{_≤_, _+_, _*_};
 ghost use lib.ListN.{length};
-ghost use Rattle.text.specs.Bytes.{wordBytes, wordOf};
+ghost use mathlib.Core.Bool.{true};
+ghost use Rattle.words.specs.Placed.{Placed};
+ghost use Rattle.text.specs.Bytes.{wordBytes, wordOf, areBytes};
 ghost use Rattle.text.specs.Decode.{wordAt, wordsFrom};
 
 pub const WORD_BYTES: usize = 4;
@@ -35,4 +37,32 @@ pub fn words_from(bytes: &[u8], at: usize, words: &mut [u32])
         words[i] = word_at(bytes, at + WORD_BYTES * i);
         i += 1;
     }
+}
+
+// Whether every word is a byte.
+pub fn are_bytes(words: &[u32]) -> bool
+    ensures { λ r. ⌜ r ≡ areBytes (now (words .entry)) ⌝ }
+{
+    let mut i = 0;
+    while i < words.len() {
+        if BYTE_BASE <= words[i] {
+            return false;
+        }
+        i += 1;
+    }
+    true
+}
+
+// Puts words that are bytes at the start of a slice of bytes, and returns how many they are.
+pub fn narrow(words: &[u32], bytes: &mut [u8]) -> usize
+    requires { ⌜ areBytes (now words) ≡ true ⌝ }
+    requires { ⌜ length (now words) ≤ length (now bytes) ⌝ }
+    ensures { λ r. ⌜ Placed (now (bytes .entry)) 0 (now (words .entry)) (now (bytes .exit)) r ⌝ }
+{
+    let mut i = 0;
+    while i < words.len() {
+        bytes[i] = words[i] as u8;
+        i += 1;
+    }
+    i
 }

@@ -1,0 +1,56 @@
+-- `are_bytes` meets its contract: the words from i on tell what all of them tell.
+use Prim.Native.Nat.{_-_, _≤_}
+use mathlib.Core.Path.{_≡_, refl, sym, _∙_}
+use native.Mathlib.Omega.{arith}
+use lib.ListN.{length, drop}
+use Rattle.text.specs.Bytes.{areBytes}
+use Rattle.text.proofs.ByteLaws.{byte-none, byte-some, byte-end}
+use Rattle.text.proofs.bytes.are_bytes.Statement.{statement}
+use Rattle.text.proofs.bytes.are_bytes.Tie as tie
+
+abbrev Inv-loop : tie.InvT-loop
+Inv-loop words i₀ i = (i ≤ length words) × (areBytes (drop i words) ≡ areBytes words)
+
+abbrev μ-loop : tie.MeasureT-loop
+μ-loop words i₀ i = length words - i
+
+loop-holds : tie.Need-loop-holds Inv-loop μ-loop
+loop-holds c = (omega arith, refl)
+
+mul-if1 : tie.Need-mul-if1 Inv-loop μ-loop
+mul-if1 c = omega arith
+
+shared-slice-read-if1 : tie.Need-shared-slice-read-if1 Inv-loop μ-loop
+shared-slice-read-if1 c = omega arith
+
+returns : tie.Need-returns Inv-loop μ-loop
+returns c = let l = c .before .before .before .loop in byte-none (c .before .before .before .before .args .words .now) (l .i) (omega arith) (omega arith) ∙ l .inv .1
+
+add-i : tie.Need-add-i Inv-loop μ-loop
+add-i c = omega arith
+
+loop-less : tie.Need-loop-less Inv-loop μ-loop
+loop-less c = omega arith
+
+loop-again : tie.Need-loop-again Inv-loop μ-loop
+loop-again c =
+    let l = c .before .before .before .loop in
+    (omega arith, byte-some (c .before .before .before .before .args .words .now) (l .i) (omega arith) (omega arith) ∙ l .inv .1)
+
+returns-2 : tie.Need-returns-2 Inv-loop μ-loop
+returns-2 c = let l = c .before .loop in byte-end (c .before .before .args .words .now) (l .i) (omega arith) ∙ l .inv .1
+
+pub are-bytes-spec : {M : Type 1} → statement M
+are-bytes-spec =
+    tie.close
+    (tie.spec
+    Inv-loop
+    μ-loop
+    loop-holds
+    mul-if1
+    shared-slice-read-if1
+    returns
+    add-i
+    loop-less
+    loop-again
+    returns-2)
