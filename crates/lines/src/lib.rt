@@ -1,0 +1,44 @@
+// Reading a line: a term typed in the notation, brought into a workspace.
+use parser::LINE_MOST;
+use parser::Parsed;
+use parser::ROOM;
+use parser::parse;
+use terms::is_term;
+use words::answer::Answer;
+use words::clear;
+use words::refusal::Refusal;
+use words::slices::copy;
+use words::workspace::wrong_workspace;
+ghost use mathlib.Core.Path.{_≡_};
+ghost use Rattle.words.specs.Types.{broughtOf};
+ghost use Rattle.notation.specs.Reading.{readLine};
+
+// Puts the term of a line into a workspace, with zeros after it, and returns its length. A refusal changes nothing: the words stand in an array of their own
+// until every check has passed.
+pub fn read_line(line: &[u8], workspace: &mut [u32]) -> Answer
+    ensures { λ r. ⌜ broughtOf r (now (workspace .exit)) ≡ readLine (now (line .entry)) (now (workspace .entry)) ⌝ }
+{
+    if wrong_workspace(workspace.len()) {
+        return Answer::Refused(Refusal::WrongWorkspace);
+    }
+    if LINE_MOST < line.len() {
+        return Answer::Refused(Refusal::WrongLine);
+    }
+    let mut stack = [0usize; ROOM];
+    let mut words = [0u32; ROOM];
+    match parse(line, &mut stack, &mut words) {
+        Parsed::Outside => Answer::Refused(Refusal::WrongLine),
+        Parsed::From(at) => {
+            let length = ROOM - at;
+            if !is_term(&words[at..], length) {
+                return Answer::Refused(Refusal::WrongFree);
+            }
+            if workspace.len() < length {
+                return Answer::Refused(Refusal::TooLong);
+            }
+            let end = copy(&words, at, ROOM, workspace, 0);
+            clear(workspace, end);
+            Answer::Returned(end)
+        }
+    }
+}
