@@ -29,6 +29,12 @@ impl Words<'_> {
         (0..count).map(|_| self.word()).collect()
     }
 
+    /// A count within the same limit, and that many words, each a byte.
+    pub fn line(&mut self) -> Option<Vec<u8>> {
+        let words = self.table()?.into_iter();
+        words.map(|word| u8::try_from(word).ok()).collect()
+    }
+
     /// A word that gives the length of a table.
     pub fn length(&mut self) -> Option<usize> {
         let length = self.word()? as usize;

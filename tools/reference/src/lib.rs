@@ -1,8 +1,8 @@
 //! An independent reference for the convertibility calculator.
 //!
 //! The first modules are the rules of docs/RULES.md on trees: terms, their
-//! words, contraction, positions, presses, tables, and the two programs as
-//! functions from input bytes to printed text. `generate` makes inputs for
+//! words, contraction, positions, presses, tables, lines, and the two programs
+//! as functions from input bytes to printed text. `generate` makes inputs for
 //! the programs from fixed seeds; `part`, `shape`, `tally` and `child` serve
 //! the `compare` program, which runs the built programs on those inputs.
 
@@ -10,6 +10,7 @@ pub mod child;
 pub mod contraction;
 pub mod generate;
 pub mod input;
+pub mod line;
 pub mod part;
 pub mod position;
 pub mod press;

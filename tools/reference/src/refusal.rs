@@ -19,12 +19,14 @@ pub enum Refusal {
     FreeNumber = 6,
     /// A workspace or scratch has a wrong length.
     Workspace = 7,
-    /// The loaded term is longer than its workspace.
+    /// The term that is brought in is longer than its workspace.
     TooLong = 8,
     /// The budget is too large, alone or with what was spent before.
     Budget = 9,
     /// The given words are not one whole term.
     NotATerm = 10,
+    /// The line is outside the grammar, or its length is wrong.
+    Line = 11,
 }
 
 impl Refusal {

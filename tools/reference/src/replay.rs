@@ -1,6 +1,7 @@
 //! The replaying program as a function from a script to its printed text.
 
 use crate::input::{workspace, Words};
+use crate::line::read_line;
 use crate::press::{press, show, Answer, Session, Side, Verdict};
 use crate::refusal::Refusal;
 use crate::table::{load, write};
@@ -42,6 +43,10 @@ pub enum Operation {
         word: u32,
     },
     Print,
+    Line {
+        side: Side,
+        line: Vec<u8>,
+    },
 }
 
 /// What came of one operation, or of a script that breaks off.
@@ -54,6 +59,7 @@ pub enum Event {
     SetSession,
     Store,
     Print,
+    Line(Result<u32, Refusal>),
     Script,
 }
 
@@ -150,6 +156,10 @@ impl Script<'_> {
                 word: words.word()?,
             },
             7 => Operation::Print,
+            8 => Operation::Line {
+                side: side(words)?,
+                line: words.line()?,
+            },
             _ => return None,
         })
     }
@@ -207,23 +217,24 @@ impl Machine {
             } => self.write(*side, *length, *table, text),
             Operation::SetSession(session) => {
                 self.session = *session;
-                line(text, "session", &[]);
+                row(text, "session", &[]);
                 Event::SetSession
             }
             Operation::Store { side, at, word } => {
                 if let Some(place) = self.workspace(*side).get_mut(*at as usize) {
                     *place = *word;
                 }
-                line(text, "store", &[]);
+                row(text, "store", &[]);
                 Event::Store
             }
             Operation::Print => self.print(text),
+            Operation::Line { side, line } => self.read_line(*side, line, text),
         }
     }
 
     fn load(&mut self, side: Side, table: &[u32], text: &mut String) -> Event {
         let answer = load(table, self.workspace(side));
-        line(text, &returned("load", answer), &[]);
+        row(text, &returned("load", answer), &[]);
         Event::Load(answer)
     }
 
@@ -247,16 +258,16 @@ impl Machine {
             Ok(answer) => format!("{answer} {}", answer.position),
             Err(refusal) => format!("refused {refusal}"),
         };
-        line(text, &head, &[]);
+        row(text, &head, &[]);
         Event::Press(answer)
     }
 
     fn show(&self, lengths: (u32, u32), text: &mut String) -> Event {
         let part = show(&self.left, &self.right, lengths);
         match part {
-            Some((Side::Left, length)) => line(text, "show 0", &self.left[..length]),
-            Some((Side::Right, length)) => line(text, "show 1", &self.right[..length]),
-            None => line(text, "show 0", &[]),
+            Some((Side::Left, length)) => row(text, "show 0", &self.left[..length]),
+            Some((Side::Right, length)) => row(text, "show 1", &self.right[..length]),
+            None => row(text, "show 0", &[]),
         }
         Event::Show(part)
     }
@@ -264,26 +275,32 @@ impl Machine {
     fn write(&mut self, side: Side, length: u32, table: usize, text: &mut String) -> Event {
         let mut table = vec![FILLING; table];
         let answer = write(self.workspace(side), length, &mut table);
-        line(text, &returned("write", answer), &table);
+        row(text, &returned("write", answer), &table);
         Event::Write(answer)
     }
 
     fn print(&self, text: &mut String) -> Event {
-        line(text, "left", &self.left);
-        line(text, "right", &self.right);
-        line(text, "scratch", &self.scratch);
+        row(text, "left", &self.left);
+        row(text, "right", &self.right);
+        row(text, "scratch", &self.scratch);
         let Session {
             total,
             left,
             right,
             verdict,
         } = self.session;
-        line(
+        row(
             text,
             &format!("session {total} {left} {right} {verdict}"),
             &[],
         );
         Event::Print
+    }
+
+    fn read_line(&mut self, side: Side, line: &[u8], text: &mut String) -> Event {
+        let answer = read_line(line, self.workspace(side));
+        row(text, &returned("line", answer), &[]);
+        Event::Line(answer)
     }
 }
 
@@ -295,7 +312,7 @@ fn returned(call: &str, answer: Result<u32, Refusal>) -> String {
 }
 
 /// Adds one line: its head and then words, separated by single spaces.
-fn line(text: &mut String, head: &str, words: &[u32]) {
+fn row(text: &mut String, head: &str, words: &[u32]) {
     text.push_str(head);
     for word in words {
         text.push(' ');

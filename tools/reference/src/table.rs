@@ -3,8 +3,8 @@
 use crate::press::{put, term_in};
 use crate::refusal::Refusal;
 use crate::term::{
-    abs, app, branch, case, con, num, tags_rise, var, Branch, Term, LARGEST_NUMERAL, MOST, TAGS,
-    WORKSPACE,
+    abs, app, branch, case, con, num, tags_rise, var, Branch, Term, LARGEST_INDEX, LARGEST_NUMERAL,
+    MOST, TAGS, WORKSPACE,
 };
 use crate::words::{kind, tag_and_count, COUNTS};
 
@@ -16,8 +16,6 @@ pub const FORM: u32 = 1;
 pub const MOST_RECORDS: usize = 2_048;
 /// The most words of a table.
 pub const LONGEST_TABLE: usize = RECORD * (MOST_RECORDS + 1);
-/// The largest index in a table.
-pub const LARGEST_INDEX: u32 = 32_767;
 
 #[derive(Clone, Copy)]
 struct Record {

@@ -1,6 +1,8 @@
 //! Counts of what a run saw, and the least it has to see.
 
+use crate::line::{term_of, Fault};
 use crate::part;
+use crate::refusal::Refusal;
 use crate::replay::{Event, Machine, Operation};
 use crate::shape::{self, SHAPES};
 use crate::verdict::Outcome;
@@ -31,9 +33,9 @@ const VERDICT_KINDS: [&str; 19] = [
     "verdict, press Full by a numeral",
 ];
 
-/// Answers that the calls of a script can give, and the parts that numerals
-/// have in them.
-const REPLAY_KINDS: [&str; 37] = [
+/// Answers that the calls of a script can give, the parts that numerals have
+/// in them, and the faults of lines.
+const REPLAY_KINDS: [&str; 48] = [
     "replay: load",
     "replay: load refused 1",
     "replay: load refused 2",
@@ -60,6 +62,11 @@ const REPLAY_KINDS: [&str; 37] = [
     "replay: set session",
     "replay: store",
     "replay: print",
+    "replay: line",
+    "replay: line refused 6",
+    "replay: line refused 7",
+    "replay: line refused 8",
+    "replay: line refused 11",
     "replay: Script",
     "replay, load of a numeral",
     "replay, load refused 3 by a numeral",
@@ -71,10 +78,16 @@ const REPLAY_KINDS: [&str; 37] = [
     "replay, show refused by a numeral",
     "replay, write of a numeral",
     "replay, write refused 10 by a numeral",
+    "replay, line refused 11 by its length",
+    "replay, line refused 11 by a byte",
+    "replay, line refused 11 by a number",
+    "replay, line refused 11 by a space",
+    "replay, line refused 11 by a parenthesis",
+    "replay, line refused 11 by a missing item",
 ];
 
 /// Each kind of answer has to be seen once in so many cases.
-const CASES_PER_KIND: usize = 30;
+const CASES_PER_KIND: usize = 40;
 /// So has each shape that a press leaves.
 const CASES_PER_SHAPE: usize = 60;
 /// Runs with fewer cases need half of that, since chance weighs more there.
@@ -109,18 +122,24 @@ impl Tally {
             Event::SetSession => "set session".to_string(),
             Event::Store => "store".to_string(),
             Event::Print => "print".to_string(),
+            Event::Line(Ok(_)) => "line".to_string(),
+            Event::Line(Err(refusal)) => format!("line refused {refusal}"),
             Event::Script => "Script".to_string(),
         };
         self.count(format!("replay: {kind}"), 1);
     }
 
-    /// What a call of the program has to do with numerals and positions.
+    /// What a call of the program has to do with numerals and positions, and
+    /// what is wrong with a line.
     pub fn call(&mut self, program: &str, before: &Machine, operation: &Operation) {
         for part in part::of_call(before, operation) {
             self.count(format!("{program}, {part}"), 1);
         }
         for shape in shape::of_call(before, operation) {
             self.count(format!("{program}, {shape}"), 1);
+        }
+        if let Some(fault) = fault(before, operation) {
+            self.count(format!("{program}, line refused 11 by {fault}"), 1);
         }
     }
 
@@ -160,6 +179,17 @@ impl Tally {
         }
         needed.retain(|(kind, least)| self.seen(kind) < *least);
         needed
+    }
+}
+
+/// What is wrong with a line that is refused by 11.
+fn fault(before: &Machine, operation: &Operation) -> Option<Fault> {
+    let Operation::Line { line, .. } = operation else {
+        return None;
+    };
+    match before.clone().apply(operation, &mut String::new()) {
+        Event::Line(Err(Refusal::Line)) => term_of(line).err(),
+        _ => None,
     }
 }
 

@@ -8,6 +8,8 @@ pub const WORKSPACE: RangeInclusive<usize> = 16..=2_048;
 pub const TAGS: RangeInclusive<u32> = 1..=255;
 /// The most arguments, branches or variables bound by a branch.
 pub const MOST: usize = 15;
+/// The largest index in a table or a line.
+pub const LARGEST_INDEX: u32 = 32_767;
 /// The largest free number.
 pub const LARGEST_FREE: u32 = 255;
 /// The largest numeral.

@@ -64,6 +64,8 @@ fn the_report_counts_every_case() {
     assert!(report.contains("verdict, press Full by a numeral\n"));
     assert!(report.contains("verdict, press Different behind equal words\n"));
     assert!(report.contains("replay, press Budget behind equal words\n"));
+    assert!(report.contains("replay: line refused 6\n"));
+    assert!(report.contains("replay, line refused 11 by a space\n"));
 }
 
 #[test]
@@ -115,17 +117,17 @@ fn wrong_arguments() {
     }
 }
 
-/// What sixty cases of a seed have to see once and do not.
+/// What eighty-four cases of a seed have to see once and do not.
 fn missing(seed: u64) -> Vec<(String, usize)> {
     let mut tally = Tally::default();
-    for case in 0..40 {
+    for case in 0..56 {
         let input = inputs::input(seed, case);
         tally.verdict(&verdict::outcome(&input));
         verdict::watch(&input, |before, operation| {
             tally.call("verdict", before, operation);
         });
     }
-    for case in 0..20 {
+    for case in 0..28 {
         let script = scripts::script(seed, case);
         let transcript = replay::run_watched(&script, |before, operation| {
             tally.call("replay", before, operation);
@@ -135,15 +137,15 @@ fn missing(seed: u64) -> Vec<(String, usize)> {
             .iter()
             .for_each(|event| tally.event(event));
     }
-    tally.too_few(60, BOTH)
+    tally.too_few(84, BOTH)
 }
 
 #[test]
 fn a_run_that_sees_too_little_fails() {
     let missing = |seed| Some((seed, missing(seed))).filter(|(_, few)| !few.is_empty());
     let found = on_large_stack(|| (1..100).find_map(missing));
-    let (seed, few) = found.expect("sixty cases are few for some seed");
-    let output = compare(&[VERDICT, REPLAY, "60", &seed.to_string()]);
+    let (seed, few) = found.expect("so few cases are too few for some seed");
+    let output = compare(&[VERDICT, REPLAY, "84", &seed.to_string()]);
     assert_eq!(output.status.code(), Some(1));
     let few = few
         .iter()
@@ -160,12 +162,12 @@ fn kinds_that_are_not_seen_are_named() {
     let none = Tally::default();
     // Four verdicts, refusals 1 to 9, Input and five parts of numerals; in
     // scripts nine answers of load, seven of press, three of show, four of
-    // write, four others and ten parts of numerals. In both, nine shapes of
-    // forms, which may be half as frequent.
-    assert_eq!(none.too_few(60, BOTH).len(), 19 + 37);
-    assert_eq!(none.too_few(59, BOTH).len(), 0);
-    assert_eq!(none.too_few(120, BOTH).len(), 19 + 37 + 2 * 9);
-    assert_eq!(none.too_few(119, BOTH).len(), 19 + 37);
+    // write, five of lines, four others, ten parts of numerals and six faults
+    // of lines. In both, nine shapes of forms, which may be less frequent.
+    assert_eq!(none.too_few(80, BOTH).len(), 19 + 48);
+    assert_eq!(none.too_few(79, BOTH).len(), 0);
+    assert_eq!(none.too_few(120, BOTH).len(), 19 + 48 + 2 * 9);
+    assert_eq!(none.too_few(119, BOTH).len(), 19 + 48);
     let verdict = Halves {
         replay: false,
         ..BOTH
@@ -179,7 +181,7 @@ fn kinds_that_are_not_seen_are_named() {
         "verdict: Refused 9",
         "verdict, press Different at equal lengths",
     );
-    for (cases, kinds, shapes) in [(6_000, 200, 100), (3_000, 100, 50), (2_999, 49, 24)] {
+    for (cases, kinds, shapes) in [(6_000, 150, 100), (3_000, 75, 50), (2_999, 37, 24)] {
         assert_eq!(least(cases, kind), Some(kinds));
         assert_eq!(least(cases, shape), Some(shapes));
     }

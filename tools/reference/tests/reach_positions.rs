@@ -176,8 +176,8 @@ fn scripts_reach_every_difference() {
 fn scripts_about_forms_apart() {
     let met = on_large_stack(|| {
         let mut met = Census::default();
-        // The last of nine subjects.
-        for case in (8..1_350).step_by(9) {
+        // The ninth of eleven subjects.
+        for case in (8..1_650).step_by(11) {
             let mut sides = Vec::new();
             let transcript = run_watched(&scripts::script(53, case), |_, operation| {
                 if let Operation::Load { side, .. } = operation {

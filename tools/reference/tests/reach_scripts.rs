@@ -203,6 +203,10 @@ fn called(before: &Machine, operation: &Operation, event: Event) -> String {
             }
         }
         (Operation::Print, _) => "print".to_string(),
+        (Operation::Line { side, .. }, Event::Line(Ok(_))) => format!("line {}", name(*side)),
+        (Operation::Line { side, .. }, Event::Line(Err(refusal))) => {
+            format!("line {}, {refusal}", name(*side))
+        }
         other => panic!("another event than the call's: {other:?}"),
     }
 }
@@ -340,8 +344,8 @@ fn broken_rule(words: &[u32]) -> Option<String> {
 fn words_that_are_no_term_break_every_rule() {
     let census = on_large_stack(|| {
         let mut census = Census::default();
-        // Of nine scripts the third is about such words.
-        for case in (2..4_500).step_by(9) {
+        // Of eleven scripts the third is about such words.
+        for case in (2..5_500).step_by(11) {
             each_call(&scripts::script(46, case), |before, operation, event| {
                 let Operation::Press { lengths, .. } = operation else {
                     return;
@@ -424,6 +428,8 @@ fn scripts_reach_every_call_and_answer() {
     for side in ["left", "right"] {
         features.push(format!("load {side}"));
         features.extend((1..=8).map(|number| format!("load {side}, {number}")));
+        features.push(format!("line {side}"));
+        features.extend([6, 7, 8, 11].map(|number| format!("line {side}, {number}")));
         features.push(format!("write {side}"));
         let lengths = ["1 by one less", "1 by fewer", "1 by one more", "1 by more"];
         features.extend(lengths.map(|length| format!("write {side}, {length}")));
@@ -455,24 +461,27 @@ fn broken(bytes: &[u8]) -> String {
         4 => beyond("side", 1, 1).or_else(|| beyond("count", 3, 8_196)),
         5 => beyond("verdict", 4, 3),
         6 => beyond("side", 1, 1),
+        8 => beyond("side", 1, 1)
+            .or_else(|| beyond("count", 2, 8_196))
+            .or_else(|| (3..bytes.len() / 4).find_map(|place| beyond("byte", place, 255))),
         _ => None,
     };
     wrong.unwrap_or_else(|| match code {
         0 => "operation 0".to_string(),
-        8 => "operation 8".to_string(),
-        9.. => "far operation".to_string(),
+        9 => "operation 9".to_string(),
+        10.. => "far operation".to_string(),
         _ => format!("{code}: cut"),
     })
 }
 
 /// Ways in which a script breaks off, and long scripts.
-const BREAKS: [&str; 27] = [
+const BREAKS: [&str; 34] = [
     "long",
     "long and broken",
     "no start",
     "some bytes",
     "operation 0",
-    "operation 8",
+    "operation 9",
     "far operation",
     "1: side 2",
     "1: far side",
@@ -494,15 +503,22 @@ const BREAKS: [&str; 27] = [
     "6: side 2",
     "6: far side",
     "6: cut",
+    "8: side 2",
+    "8: far side",
+    "8: count 8197",
+    "8: far count",
+    "8: byte 256",
+    "8: far byte",
+    "8: cut",
 ];
 
 #[test]
 fn broken_scripts_are_broken_in_every_way() {
     let census = on_large_stack(|| {
         let mut census = Census::default();
-        for case in 0..10_800 {
+        for case in 0..13_200 {
             // Scripts that may break are those of five cases in twenty-four.
-            if !matches!(case / 9 % 24, 1 | 6 | 11 | 16 | 21 | 3) {
+            if !matches!(case / 11 % 24, 1 | 6 | 11 | 16 | 21 | 3) {
                 continue;
             }
             let input = scripts::script(43, case);
@@ -530,6 +546,10 @@ fn look_at_limits(before: &Machine, operation: &Operation, event: Event, census:
         (Operation::Load { side, .. }, Event::Load(Ok(length))) => {
             let mut behind = workspace(before, *side)[length as usize..].iter();
             census.meet_if(behind.any(|word| *word != 0), "loaded over other words");
+        }
+        (Operation::Line { side, .. }, Event::Line(Ok(length))) => {
+            let mut behind = workspace(before, *side)[length as usize..].iter();
+            census.meet_if(behind.any(|word| *word != 0), "a line over other words");
         }
         (
             Operation::Press {
@@ -594,6 +614,7 @@ fn scripts_reach_the_limits_of_a_press() {
         5,
         &[
             "loaded over other words",
+            "a line over other words",
             "a tail becomes zeros",
             "a tail becomes zeros without a round",
             "a tail kept by a refusal",

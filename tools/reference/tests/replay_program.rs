@@ -198,7 +198,7 @@ fn a_broken_operation_ends_the_run() {
     // What was printed before it stays.
     for end in [
         &[0][..],
-        &[8],
+        &[9],
         &[u32::MAX],
         &[1],
         &[1, 2, 0],

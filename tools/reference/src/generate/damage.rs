@@ -6,8 +6,8 @@ use crate::generate::tables::{node, table, Node, Order};
 use crate::generate::terms::{replace, subterms, term, Style};
 use crate::random::Random;
 use crate::refusal::Refusal;
-use crate::table::{LARGEST_INDEX, LONGEST_TABLE, MOST_RECORDS, RECORD};
-use crate::term::{var, Term, LARGEST_FREE, LARGEST_NUMERAL, MOST};
+use crate::table::{LONGEST_TABLE, MOST_RECORDS, RECORD};
+use crate::term::{var, Term, LARGEST_FREE, LARGEST_INDEX, LARGEST_NUMERAL, MOST};
 use crate::words::{kind, word, COUNTS};
 
 /// The faults that a table can have, in the order in which loading looks for
@@ -130,7 +130,7 @@ fn faulty_forest(random: &mut Random, faults: &[Refusal], capacity: usize) -> Ve
 }
 
 /// The term with one variable whose free number is above its limit.
-fn free_too_large(random: &mut Random, term: &Term) -> Term {
+pub fn free_too_large(random: &mut Random, term: &Term) -> Term {
     let parts = subterms(term);
     let variables: Vec<usize> = (0..parts.len())
         .filter(|i| matches!(parts[*i].0, Term::Var(_)))

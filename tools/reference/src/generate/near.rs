@@ -16,7 +16,7 @@ pub fn pair(random: &mut Random) -> (Term, Term) {
         numerals: random.pick(&[0, 0, 2, 10]),
         aim: None,
     };
-    let most = random.pick(&[10, 40, 300, 400, 700]);
+    let most = random.pick(&[20, 40, 300, 400, 500, 700]);
     let size = random.between(most / 2, most);
     let whole = stuck(&term(random, size, 0, style));
     let (left, right) = match random.below(4) {
@@ -42,7 +42,7 @@ fn arguments(random: &mut Random, whole: &Term, style: Style) -> (Term, Term) {
 }
 
 fn changed_often(random: &mut Random, whole: Term, style: Style) -> Term {
-    let changes = random.pick(&[1, 1, 1, 2, 3]);
+    let changes = random.pick(&[1, 1, 2, 3]);
     (0..changes).fold(whole, |term, _| changed(random, &term, style))
 }
 

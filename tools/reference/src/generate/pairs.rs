@@ -3,6 +3,7 @@
 
 use crate::contraction::{shift, step};
 use crate::generate::families::{self, identities};
+use crate::generate::lines::is_plain;
 use crate::generate::near;
 use crate::generate::terms::{numeral, replace, size, subterms, term, variable, Style};
 use crate::press::{Verdict, LARGEST_BUDGET};
@@ -34,6 +35,16 @@ pub fn near_trial(random: &mut Random) -> Trial {
 /// A trial for any wish on a pair in which numerals have the main part.
 pub fn numeral_trial(random: &mut Random, wish: Option<Verdict>) -> Trial {
     trial_of(random, wish, families::numerals)
+}
+
+/// A trial for any wish on a pair of variables, abstractions and applications.
+pub fn plain_trial(random: &mut Random, wish: Option<Verdict>) -> Trial {
+    trial_of(random, wish, |random| loop {
+        let (left, right) = pair(random);
+        if is_plain(&left) && is_plain(&right) {
+            return (left, right);
+        }
+    })
 }
 
 fn trial_of(

@@ -4,11 +4,12 @@ use crate::generate::damage::{
     changed_word, faulty_numeral, faulty_table, faulty_words, wrong_numeral, FAULTS,
 };
 use crate::generate::inputs::{wrong_budget, wrong_capacity};
-use crate::generate::near;
-use crate::generate::pairs::{near_trial, numeral_trial, trial, Trial};
+use crate::generate::pairs::{near_trial, numeral_trial, plain_trial, trial, Trial};
 use crate::generate::tables::{term_table, Order};
 use crate::generate::terms::{replace, subterms, term, Style};
+use crate::generate::{lines, near};
 use crate::input::bytes;
+use crate::line::LINE;
 use crate::press::{Session, Side, Verdict, LARGEST_BUDGET, LARGEST_TOTAL};
 use crate::random::Random;
 use crate::refusal::Refusal;
@@ -18,7 +19,7 @@ use crate::term::{num, var, Term, LARGEST_NUMERAL, WORKSPACE};
 use crate::words::{kind, kind_of};
 
 /// What a script is about; the cases of a run go through these in turn.
-const SUBJECTS: [fn(&mut Random) -> Composer; 9] = [
+const SUBJECTS: [fn(&mut Random) -> Composer; 11] = [
     press_list,
     refused_loads,
     wrong_words,
@@ -28,6 +29,8 @@ const SUBJECTS: [fn(&mut Random) -> Composer; 9] = [
     odd_workspaces,
     numerals,
     forms_apart,
+    typed_pairs,
+    every_line,
 ];
 
 /// The script of one case of a run.
@@ -76,7 +79,8 @@ impl Composer {
             operation,
         ) {
             (Event::Press(Ok(answer)), _) => self.lengths = (answer.left, answer.right),
-            (Event::Load(Ok(length)), Operation::Load { side, .. }) => match side {
+            (Event::Load(Ok(length)), Operation::Load { side, .. })
+            | (Event::Line(Ok(length)), Operation::Line { side, .. }) => match side {
                 Side::Left => self.lengths.0 = length,
                 Side::Right => self.lengths.1 = length,
             },
@@ -84,10 +88,39 @@ impl Composer {
         }
     }
 
+    /// Brings a term in, by a table or, if it has one, now and then by a line.
     fn load(&mut self, random: &mut Random, side: Side, term: &Term) {
+        if random.percent(20) && lines::is_plain(term) {
+            self.type_in(random, side, term);
+        } else {
+            self.load_table(random, side, term);
+        }
+    }
+
+    fn load_table(&mut self, random: &mut Random, side: Side, term: &Term) {
         let order = Order::random(random);
         let table = term_table(random, term, order);
         self.add(Operation::Load { side, table });
+    }
+
+    /// Brings a term in by a line; by a table if its line is too long.
+    fn type_in(&mut self, random: &mut Random, side: Side, term: &Term) {
+        let extra = random.pick(&[0, 0, 5, 30]);
+        let line = lines::written(random, term, extra);
+        match line.len() <= *LINE.end() {
+            true => self.add(Operation::Line { side, line }),
+            false => self.load_table(random, side, term),
+        }
+    }
+
+    /// A line of any kind, most often one that is refused.
+    fn any_line(&mut self, random: &mut Random) {
+        let side = any_side(random);
+        let capacity = self.workspace(side).len();
+        let capacity = capacity.clamp(*WORKSPACE.start(), *WORKSPACE.end());
+        let line = lines::any(random, capacity);
+        self.add(Operation::Line { side, line });
+        self.budget = self.budget.min(FEW_ROUNDS);
     }
 
     fn load_trial(&mut self, random: &mut Random, trial: &Trial) {
@@ -200,6 +233,11 @@ fn encoded(operation: &Operation) -> Vec<u32> {
         }
         Operation::Store { side, at, word } => vec![6, *side as u32, *at, *word],
         Operation::Print => vec![7],
+        Operation::Line { side, line } => {
+            let mut words = vec![8, *side as u32, line.len() as u32];
+            words.extend(line.iter().map(|byte| u32::from(*byte)));
+            words
+        }
     }
 }
 
@@ -241,7 +279,7 @@ fn press_list(random: &mut Random) -> Composer {
 
 fn any_call(random: &mut Random, composer: &mut Composer) {
     let budget = composer.budget;
-    match random.below(16) {
+    match random.below(17) {
         0 | 1 => wrong_press(random, composer),
         2 => composer.show(),
         3 => {
@@ -261,6 +299,7 @@ fn any_call(random: &mut Random, composer: &mut Composer) {
         7 => composer.add(Operation::SetSession(any_session(random))),
         8 => composer.store_behind(random),
         9 => composer.load_any(random),
+        10 => composer.any_line(random),
         _ => {
             let part = random.below(budget as usize + 1) as u32;
             composer.press(random.pick(&[0, 1, 2, 3, part, budget, budget]));
@@ -489,6 +528,7 @@ fn odd_workspaces(random: &mut Random) -> Composer {
         let fault = random.pick(&FAULTS);
         let table = faulty_table(random, &[fault], *WORKSPACE.start());
         composer.add(Operation::Load { side, table });
+        composer.any_line(random);
         // Where a load was refused, a length is tried all the same.
         composer.lengths = (1, 1);
         any_call(random, &mut composer);
@@ -501,14 +541,71 @@ fn odd_workspaces(random: &mut Random) -> Composer {
     composer
 }
 
+/// A pair of which at least one side is typed, in place of other words; then
+/// presses, with other calls between.
+fn typed_pairs(random: &mut Random) -> Composer {
+    let verdict = random.pick(&VERDICTS);
+    let trial = plain_trial(random, Some(verdict));
+    let mut composer = Composer::new(trial.capacity as u32, trial.capacity as u32);
+    if random.percent(50) {
+        composer.load_any(random);
+        composer.store_behind(random);
+    }
+    let sides = [(Side::Left, &trial.left), (Side::Right, &trial.right)];
+    let table = random.pick(&[None, None, Some(Side::Left), Some(Side::Right)]);
+    for (side, term) in sides {
+        match table == Some(side) {
+            true => composer.load_table(random, side, term),
+            false => composer.type_in(random, side, term),
+        }
+    }
+    composer.budget = trial.budget;
+    composer.press(random.pick(&[0, 1, trial.budget, trial.budget]));
+    for _ in 0..random.between(1, 5) {
+        any_call(random, &mut composer);
+    }
+    composer.print();
+    composer
+}
+
+/// Lines of every kind, over words that have to stay or to become zeros.
+fn every_line(random: &mut Random) -> Composer {
+    let any = random.between(*WORKSPACE.start(), 200);
+    let least = *WORKSPACE.start();
+    let longest = *LINE.end();
+    let capacity = random.pick(&[least, any, any, any, longest - 1, longest, *WORKSPACE.end()]);
+    let mut composer = Composer::new(capacity as u32, capacity as u32);
+    composer.load_any(random);
+    composer.budget = FEW_ROUNDS;
+    for _ in 0..random.between(10, 30) {
+        if random.percent(20) {
+            composer.store_behind(random);
+        }
+        composer.any_line(random);
+        match random.below(12) {
+            0..=2 => composer.print(),
+            3 => composer.show(),
+            4 => composer.press(random.pick(&[0, 1, FEW_ROUNDS])),
+            5 => {
+                let side = any_side(random);
+                composer.write(random, side);
+            }
+            _ => {}
+        }
+    }
+    composer.press(FEW_ROUNDS);
+    composer.print();
+    composer
+}
+
 /// A script that is cut short or goes on with words that are no operation.
 fn broken_script(random: &mut Random, composer: Composer) -> Vec<u8> {
     let mut words = composer.words;
     let over = LONGEST_TABLE as u32 + 1;
     let large = random.pick(&[over, over + 3, 1 << 30, u32::MAX]);
-    let end: Vec<u32> = match random.below(14) {
+    let end: Vec<u32> = match random.below(20) {
         0 => vec![0],
-        1 => vec![8],
+        1 => vec![9],
         2 => vec![random.pick(&[256 + 7, 1 << 31, u32::MAX])],
         3 => vec![1, random.pick(&[2, 3, u32::MAX]), 0],
         4 => vec![1, 0, large],
@@ -517,12 +614,15 @@ fn broken_script(random: &mut Random, composer: Composer) -> Vec<u8> {
         7 => vec![4, 1, 1, large],
         8 => vec![5, 1, 1, 1, random.pick(&[4, 5, u32::MAX])],
         9 => vec![6, random.pick(&[2, 258]), 0, 0],
-        10 => {
+        10 => vec![8, random.pick(&[2, 3, u32::MAX]), 0],
+        11 => vec![8, 0, large],
+        12 => wrong_byte(random),
+        13 => {
             let any = random.below(words.len());
             words.truncate(random.pick(&[0, 1, any]));
             Vec::new()
         }
-        11 | 12 => {
+        14 | 15 => {
             words.extend(cut_operation(random));
             return bytes(&words);
         }
@@ -539,15 +639,27 @@ fn broken_script(random: &mut Random, composer: Composer) -> Vec<u8> {
     bytes(&words)
 }
 
+/// A line with a word that is no byte; cut to eight bits it would be one.
+fn wrong_byte(random: &mut Random) -> Vec<u32> {
+    let digit = u32::from(b'0');
+    let count = random.between(1, 5);
+    let mut words = vec![8, random.below(2) as u32, count as u32];
+    words.extend(vec![digit; count]);
+    let at = words.len() - random.between(1, count);
+    words[at] = random.pick(&[256, 256, 256 + digit, (1 << 16) + digit, u32::MAX]);
+    words
+}
+
 /// The start of an operation that has more words.
 fn cut_operation(random: &mut Random) -> Vec<u32> {
-    let whole: [&[u32]; 6] = [
+    let whole: [&[u32]; 7] = [
         &[1, 0, 4, 1, 1, 1, 0],
         &[2, 16, 1, 1, 0],
         &[3, 1, 1],
         &[4, 0, 1, 8],
         &[5, 0, 0, 0, 0],
         &[6, 0, 0, 0],
+        &[8, 0, 3, 48, 32, 48],
     ];
     let operation = random.pick(&whole);
     operation[..random.between(1, operation.len() - 1)].to_vec()
@@ -557,10 +669,14 @@ fn cut_operation(random: &mut Random) -> Vec<u32> {
 fn long_script(random: &mut Random, mut composer: Composer) -> Vec<u8> {
     while composer.words.len() < LONG {
         let (side, at) = (any_side(random), u32::MAX);
-        let operation = match random.below(8) {
+        let operation = match random.below(9) {
             0 => Operation::Load {
                 side,
                 table: vec![2; random.below(LONGEST_TABLE + 1)],
+            },
+            3 => Operation::Line {
+                side,
+                line: vec![b'1'; random.below(LONGEST_TABLE + 1)],
             },
             1 => Operation::Show { lengths: (0, 0) },
             2 => Operation::SetSession(any_session(random)),
