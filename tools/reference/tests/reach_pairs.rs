@@ -638,7 +638,7 @@ const WAYS: [(&str, bool); 7] = [
 fn deep_terms_go_every_way() {
     let census = on_large_stack(|| {
         let mut census = Census::default();
-        for case in 0..400 {
+        for case in 0..800 {
             let random = &mut Random::new(35, case);
             let size = random.between(100, 2_048);
             let term = families::deep(random, size);

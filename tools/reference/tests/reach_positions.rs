@@ -154,7 +154,7 @@ fn inputs_reach_every_difference() {
         met
     });
     met.places.assert_reaches(10, &PLACES);
-    met.places.assert_meets(60, &OFTEN);
+    met.places.assert_meets(50, &OFTEN);
     met.words.assert_reaches(5, &WORDS);
 }
 
@@ -180,7 +180,7 @@ fn scripts_about_forms_apart() {
         for case in (8..1_650).step_by(11) {
             let mut sides = Vec::new();
             let transcript = run_watched(&scripts::script(53, case), |_, operation| {
-                if let Operation::Load { side, .. } = operation {
+                if let Operation::Load { side, .. } | Operation::Line { side, .. } = operation {
                     sides.push(*side);
                 }
             });
@@ -201,5 +201,5 @@ fn scripts_about_forms_apart() {
         met
     });
     met.assert_meets(20, &["pressed in parts", "left again", "right again"]);
-    met.assert_meets(140, &["behind equal words"]);
+    met.assert_meets(120, &["behind equal words"]);
 }

@@ -41,7 +41,7 @@ fn a_run_with_every_operation() {
     let printed = text(&[
         &[16, 16],
         &load(0, &K_F0_F1),
-        &load(1, &F0),
+        &typed(1, b"0"),
         &[6, 1, 9, 55],    // a word behind the right term
         &[2, 16, 7, 1, 1], // one contraction
         &[3, 4, 1],        // the right form is shorter
@@ -51,7 +51,7 @@ fn a_run_with_every_operation() {
         &[7],
     ]);
     let expected = [
-        "load 7\nload 1\nstore\nBudget 1 4 1 0\nshow 1 0\n",
+        "load 7\nline 1\nstore\nBudget 1 4 1 0\nshow 1 0\n",
         // Header; application; abstraction; its body f0; the argument f1.
         "write 4 1 4 1 0 2 0 2 0 1 0 3 4 0 1 0 0 0 1 0 0\n",
         "refused 10\nSame 1 1 1 0\n",
@@ -186,6 +186,74 @@ fn verdicts_of_a_set_session() {
     assert_eq!(text(&[&[0, 0, 5, 1, 2, 3, 4]]), "Script\n");
 }
 
+/// A line for a side.
+fn typed(side: u32, line: &[u8]) -> Vec<u32> {
+    let bytes = line.iter().map(|byte| u32::from(*byte));
+    let head = [8, side, line.len() as u32];
+    head.into_iter().chain(bytes).collect()
+}
+
+#[test]
+fn lines_bring_terms_in() {
+    let printed = text(&[
+        &[16, 16],
+        &[6, 0, 9, 55],
+        &[6, 1, 9, 66],
+        &typed(0, b"(\\\\1) 0 1"), // 2,2,1,1,8,0,8
+        &typed(1, b"256"),
+        &typed(1, b"0 "),
+        &typed(1, b""),
+        &typed(1, &[b'\\'; 16]),
+        &[7],
+        &typed(1, b"0 0 0 0 0 0 0 0 0"), // 17 words
+        &typed(1, b"0"),
+        &[2, 16, 7, 1, 2],
+        &typed(0, b"0 1"), // over 0 and zeros
+        &[3, 3, 1],
+        &typed(0, b"2"),
+        &[7],
+    ]);
+    let expected = [
+        "store\nstore\nline 7\nrefused 6\nrefused 11\nrefused 11\nrefused 11\n",
+        // Zeros after the term on the left, the right as it was.
+        &row("left", &[2, 2, 1, 1, 8, 0, 8], 9, "0"),
+        &row("right", &[0, 0, 0, 0, 0, 0, 0, 0, 0, 66], 6, "0"),
+        "scratch\nsession 0 0 0 Budget\n",
+        "refused 8\nline 1\nSame 2 1 1 0\nline 3\nshow 1 0\nline 1\n",
+        &row("left", &[16], 15, "0"),
+        &row("right", &[], 16, "0"),
+        &row("scratch", &[], 16, "0"),
+        // A line is none of the session's business.
+        "session 2 1 1 Same\n",
+    ];
+    assert_eq!(printed, expected.concat());
+}
+
+#[test]
+fn each_side_is_typed_by_its_own_length() {
+    let printed = text(&[&[15, 16], &typed(0, b"0"), &typed(1, b"0")]);
+    assert_eq!(printed, "refused 7\nline 1\n");
+    assert_eq!(text(&[&[16, 2_049], &typed(1, b"()")]), "refused 7\n");
+}
+
+#[test]
+fn words_of_a_line_are_bytes() {
+    let start = [16, 16];
+    assert_eq!(text(&[&start, &[8, 0, 1, 255]]), "refused 11\n");
+    assert_eq!(text(&[&start, &[8, 0, 1, 256]]), "Script\n");
+    // Cut to eight bits this would be a line.
+    assert_eq!(text(&[&start, &[8, 0, 1, 256 + 48]]), "Script\n");
+    assert_eq!(text(&[&start, &[8, 0, 3, 48, 32, u32::MAX]]), "Script\n");
+    // The longest line is lent and refused, a longer one is not lent.
+    let longest = text(&[&start, &typed(0, &[b'0'; 8_196])]);
+    assert_eq!(longest, "refused 11\n");
+    let longer = text(&[&start, &typed(0, &[b'0'; 8_197])]);
+    assert_eq!(longer, "Script\n");
+    // A byte that is none comes before a wrong workspace.
+    assert_eq!(text(&[&[0, 0], &[8, 0, 1, 256]]), "Script\n");
+    assert_eq!(text(&[&[0, 0], &[8, 0, 0]]), "refused 7\n");
+}
+
 #[test]
 fn storing_outside_does_nothing() {
     let printed = text(&[&[2, 1, 6, 0, 1, 9, 6, 0, 2, 9, 6, 1, 1, 9, 7]]);
@@ -211,6 +279,12 @@ fn a_broken_operation_ends_the_run() {
         &[5, 1, 1, 1],
         &[6, 2, 0, 0],
         &[6, 0, 0],
+        &[8],
+        &[8, 0],
+        &[8, 2, 1, 48],
+        &[8, 0, 2, 48],
+        &[8, 0, 8_197],
+        &[8, 0, 1, 256],
     ] {
         let printed = text(&[&[16, 16, 6, 0, 0, 8], end]);
         assert_eq!(printed, "store\nScript\n", "{end:?}");

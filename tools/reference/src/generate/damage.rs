@@ -104,7 +104,7 @@ fn faulty_forest(random: &mut Random, faults: &[Refusal], capacity: usize) -> Ve
         random.between(1, capacity.min(most))
     };
     let style = Style::random(random);
-    let mut host = if size >= 8 && random.percent(15) {
+    let mut host = if size >= 8 && random.percent(25) {
         deep(random, size)
     } else {
         term(random, size, 0, style)
@@ -116,10 +116,10 @@ fn faulty_forest(random: &mut Random, faults: &[Refusal], capacity: usize) -> Ve
         return vec![Node::of(&host)];
     }
     let mut root = Node::of(&host);
-    match random.below(14) {
+    match random.below(15) {
         0 => vec![root, leaf()],
         1 => vec![root, arm(1, 0)],
-        2 if size > MOST + 2 => long_chain(random, size),
+        2 | 3 if size > MOST + 2 => long_chain(random, size),
         _ => {
             let place = random.below(subterms(&host).len());
             let part = malformed(random);
@@ -281,8 +281,8 @@ fn break_value(random: &mut Random, words: &mut [u32]) {
         words[own] = random.pick(&[7, 7, 8, 13, 14, large]);
         return;
     }
-    if random.percent(20) {
-        words[own] = kind::NUMERAL;
+    if random.percent(30) {
+        words[own] = random.pick(&[kind::NUMERAL, kind::NUMERAL, kind::BRANCH]);
     }
     words[own + 1] = match words[own] {
         kind::VARIABLE => random.pick(&[LARGEST_INDEX + 1, LARGEST_INDEX + 2, large]),
@@ -399,7 +399,7 @@ pub fn changed_word(random: &mut Random, old: u32) -> u32 {
         kind::CONSTRUCTOR => random.pick(&[tag, tag, word + 8, word + 2]),
         kind::CASE => random.pick(&[word + 8, word + unit, 4 + 8 * 16, word + 1]),
         kind::NUMERAL => wrong_numeral(random),
-        _ => random.pick(&[tag, tag, 15 * unit + 5, 5 + unit, 0]),
+        _ => random.pick(&[tag, tag, tag, 15 * unit + 5, 5 + unit, 0]),
     };
     // The same payload as a numeral, or of a kind that there is not.
     let other = word - word % 8 + random.pick(&[kind::NUMERAL, 7]);

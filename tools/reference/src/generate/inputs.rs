@@ -27,12 +27,12 @@ pub enum Aim {
 /// The aims of a run, each with its share of [`CYCLE`] cases.
 const AIMS: [(Aim, u64); 18] = [
     (Aim::Verdict(Verdict::Same), 6),
-    (Aim::Verdict(Verdict::Different), 10),
+    (Aim::Verdict(Verdict::Different), 11),
     (Aim::Verdict(Verdict::Budget), 6),
     (Aim::Verdict(Verdict::Full), 2),
     (Aim::Refused(Refusal::TableLength), 5),
     (Aim::Refused(Refusal::Header), 5),
-    (Aim::Refused(Refusal::Value), 2),
+    (Aim::Refused(Refusal::Value), 1),
     (Aim::Refused(Refusal::Link), 6),
     (Aim::Refused(Refusal::Structure), 2),
     (Aim::Refused(Refusal::FreeNumber), 6),

@@ -73,12 +73,13 @@ fn base(random: &mut Random, capacity: usize) -> Vec<u8> {
     let most = random.pick(&[6, 12, 30, 100, 300]);
     let any = random.between(1, *LINE.end());
     let few = random.between(1, most);
-    match random.below(8) {
+    match random.below(11) {
         // As many words as the workspace has, in as many bytes.
         0 => terse(random, capacity.min(*LINE.end())),
         1 => of_length(random, *LINE.end()),
-        2 => of_length(random, any),
-        3 | 4 => of_length(random, few),
+        2 | 3 => of_length(random, any),
+        4 | 5 => of_length(random, few),
+        6 => under_binders(random, capacity),
         _ => loop {
             let most = random.pick(&[most, capacity]).min(capacity);
             let size = random.between(1, most);
@@ -88,6 +89,23 @@ fn base(random: &mut Random, capacity: usize) -> Vec<u8> {
             }
         },
     }
+}
+
+/// An index under many binders, bound or free, in a line that most often fits.
+fn under_binders(random: &mut Random, capacity: usize) -> Vec<u8> {
+    let most = capacity.min(LINE.end() - 3) - 1;
+    let any = random.between(1, most);
+    let binders = random.pick(&[any, any, most]);
+    let largest = LARGEST_FREE as usize;
+    let index = random.pick(&[
+        0,
+        binders - 1,
+        binders,
+        binders + largest,
+        binders + largest,
+    ]);
+    let line = "\\".repeat(binders) + &index.to_string();
+    line.into_bytes()
 }
 
 /// The line of a random term of `size` words.
@@ -172,14 +190,31 @@ impl Writer<'_> {
 /// A line of the grammar of exactly so many bytes, with no free number above
 /// its limit.
 pub fn of_length(random: &mut Random, length: usize) -> Vec<u8> {
-    let maker = Maker {
+    let any = Maker {
         abstractions: random.pick(&[5, 30, 30, 97]),
         applications: random.pick(&[5, 50, 90]),
         parentheses: random.pick(&[5, 50, 90]),
         short: random.pick(&[10, 60, 100]),
     };
+    let maker = random.pick(&[any, any, any, SPINE, NEST]);
     maker.line(random, length)
 }
+
+/// Many items in a row.
+const SPINE: Maker = Maker {
+    abstractions: 0,
+    applications: 100,
+    parentheses: 1,
+    short: 100,
+};
+
+/// Many parentheses around each other.
+const NEST: Maker = Maker {
+    abstractions: 1,
+    applications: 1,
+    parentheses: 99,
+    short: 50,
+};
 
 /// A line that has as many words as bytes.
 pub fn terse(random: &mut Random, length: usize) -> Vec<u8> {
@@ -193,6 +228,7 @@ pub fn terse(random: &mut Random, length: usize) -> Vec<u8> {
 }
 
 /// What a line of the grammar is rich in, each in per cent.
+#[derive(Clone, Copy)]
 struct Maker {
     /// Terms that begin with an abstraction.
     abstractions: usize,
@@ -295,7 +331,7 @@ fn outside(random: &mut Random, fault: Fault, capacity: usize) -> Vec<u8> {
     if fault == Fault::Length {
         return with_wrong_length(random);
     }
-    let mut line = match random.below(12) {
+    let line = match random.below(12) {
         0 => return random.pick(&SMALL).to_vec(),
         1 => {
             let length = random.between(1, 9);
@@ -309,7 +345,13 @@ fn outside(random: &mut Random, fault: Fault, capacity: usize) -> Vec<u8> {
         return damaged(random, line);
     }
     let changes: &[Change] = match fault {
-        Fault::Byte => &[strange_in_place, strange_between],
+        Fault::Byte => &[
+            strange_in_place,
+            strange_between,
+            strange_space,
+            strange_end,
+            strange_bit,
+        ],
         Fault::Number => &[wrong_number],
         Fault::Space => &[
             space_at_edge,
@@ -321,8 +363,7 @@ fn outside(random: &mut Random, fault: Fault, capacity: usize) -> Vec<u8> {
         Fault::Parenthesis => &[parenthesis_between, parenthesis_away],
         _ => &[item_away],
     };
-    random.pick(changes)(random, &mut line);
-    line
+    random.pick(changes)(random, line)
 }
 
 /// No byte, or more than a line has in lines that are right otherwise.
@@ -351,15 +392,18 @@ const SMALL: [&[u8]; 32] = [
 ];
 
 /// A change of a line that has a byte at least.
-type Change = fn(&mut Random, &mut Vec<u8>);
+type Change = fn(&mut Random, Vec<u8>) -> Vec<u8>;
 
-const CHANGES: [Change; 14] = [
+const CHANGES: [Change; 17] = [
     byte_away,
     byte_twice,
     other_byte,
     bytes_swapped,
     strange_in_place,
     strange_between,
+    strange_space,
+    strange_end,
+    strange_bit,
     space_at_edge,
     space_between,
     space_inside,
@@ -374,107 +418,163 @@ const CHANGES: [Change; 14] = [
 fn damaged(random: &mut Random, mut line: Vec<u8>) -> Vec<u8> {
     for _ in 0..random.pick(&[1, 1, 1, 2]) {
         if !line.is_empty() {
-            random.pick(&CHANGES)(random, &mut line);
+            line = random.pick(&CHANGES)(random, line);
         }
     }
     line
 }
 
-fn byte_away(random: &mut Random, line: &mut Vec<u8>) {
+fn byte_away(random: &mut Random, mut line: Vec<u8>) -> Vec<u8> {
     line.remove(random.below(line.len()));
+    line
 }
 
-fn byte_twice(random: &mut Random, line: &mut Vec<u8>) {
+fn byte_twice(random: &mut Random, mut line: Vec<u8>) -> Vec<u8> {
     let at = random.below(line.len());
     line.insert(at, line[at]);
+    line
 }
 
-fn other_byte(random: &mut Random, line: &mut Vec<u8>) {
+fn other_byte(random: &mut Random, mut line: Vec<u8>) -> Vec<u8> {
     let at = random.below(line.len());
     line[at] = random.pick(ALPHABET);
+    line
 }
 
-fn bytes_swapped(random: &mut Random, line: &mut Vec<u8>) {
+fn bytes_swapped(random: &mut Random, mut line: Vec<u8>) -> Vec<u8> {
     let at = random.below(line.len());
     line.swap(at.saturating_sub(1), at);
+    line
 }
 
-fn strange_in_place(random: &mut Random, line: &mut Vec<u8>) {
+fn strange_in_place(random: &mut Random, mut line: Vec<u8>) -> Vec<u8> {
     let at = random.below(line.len());
     line[at] = random.pick(STRANGE);
+    line
 }
 
-fn strange_between(random: &mut Random, line: &mut Vec<u8>) {
+fn strange_between(random: &mut Random, mut line: Vec<u8>) -> Vec<u8> {
     let at = random.below(line.len());
     line.insert(random.pick(&[at, 0, line.len()]), random.pick(STRANGE));
+    line
 }
 
-fn space_at_edge(random: &mut Random, line: &mut Vec<u8>) {
-    line.insert(random.pick(&[0, line.len()]), b' ');
-}
-
-fn space_between(random: &mut Random, line: &mut Vec<u8>) {
-    line.insert(random.below(line.len()), b' ');
-}
-
-/// A space behind a backslash or an open parenthesis.
-fn space_inside(random: &mut Random, line: &mut Vec<u8>) {
-    let places = places(line, b"\\(");
+/// Another byte in place of a space.
+fn strange_space(random: &mut Random, mut line: Vec<u8>) -> Vec<u8> {
+    let places = places(&line, b" ");
     if !places.is_empty() {
-        line.insert(random.pick(&places) + 1, b' ');
+        line[random.pick(&places)] = random.pick(b"\t\t\t\n\0\xff");
     }
+    line
 }
 
-fn space_twice(random: &mut Random, line: &mut Vec<u8>) {
-    let places = places(line, b" ");
+/// An end as of text in other places.
+fn strange_end(random: &mut Random, mut line: Vec<u8>) -> Vec<u8> {
+    let end: &[u8] = random.pick(&[
+        b"\n".as_slice(),
+        b"\n",
+        b"\r\n",
+        b"\0",
+        b"\0",
+        b"\0)",
+        b"\xff",
+    ]);
+    line.extend(end);
+    line
+}
+
+/// A byte that is of the alphabet when cut to seven bits.
+fn strange_bit(random: &mut Random, mut line: Vec<u8>) -> Vec<u8> {
+    let at = random.below(line.len());
+    line[at] |= 0x80;
+    line
+}
+
+fn space_at_edge(random: &mut Random, mut line: Vec<u8>) -> Vec<u8> {
+    line.insert(random.pick(&[0, line.len()]), b' ');
+    line
+}
+
+fn space_between(random: &mut Random, mut line: Vec<u8>) -> Vec<u8> {
+    line.insert(random.below(line.len()), b' ');
+    line
+}
+
+/// A space behind a backslash or an open parenthesis, or before a closed one.
+fn space_inside(random: &mut Random, mut line: Vec<u8>) -> Vec<u8> {
+    let (of, behind): (&[u8], usize) = random.pick(&[(b"\\", 1), (b"(", 1), (b")", 0)]);
+    let places = places(&line, of);
+    if !places.is_empty() {
+        line.insert(random.pick(&places) + behind, b' ');
+    } else if of != b"\\" {
+        let (open, close): (&[u8], &[u8]) = random.pick(&[(b"( ", b")"), (b"(", b" )")]);
+        line = [open, &line, close].concat();
+    }
+    line
+}
+
+fn space_twice(random: &mut Random, mut line: Vec<u8>) -> Vec<u8> {
+    let places = places(&line, b" ");
     if !places.is_empty() {
         line.insert(random.pick(&places), b' ');
     }
+    line
 }
 
-fn space_away(random: &mut Random, line: &mut Vec<u8>) {
-    let places = places(line, b" ");
-    if !places.is_empty() {
-        line.remove(random.pick(&places));
+fn space_away(random: &mut Random, mut line: Vec<u8>) -> Vec<u8> {
+    // Behind or before a parenthesis, or before an abstraction, no number grows.
+    let apart = |at: &usize| line[at - 1] == b')' || b"(\\".contains(&line[at + 1]);
+    let inner = places(&line, b" ").into_iter();
+    let inner: Vec<usize> = inner
+        .filter(|at| *at > 0 && at + 1 < line.len())
+        .filter(apart)
+        .collect();
+    if !inner.is_empty() {
+        line.remove(random.pick(&inner));
     }
+    line
 }
 
-fn parenthesis_between(random: &mut Random, line: &mut Vec<u8>) {
+fn parenthesis_between(random: &mut Random, mut line: Vec<u8>) -> Vec<u8> {
     let at = random.below(line.len());
     line.insert(random.pick(&[at, 0, line.len()]), random.pick(b"()"));
+    line
 }
 
-fn parenthesis_away(random: &mut Random, line: &mut Vec<u8>) {
-    let places = places(line, b"()");
+fn parenthesis_away(random: &mut Random, mut line: Vec<u8>) -> Vec<u8> {
+    let places = places(&line, b"()");
     if !places.is_empty() {
         line.remove(random.pick(&places));
     }
+    line
 }
 
 /// Nothing in place of an index, or nothing in parentheses.
-fn item_away(random: &mut Random, line: &mut Vec<u8>) {
-    if let Some((start, end)) = any_index(random, line) {
+fn item_away(random: &mut Random, mut line: Vec<u8>) -> Vec<u8> {
+    if let Some((start, end)) = any_index(random, &line) {
         let new: &[u8] = random.pick(&[b"".as_slice(), b"()", b"\\", b"(\\)"]);
         line.splice(start..end, new.iter().copied());
     }
+    line
 }
 
 /// A wrong number in place of an index, now and then the largest index.
-fn wrong_number(random: &mut Random, line: &mut Vec<u8>) {
-    let Some((start, end)) = any_index(random, line) else {
-        return;
+fn wrong_number(random: &mut Random, mut line: Vec<u8>) -> Vec<u8> {
+    let Some((start, end)) = any_index(random, &line) else {
+        return line;
     };
     let digits = line[start..end].to_vec();
     let zeros = random.pick(&[1, 1, 2, 5, 30]);
     let many = random.between(6, 60);
-    let new = match random.below(8) {
+    let new = match random.below(10) {
         0..=2 => [vec![b'0'; zeros], digits].concat(),
-        3 | 4 => random.pick(&LARGE).as_bytes().to_vec(),
-        5 => vec![random.pick(b"19"); many],
-        6 => [digits, vec![b'0'; 5]].concat(),
+        3..=6 => random.pick(&LARGE).as_bytes().to_vec(),
+        7 => vec![random.pick(b"19"); many],
+        8 => [digits, vec![b'0'; 5]].concat(),
         _ => b"32767".to_vec(),
     };
     line.splice(start..end, new);
+    line
 }
 
 /// The places of bytes that are among the given ones.
@@ -486,15 +586,19 @@ fn places(line: &[u8], of: &[u8]) -> Vec<usize> {
 
 /// Numbers above the limit of an index; the last ones fall back below it when
 /// cut to fewer bits.
-const LARGE: [&str; 9] = [
+const LARGE: [&str; 13] = [
+    "32768",
     "32768",
     "32769",
-    "40000",
     "99999",
     "100000",
+    "65535",
+    "65536",
     "65536",
     "65537",
     "4294967296",
+    "4294967297",
+    "18446744073709551616",
     "18446744073709551617",
 ];
 

@@ -2,6 +2,7 @@
 //! changed at a few places of one side, with redexes put in on both.
 
 use crate::contraction::contractum;
+use crate::generate::families::identities;
 use crate::generate::pairs::{expanded, named};
 use crate::generate::terms::{replace, subterms, term, variable, Style};
 use crate::random::Random;
@@ -25,7 +26,11 @@ pub fn pair(random: &mut Random) -> (Term, Term) {
     };
     let mut behind_redexes = |side| {
         let count = random.below(4);
-        (0..count).fold(side, |side, _| expanded(random, &side, style))
+        let side = (0..count).fold(side, |side, _| expanded(random, &side, style));
+        match random.below(40) {
+            0 => identities(random.between(51, 80), side),
+            _ => side,
+        }
     };
     let (left, right) = (behind_redexes(left), behind_redexes(right));
     match random.percent(50) {
@@ -95,16 +100,16 @@ pub fn changed(random: &mut Random, whole: &Term, style: Style) -> Term {
     replace(whole, place, &new)
 }
 
-/// The place of a part; the last one and cases are taken more often.
+/// The place of a part; the last one and cases inside are taken more often.
 fn place(random: &mut Random, parts: &[(&Term, u32)]) -> usize {
     let branches = |place: &usize| match parts[*place].0 {
         Term::Case { branches, .. } => !branches.is_empty(),
         _ => false,
     };
-    let cases: Vec<usize> = (0..parts.len()).filter(branches).collect();
+    let cases: Vec<usize> = (1..parts.len()).filter(branches).collect();
     match random.below(10) {
-        0 | 1 if !cases.is_empty() => random.pick(&cases),
-        2..=7 => parts.len() - 1,
+        0..=2 if !cases.is_empty() => random.pick(&cases),
+        3..=8 => parts.len() - 1,
         _ => random.below(parts.len()),
     }
 }

@@ -361,7 +361,7 @@ fn refused_loads(random: &mut Random) -> Composer {
     let mut composer = Composer::new(capacity as u32, capacity as u32);
     composer.load_trial(random, &trial);
     composer.show();
-    let again = [(); 3].map(|()| random.pick(&FAULTS));
+    let again = [(); 4].map(|()| random.pick(&FAULTS));
     for fault in FAULTS.into_iter().chain(again) {
         let second = random.pick(&FAULTS);
         let faults = [fault, if random.percent(20) { second } else { fault }];
@@ -407,10 +407,11 @@ fn store_changed(random: &mut Random, composer: &mut Composer, side: Side) {
     let workspace = composer.workspace(side);
     if length > 0 {
         // Words with a range for their payload are few and taken more often.
+        let least = random.pick(&[0, 0, kind::CONSTRUCTOR, kind::BRANCH]);
         let ranged: Vec<usize> = (0..length)
-            .filter(|at| kind_of(workspace[*at]) >= kind::CONSTRUCTOR)
+            .filter(|at| kind_of(workspace[*at]) >= least)
             .collect();
-        let at = match ranged.is_empty() || random.percent(50) {
+        let at = match ranged.is_empty() {
             true => random.below(length),
             false => random.pick(&ranged),
         };
@@ -544,7 +545,8 @@ fn odd_workspaces(random: &mut Random) -> Composer {
 /// A pair of which at least one side is typed, in place of other words; then
 /// presses, with other calls between.
 fn typed_pairs(random: &mut Random) -> Composer {
-    let verdict = random.pick(&VERDICTS);
+    let any = random.pick(&VERDICTS);
+    let verdict = random.pick(&[any, any, Verdict::Full]);
     let trial = plain_trial(random, Some(verdict));
     let mut composer = Composer::new(trial.capacity as u32, trial.capacity as u32);
     if random.percent(50) {

@@ -2,9 +2,11 @@
 #![allow(dead_code)]
 
 pub mod census;
+pub mod lines;
 pub mod presses;
 
 use reference::contraction::step;
+use reference::line::read_line;
 use reference::press::{press, Answer, Session, Verdict};
 use reference::refusal::Refusal;
 use reference::table::load;
@@ -92,5 +94,12 @@ pub fn table(records: &[[u32; 4]]) -> Vec<u32> {
 pub fn loaded(table: &[u32], capacity: usize) -> (Result<u32, Refusal>, Vec<u32>) {
     let mut workspace = vec![77; capacity];
     let answer = load(table, &mut workspace);
+    (answer, workspace)
+}
+
+/// Reads a line into a workspace of `capacity` words; the answer and the words.
+pub fn typed(line: &[u8], capacity: usize) -> (Result<u32, Refusal>, Vec<u32>) {
+    let mut workspace = vec![77; capacity];
+    let answer = read_line(line, &mut workspace);
     (answer, workspace)
 }
