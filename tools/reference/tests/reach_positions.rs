@@ -162,7 +162,7 @@ fn inputs_reach_every_difference() {
 fn scripts_reach_every_difference() {
     let met = on_large_stack(|| {
         let mut met = Met::default();
-        of_scripts(53, 900, |press, last| look_at(press, last, &mut met));
+        of_scripts(53, 1_100, |press, last| look_at(press, last, &mut met));
         met
     });
     met.places.assert_reaches(10, &PLACES);

@@ -417,7 +417,7 @@ const CALLS: [&str; 20] = [
 fn scripts_reach_every_call_and_answer() {
     let census = on_large_stack(|| {
         let mut census = Census::default();
-        for case in 0..1_200 {
+        for case in 0..1_500 {
             each_call(&scripts::script(42, case), |before, operation, event| {
                 census.meet(called(before, operation, event));
             });
@@ -602,7 +602,7 @@ fn look_at_budget(before: &Machine, budget: u32, tail: bool, census: &mut Census
 fn scripts_reach_the_limits_of_a_press() {
     let census = on_large_stack(|| {
         let mut census = Census::default();
-        for case in 0..1_200 {
+        for case in 0..1_500 {
             let input = scripts::script(44, case);
             each_call(&input, |before, operation, event| {
                 look_at_limits(before, operation, event, &mut census);

@@ -207,7 +207,7 @@ fn inputs_tell_wrong_positions() {
 fn scripts_tell_wrong_positions() {
     let seen = on_large_stack(|| {
         let mut seen = Seen::new(&OF_REPLAY);
-        of_scripts(55, 600, |press, last| {
+        of_scripts(55, 750, |press, last| {
             seen.look(&press.line, |mistake| replay_line(mistake, press, last));
         });
         seen

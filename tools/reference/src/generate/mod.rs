@@ -3,6 +3,7 @@
 pub mod damage;
 pub mod families;
 pub mod inputs;
+pub mod line_damage;
 pub mod lines;
 pub mod near;
 pub mod pairs;
