@@ -195,7 +195,7 @@ impl Seen {
 fn inputs_tell_wrong_positions() {
     let seen = on_large_stack(|| {
         let mut seen = Seen::new(&OF_VERDICT);
-        of_inputs(54, 2_000, |press, line| {
+        of_inputs(54, 2_500, |press, line| {
             seen.look(&line, |mistake| verdict_line(mistake, press));
         });
         seen

@@ -74,13 +74,13 @@ fn base(random: &mut Random, capacity: usize) -> Vec<u8> {
     let most = random.pick(&[6, 12, 30, 100, 300]);
     let any = random.between(1, *LINE.end());
     let few = random.between(1, most);
-    match random.below(11) {
+    match random.below(13) {
         // As many words as the workspace has, in as many bytes.
         0 => terse(random, capacity.min(*LINE.end())),
         1 => of_length(random, *LINE.end()),
-        2 | 3 => of_length(random, any),
-        4 | 5 => of_length(random, few),
-        6 => under_binders(random, capacity),
+        2..=5 => of_length(random, any),
+        6 | 7 => of_length(random, few),
+        8 => under_binders(random, capacity),
         _ => loop {
             let most = random.pick(&[most, capacity]).min(capacity);
             let size = random.between(1, most);
