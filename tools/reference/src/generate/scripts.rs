@@ -676,12 +676,12 @@ fn long_script(random: &mut Random, mut composer: Composer) -> Vec<u8> {
                 side,
                 table: vec![2; random.below(LONGEST_TABLE + 1)],
             },
+            1 => Operation::Show { lengths: (0, 0) },
+            2 => Operation::SetSession(any_session(random)),
             3 => Operation::Line {
                 side,
                 line: vec![b'1'; random.below(LONGEST_TABLE + 1)],
             },
-            1 => Operation::Show { lengths: (0, 0) },
-            2 => Operation::SetSession(any_session(random)),
             _ => Operation::Store { side, at, word: 1 },
         };
         composer.add(operation);
