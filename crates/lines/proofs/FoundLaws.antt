@@ -1,14 +1,14 @@
 -- Reading where the parser finds words, and where it finds none.
-use Prim.Native.Nat.{ℕ, suc, _+_, _-_, _≤_, _<_}
+use Prim.Native.Nat.{ℕ, _+_, _-_, _≤_, _<_}
 use mathlib.Core.Path.{_≡_, refl, sym, ap, ap₂, _∙_}
-use mathlib.Core.Bool.{Bool, true, false, false≢true}
+use mathlib.Core.Bool.{true, false, false≢true}
 use mathlib.Core.List.{List, [], _∷_, _++_, append-nil}
 use mathlib.Core.Logic.{ite, inl, inr}
 use mathlib.Core.Option.{some, none, bind, Option·none-ne-some}
 use native.Mathlib.Omega.{arith}
 use lib.ListN.{length, take, drop, replicate, length-drop}
 use Rattle.calculus.specs.Term.{Term}
-use Rattle.calculus.specs.Words.{words, size, workspaceMost}
+use Rattle.calculus.specs.Words.{words, size}
 use Rattle.calculus.specs.Accepted.{Scoped}
 use Rattle.calculus.specs.Decide.{scoped?}
 use Rattle.calculus.specs.Workspace.{wrongWorkspace}

@@ -1,16 +1,14 @@
 -- A line of n bytes is read as at most n words: every space, backslash and number has a byte of its own.
-use Prim.Native.Nat.{ℕ, suc, _+_, _*_, _≤_}
-use mathlib.Core.Path.{_≡_, refl}
-use mathlib.Core.Bool.{cond}
-use mathlib.Core.List.{List, [], _∷_, _++_}
-use mathlib.Core.Option.{Option, some, none, bind}
+use Prim.Native.Nat.{ℕ, suc, _+_, _≤_}
+use mathlib.Core.Path.{_≡_}
+use mathlib.Core.List.{List, [], _∷_}
 use native.Mathlib.Omega.{arith}
 use lib.Dec.{leb}
 use lib.ListN.{length, length-append, length-replicate}
 use Rattle.calculus.specs.Accepted.{indexLimit}
 use Rattle.calculus.specs.Words.{abstractionKind, word}
-use Rattle.calculus.proofs.All.{All, nothing, holds, all-bind, all-weaken, all-some}
-use Rattle.notation.specs.Reader.{Sign, digit, gap, opens, closes, lambda, other, sign, State, wanted, number, begun, Begun, apply, isIndex, settle, onDigit, onClose, popped, onBegun, step, scan, finish, lineWords}
+use Rattle.calculus.proofs.All.{All, nothing, holds, all-bind}
+use Rattle.notation.specs.Reader.{Sign, digit, gap, opens, closes, lambda, other, sign, State, wanted, number, begun, apply, isIndex, settle, onDigit, onClose, popped, onBegun, step, scan}
 use Rattle.notation.proofs.Sound.{all-cond}
 
 -- The spaces of the terms around, and a closing parenthesis of each.

@@ -1,14 +1,11 @@
 -- The reader finds the term of a line: bytes that spell an item put its words in front of what is read behind them.
-use Prim.Native.Nat.{ℕ, zero, suc, _+_, _*_, _≤_, _<_}
+use Prim.Native.Nat.{ℕ, suc, _+_, _*_, _≤_}
 use mathlib.Core.Path.{_≡_, refl, sym, _∙_, ap}
-use mathlib.Core.Bool.{Bool, true, cond}
 use mathlib.Core.List.{List, [], _∷_, _++_, append-assoc, append-nil}
 use mathlib.Core.Option.{Option, some, none, bind}
 use native.Mathlib.Omega.{arith}
-use lib.Dec.{leb, eqb}
-use lib.ListN.{replicate}
-use borrow.Author.Tests.{le-leb, eq-eqb}
-use Rattle.calculus.specs.Term.{Term, var, lam, app}
+use borrow.Author.Tests.{le-leb}
+use Rattle.calculus.specs.Term.{Term}
 use Rattle.calculus.specs.Accepted.{indexLimit}
 use Rattle.calculus.specs.Words.{word, variableKind, abstractionKind, applicationKind, words}
 use Rattle.notation.specs.Grammar.{space, opening, closing, zeroDigit, backslash, Digits, no-digit, digit, Index, zero-itself, no-leading-zero, Place, anywhere, last, Category, item, items, Spells, index, parentheses, abstraction, one, applied, Line}

@@ -1,14 +1,14 @@
 -- The terms that have a line are those of variables, abstractions and applications with indices up to 32,767.
 use Prim.Native.Nat.{ℕ, zero, suc, _+_, _*_, _/_, _%_, _≤_, _<_}
-use mathlib.Core.Path.{_≡_, refl, sym}
-use mathlib.Core.List.{List, [], _∷_, _++_}
+use mathlib.Core.Path.{_≡_}
+use mathlib.Core.List.{List, [], _∷_}
 use native.Mathlib.Omega.{arith}
 use native.Mathlib.Nat.{mod-lt, div-add-mod', div-lt-iff-lt-mul, le-div-iff-mul-le}
 use native.Mathlib.Decide.{decLt}
 use Rattle.calculus.specs.Term.{Term, var, lam, app, con, case, num}
 use Rattle.calculus.specs.Accepted.{indexLimit}
 use Rattle.notation.specs.Theorems.{Expressible, Expressible-exact}
-use Rattle.notation.specs.Grammar.{zeroDigit, Digits, no-digit, digit, Index, zero-itself, no-leading-zero, Place, anywhere, last, Category, item, items, Spells, index, parentheses, abstraction, one, applied, Line}
+use Rattle.notation.specs.Grammar.{zeroDigit, Digits, no-digit, digit, Index, zero-itself, no-leading-zero, Place, anywhere, last, Category, item, Spells, index, parentheses, abstraction, one, applied}
 
 -- Powers of ten.
 data Tens : ℕ → Type 0 where

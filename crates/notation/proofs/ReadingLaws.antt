@@ -1,6 +1,6 @@
 -- Reading a line: which refusal is met, and what is left.
-use Prim.Native.Nat.{ℕ, _-_, _≤_, _<_}
-use mathlib.Core.Path.{_≡_, refl, sym, _∙_, ap}
+use Prim.Native.Nat.{ℕ, _≤_, _<_}
+use mathlib.Core.Path.{_≡_, refl, ap}
 use mathlib.Core.Bool.{Bool, true, false, _&&_}
 use mathlib.Core.List.{List}
 use mathlib.Core.Logic.{ite, _⊎_, inl, inr}
@@ -10,16 +10,15 @@ use lib.Dec.{leb, ltb}
 use lib.ListN.{length}
 use borrow.Author.Tests.{lt-ltb, le-ltb, le-leb, lt-leb}
 use Rattle.calculus.specs.Term.{Term, var, lam, app, con, case, num}
-use Rattle.calculus.specs.Words.{words, size}
+use Rattle.calculus.specs.Words.{size}
 use Rattle.calculus.specs.Accepted.{Scoped, Accepted}
 use Rattle.calculus.specs.Decide.{scoped?}
-use Rattle.calculus.specs.Workspace.{wrongWorkspace}
 use Rattle.calculus.specs.Refusal.{WrongLine}
 use Rattle.calculus.specs.Bringing.{freeFits, refused, refuse}
 use Rattle.notation.specs.Grammar.{Line, lineLeast, lineMost}
 use Rattle.notation.specs.Reader.{lineTerm}
 use Rattle.notation.specs.Reading.{lineFits, readLine}
-use Rattle.notation.specs.Theorems.{Expressible, LengthsFit, ReadsExactly, Reading-exact}
+use Rattle.notation.specs.Theorems.{Expressible, LengthsFit, Reading-exact}
 use Rattle.notation.proofs.TermLaws.{line-complete, line-sound}
 use Rattle.notation.proofs.Expressible.{spells-expressible}
 

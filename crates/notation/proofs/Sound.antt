@@ -1,25 +1,21 @@
 -- What the reader reads, the grammar gives: whatever stands behind a position is made of items.
 use Prim.Native.Nat.{ℕ, zero, suc, _+_, _*_, _≤_, _<_}
-use mathlib.Core.Path.{_≡_, refl, sym, _∙_, ap}
+use mathlib.Core.Path.{_≡_, refl, sym, ap}
 use mathlib.Core.Bool.{Bool, true, false, cond, _&&_, _||_}
 use mathlib.Core.List.{List, [], _∷_, _++_, append-assoc, append-nil}
-use mathlib.Core.Logic.{_↔_}
-use mathlib.Core.Option.{Option, some, none, bind}
+use mathlib.Core.Option.{some, none}
 use native.Mathlib.Omega.{arith}
 use native.Mathlib.Nat.{mul-le-mul-right}
 use lib.Dec.{leb, eqb}
-use lib.ListN.{replicate}
 use borrow.Author.Tests.{leb-true, eqb-true}
-use Rattle.calculus.specs.Term.{Term, var, lam, app}
+use Rattle.calculus.specs.Term.{Term}
 use Rattle.calculus.specs.Accepted.{indexLimit}
 use Rattle.calculus.specs.Words.{word, variableKind, abstractionKind, applicationKind, words}
-use Rattle.calculus.proofs.All.{All, nothing, holds, all-bind, all-weaken, all-some}
+use Rattle.calculus.proofs.All.{All, nothing, holds, all-bind, all-some}
 use Rattle.notation.specs.Grammar.{space, opening, closing, zeroDigit, backslash, Digits, no-digit, digit, Index, zero-itself, no-leading-zero, Place, anywhere, last, Category, item, items, Spells, index, parentheses, abstraction, one, applied, Line}
-use Rattle.notation.specs.Reader.{Sign, gap, opens, closes, lambda, other, sign, State, wanted, number, begun, Begun, begins, apply, isIndex, settle, onDigit, onClose, popped, onBegun, step, scan, finish, lineWords}
+use Rattle.notation.specs.Reader.{Sign, State, wanted, number, begun, begins, apply, isIndex, settle, onDigit, onClose, popped, onBegun, step, scan, finish, lineWords}
 use Rattle.notation.proofs.SignLaws.{Is, a-digit, a-gap, an-opening, a-closing, a-lambda, no-sign, sign-is}
-use Rattle.calculus.specs.Theorems.{Packable}
-use Rattle.calculus.proofs.ReadLaws.{words-injective}
-use Rattle.notation.proofs.Complete.{Fits, packable, words-complete}
+use Rattle.notation.proofs.Complete.{Fits}
 
 -- What may follow an item, with the counts and the words that are read of it.
 data After : List ℕ → ℕ → List ℕ → List ℕ → Type 0 where

@@ -1,6 +1,6 @@
 -- The term that is found of a line is the one that the grammar gives.
-use mathlib.Core.Path.{_≡_, refl, sym, _∙_, ap}
-use mathlib.Core.List.{List, []}
+use mathlib.Core.Path.{_≡_, refl}
+use mathlib.Core.List.{List}
 use mathlib.Core.Option.{Option, some, none, bind, Option·none-ne-some}
 use Prim.Native.Nat.{ℕ}
 use Rattle.calculus.specs.Term.{Term}
@@ -12,7 +12,7 @@ use Rattle.notation.specs.Grammar.{Line}
 use Rattle.notation.specs.Reader.{lineWords, onlyTerm, lineTerm}
 use Rattle.notation.specs.Theorems.{Line-exact}
 use Rattle.notation.proofs.Complete.{packable, words-complete}
-use Rattle.notation.proofs.Sound.{Given, words-sound}
+use Rattle.notation.proofs.Sound.{words-sound}
 
 only-term : (t : Term) → Packable t → bind (items (words t)) onlyTerm ≡ some t
 unfolding bind onlyTerm

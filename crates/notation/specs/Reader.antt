@@ -1,7 +1,7 @@
 -- How the term of a line is found: over its bytes from the last to the first, so that the words of the term come in prefix order and the number of
 -- applications in front of a term is known when its first item has been read. `Line-exact` states that it finds the term that the grammar gives,
 -- and none where the grammar gives none.
-use Prim.Native.Nat.{ℕ, suc, zero, _+_, _*_, _-_}
+use Prim.Native.Nat.{ℕ, suc, _+_, _*_, _-_}
 use mathlib.Core.Bool.{Bool, cond, _&&_, _||_}
 use mathlib.Core.List.{List, [], _∷_, _++_}
 use mathlib.Core.Option.{Option, some, none, bind}

@@ -11,7 +11,7 @@ use Rattle.calculus.specs.Words.{words, size}
 use Rattle.calculus.specs.Everywhere.{Asked, anywhere, Everywhere}
 use Rattle.calculus.specs.Accepted.{indexLimit, Scoped, Accepted}
 use Rattle.calculus.specs.Workspace.{wrongWorkspace}
-use Rattle.calculus.specs.Refusal.{Refusal, WrongFree, WrongWorkspace, TooLong, WrongLine}
+use Rattle.calculus.specs.Refusal.{WrongFree, WrongWorkspace, TooLong, WrongLine}
 use Rattle.calculus.specs.Bringing.{refused, returned, refuse}
 use Rattle.notation.specs.Grammar.{Line, lineLeast, lineMost}
 use Rattle.notation.specs.Reader.{lineTerm}

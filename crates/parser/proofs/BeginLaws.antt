@@ -1,15 +1,15 @@
 -- What stands in front of an item, over plain values.
-use Prim.Native.Nat.{ℕ, zero, suc, _+_, _-_, _*_, _≤_, _<_}
-use mathlib.Core.Path.{_≡_, refl, sym, _∙_, ap}
-use mathlib.Core.List.{List, [], _∷_}
-use mathlib.Core.Option.{Option, some, none}
+use Prim.Native.Nat.{ℕ, suc, _+_, _-_, _≤_, _<_}
+use mathlib.Core.Path.{_≡_, refl}
+use mathlib.Core.List.{List}
+use mathlib.Core.Option.{some, none}
 use native.Mathlib.Omega.{arith}
 use native.Mathlib.Numerals.{add-one}
-use lib.ListN.{length, drop, set, getD, length-set, drop-of-length-le}
+use lib.ListN.{length, drop, set, getD, drop-of-length-le}
 use lib.Seq.{drop-cons}
 use Rattle.calculus.specs.Words.{word, abstractionKind}
 use Rattle.notation.specs.Grammar.{space, opening, backslash}
-use Rattle.notation.specs.Reader.{Sign, lambda, opens, sign, apply, State, wanted, number, begun, Begun, begins, popped, onBegun}
+use Rattle.notation.specs.Reader.{Sign, lambda, opens, sign, apply, wanted, begun, Begun, begins, popped, onBegun}
 use Rattle.notation.proofs.SignLaws.{Is, a-digit, a-gap, an-opening, a-closing, a-lambda, no-sign, sign-is}
 use Rattle.words.proofs.PlacedLaws.{drop-set}
 

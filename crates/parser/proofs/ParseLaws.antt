@@ -1,14 +1,14 @@
 -- The loop of lineWords.
-use Prim.Native.Nat.{ℕ, zero, suc, _+_, _-_, _*_, _≤_, _<_}
-use mathlib.Core.Path.{_≡_, refl, sym, _∙_, ap}
+use Prim.Native.Nat.{ℕ, zero, suc, _+_, _-_, _≤_, _<_}
+use mathlib.Core.Path.{_≡_, refl}
 use mathlib.Core.List.{List, [], _∷_}
-use mathlib.Core.Option.{Option, some, none, bind}
+use mathlib.Core.Option.{some, none, bind}
 use native.Mathlib.Omega.{arith}
 use lib.ListN.{length, drop, getD, length-drop, drop-of-length-le}
 use lib.Seq.{drop-cons}
 use Rattle.calculus.proofs.All.{all-some}
 use Rattle.parser.specs.declared.Scan.{Scan}
-use Rattle.notation.specs.Reader.{sign, apply, State, wanted, number, begun, Begun, begins, settle, step, scan, finish, lineWords}
+use Rattle.notation.specs.Reader.{sign, apply, State, wanted, Begun, settle, step, scan, finish, lineWords}
 use Rattle.notation.specs.Grammar.{lineMost}
 use Rattle.parser.specs.Scan.{atPower, stateOf, roomMost, Within, Room, Parses}
 use Rattle.notation.proofs.Bounded.{tally, load, scan-load}

@@ -1,13 +1,12 @@
 -- Words that are put in front of the end of an array.
-use Prim.Native.Nat.{ℕ, zero, suc, _+_, _-_, _*_, _≤_, _<_}
-use mathlib.Core.Path.{_≡_, refl, sym, _∙_, ap}
-use mathlib.Core.List.{List, _∷_}
+use Prim.Native.Nat.{ℕ, zero, suc, _-_, _≤_, _<_}
+use mathlib.Core.Path.{_≡_, refl, sym}
+use mathlib.Core.List.{List}
 use native.Mathlib.Omega.{arith}
-use lib.ListN.{length, drop, set, getD, length-set}
-use lib.Seq.{drop-cons, drop-set-lt, getD-set-same}
+use lib.ListN.{length, drop, set}
 use Rattle.words.proofs.PlacedLaws.{drop-set}
 use Rattle.calculus.specs.Words.{word, applicationKind}
-use Rattle.notation.specs.Reader.{apply, State, number}
+use Rattle.notation.specs.Reader.{apply, number}
 use Rattle.parser.specs.Scan.{atPower}
 use Rattle.notation.proofs.Sound.{apply-suc}
 

@@ -1,16 +1,16 @@
 -- What the code's tests tell of a step, over plain values.
 use Prim.Native.Nat.{ℕ, zero, suc, _+_, _-_, _*_, _≤_, _<_}
-use mathlib.Core.Path.{_≡_, refl, sym, _∙_, ap}
-use mathlib.Core.Bool.{Bool, true, false, cond, _&&_, _||_, cond}
-use mathlib.Core.List.{List, _∷_}
-use mathlib.Core.Option.{Option, some, none}
+use mathlib.Core.Path.{_≡_, refl}
+use mathlib.Core.Bool.{true, false}
+use mathlib.Core.List.{List}
+use mathlib.Core.Option.{some, none}
 use native.Mathlib.Omega.{arith}
-use lib.Dec.{leb, eqb}
-use lib.ListN.{length, drop, set, getD, length-set}
-use borrow.Author.Tests.{le-leb, lt-leb, ne-eqb, eq-eqb}
+use lib.Dec.{eqb}
+use lib.ListN.{length, drop, set}
+use borrow.Author.Tests.{le-leb, lt-leb}
 use Rattle.calculus.specs.Accepted.{indexLimit}
 use Rattle.calculus.specs.Words.{word, variableKind}
-use Rattle.notation.specs.Reader.{apply, State, wanted, number, begun, Begun, begins, isIndex, settle, onDigit, onClose}
+use Rattle.notation.specs.Reader.{wanted, begins, isIndex, settle, onDigit, onClose}
 use Rattle.parser.specs.Scan.{atPower}
 use Rattle.parser.proofs.PutLaws.{number-at}
 use Rattle.words.proofs.PlacedLaws.{drop-set}

@@ -1,14 +1,13 @@
 -- Which byte does what.
-use Prim.Native.Nat.{ℕ, zero, suc, _+_, _-_, _*_, _≤_, _<_}
+use Prim.Native.Nat.{ℕ, _+_, _-_, _≤_, _<_}
 use mathlib.Core.Path.{_≡_, refl, sym, _∙_, ap}
 use mathlib.Core.Bool.{Bool, true, false, _&&_}
-use mathlib.Core.List.{List, [], _∷_}
 use mathlib.Core.Option.{Option, some, none, bind}
 use native.Mathlib.Omega.{arith}
-use lib.Dec.{leb, eqb}
+use lib.Dec.{leb}
 use borrow.Author.Tests.{leb-true, le-leb, lt-leb}
 use Rattle.notation.specs.Grammar.{zeroDigit, closing}
-use Rattle.notation.specs.Reader.{Sign, digit, closes, sign, digitByte, State, Begun, settle, onDigit, onClose, onBegun, step}
+use Rattle.notation.specs.Reader.{Sign, digit, sign, digitByte, State, Begun, settle, onDigit, onClose, onBegun, step}
 use Rattle.notation.proofs.SignLaws.{Is, a-digit, a-gap, an-opening, a-closing, a-lambda, no-sign, sign-is, sign-digit}
 
 pub digit-low : (b : ℕ) → b < zeroDigit → false ≡ digitByte b

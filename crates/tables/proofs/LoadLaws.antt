@@ -1,10 +1,9 @@
 -- Loading refuses exactly what it must, and otherwise leaves the term that the table means.
 use Prim.Native.Nat.{ℕ, _+_, _-_}
-use mathlib.Core.Path.{_≡_, refl, sym, ap, _∙_}
-use mathlib.Core.Bool.{Bool, true, false, and-eq-true-iff}
-use mathlib.Core.List.{List, [], _∷_, _++_}
-use mathlib.Core.Logic.{_⊎_, inl, inr}
-use mathlib.Core.Option.{some, none}
+use mathlib.Core.Path.{_≡_, sym, ap, _∙_}
+use mathlib.Core.Bool.{true, false, and-eq-true-iff}
+use mathlib.Core.List.{List, _++_}
+use mathlib.Core.Logic.{inl, inr}
 use native.Mathlib.Omega.{arith}
 use lib.ListN.{length, replicate}
 use borrow.Author.Needs.{needs}
@@ -12,7 +11,7 @@ use borrow.Author.Tests.{not-false}
 use Rattle.calculus.specs.Term.{term, Term}
 use Rattle.calculus.specs.Words.{words, size}
 use Rattle.calculus.specs.Refusal.{Refusal}
-use Rattle.calculus.specs.Bringing.{refused, returned, firstMet, FirstMet, NoneMet, refuse, place, bringUnless}
+use Rattle.calculus.specs.Bringing.{refused, returned, FirstMet, NoneMet, refuse, place, bringUnless}
 use Rattle.calculus.proofs.BringingLaws.{settled, first-met, none-met}
 use Rattle.calculus.specs.Workspace.{wrongWorkspace, padded}
 use Rattle.records.specs.Records.{Stored, view, isRecord}

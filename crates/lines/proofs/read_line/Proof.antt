@@ -1,28 +1,24 @@
--- `read_line` meets its contract.
+-- `read_line` meets its contract: each refusal in its order, by what reading owes, and otherwise the words that were found, copied and followed by zeros.
+use Prim.Native.Nat.{ℕ, _<_, _≤_, _-_}
 use mathlib.Core.Path.{_≡_, sym, ap, _∙_}
-use native.Mathlib.Omega.{arith}
-use borrow.Author.Needs.{needs}
-use Prim.Native.Nat.{_<_, _≤_, _-_}
 use mathlib.Core.Bool.{true, false}
 use mathlib.Core.List.{List}
 use mathlib.Core.Option.{some}
+use native.Mathlib.Omega.{arith}
 use lib.ListN.{length, take, drop, length-drop}
 use lib.Seq.{take-all, length-slice}
+use borrow.Author.Needs.{needs}
+use borrow.Author.Tests.{not-true, not-false}
 use Rattle.notation.specs.Grammar.{lineMost}
 use Rattle.notation.specs.Reader.{lineWords}
 use Rattle.parser.specs.Scan.{roomMost}
-use Prim.Native.Nat.{ℕ}
 use Rattle.calculus.specs.Workspace.{wrongWorkspace}
 use Rattle.notation.proofs.ReadingLaws.{reading-exact}
-use borrow.Author.Tests.{not-true, not-false}
 use Rattle.words.proofs.PlacedLaws.{placed-length}
 use Rattle.terms.specs.IsTerm.{isTerm}
 use Rattle.lines.proofs.FoundLaws.{read-long, read-none, inside, read-free, read-over, read-left}
 use Rattle.lines.proofs.read_line.Statement.{statement}
 use Rattle.lines.proofs.read_line.Tie as tie
-
-wrong-workspace-requires : tie.Need-wrong-workspace-requires
-wrong-workspace-requires c κs = search needs
 
 workspace-fits : (c : tie.Else1) → wrongWorkspace (length (c .before .before .before .before .args .workspace .now)) ≡ false
 workspace-fits c = sym (c .before .wrong-workspace .ensures) ∙ c .if1 .left
@@ -36,21 +32,6 @@ returns-2 : tie.Need-returns-2
 returns-2 c =
     let start = c .before .before .before .before .before .args in
     read-long (start .line .now) (start .workspace .now) (workspace-fits (c .before)) (c .if2 .taken)
-
-slice-aggregate-parse : tie.Need-slice-aggregate-parse
-slice-aggregate-parse c = search needs
-
-slice-aggregate-parse-2 : tie.Need-slice-aggregate-parse-2
-slice-aggregate-parse-2 c = search needs
-
-parse-requires : tie.Need-parse-requires
-parse-requires c κs = search needs
-
-enum-told : tie.Need-enum-told
-enum-told c = search needs
-
-enum-known-at : tie.Need-enum-known-at
-enum-known-at c = search needs
 
 -- The words are found: the entry, the array and the position.
 abbrev line : tie.After-at → List ℕ
@@ -99,12 +80,7 @@ sub-is-term c = omega (arith, within (c .before))
 part-is-term-start : tie.Need-part-is-term-start
 part-is-term-start c = omega (arith, within (c .before .before))
 
-part-is-term-end : tie.Need-part-is-term-end
-part-is-term-end c = search needs
-
-is-term-requires : tie.Need-is-term-requires
-is-term-requires c κs = search needs
-
+-- Refusal 6 has passed.
 tested : (c : tie.Else3) → let a = c .before .before .before .before .before in isTerm (drop (at a) (out a)) (roomMost - at a) ≡ true
 tested c = part (c .before .before .before .before .before) ∙ sym (c .before .is-term .ensures) ∙ not-false _ (c .if3 .left)
 
@@ -113,9 +89,6 @@ returns-3 c = let a = c .before .before .before .before .before in read-free (li
 
 returns-4 : tie.Need-returns-4
 returns-4 c = let a = c .before .before .before .before .before .before in read-over (line a) (workspace a) (fits a) (short a) (out a) (at a) (full a) (found a) (tested (c .before)) (omega arith)
-
-slice-aggregate-copy : tie.Need-slice-aggregate-copy
-slice-aggregate-copy c = search needs
 
 copy-requires : tie.Need-copy-requires
 copy-requires c κs =
@@ -133,9 +106,6 @@ returns-5 c =
     let start = c .before .before .before .before .before .before .before .before .before .before .before .before .args in
     read-none (start .line .now) (start .workspace .now) (workspace-fits (c .before .before .before .before .before .before .before .before)) (c .before .before .before .before .before .before .before .if2 .left) (rw (c .enum-told .given .1) at (c .before .before .before .before .parse .ensures))
 
-same-length : tie.Need-same-length
-same-length c = search needs
-
 returns-6 : tie.Need-returns-6
 returns-6 c =
     let a = c .before .before .before .before .before .before .before .before .before .before .before .before .before .before .before in
@@ -146,25 +116,25 @@ pub read-line-spec : {M : Type 1} → statement M
 read-line-spec =
     tie.close
     (tie.spec
-    wrong-workspace-requires
+    (λ c κs. search needs)
     returns
     returns-2
-    slice-aggregate-parse
-    slice-aggregate-parse-2
-    parse-requires
-    enum-told
-    enum-known-at
+    (λ c. search needs)
+    (λ c. search needs)
+    (λ c κs. search needs)
+    (λ c. search needs)
+    (λ c. search needs)
     sub-length
     mul-is-term
     sub-is-term
     part-is-term-start
-    part-is-term-end
-    is-term-requires
+    (λ c. search needs)
+    (λ c κs. search needs)
     returns-3
     returns-4
-    slice-aggregate-copy
+    (λ c. search needs)
     copy-requires
     clear-requires
     returns-5
-    same-length
+    (λ c. search needs)
     returns-6)

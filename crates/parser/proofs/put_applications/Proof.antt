@@ -1,6 +1,6 @@
 -- `put_applications` meets its contract. The invariant: the applications still to put make of the words from i on what all of them make of those at entry.
-use Prim.Native.Nat.{_≤_, _-_, _<_}
-use mathlib.Core.Path.{_≡_, refl, sym, _∙_}
+use Prim.Native.Nat.{_≤_, _-_}
+use mathlib.Core.Path.{_≡_, refl, _∙_}
 use native.Mathlib.Omega.{arith}
 use lib.ListN.{length, drop, length-set}
 use Rattle.notation.specs.Reader.{apply}

@@ -1,6 +1,6 @@
 -- `narrow` meets its contract: each word is a byte, and is put as it is.
-use Prim.Native.Nat.{_-_, _≤_}
-use mathlib.Core.Path.{_≡_, refl}
+use Prim.Native.Nat.{_-_}
+use mathlib.Core.Path.{refl}
 use native.Mathlib.Omega.{arith}
 use lib.ListN.{length}
 use Rattle.text.proofs.ByteLaws.{Narrowing, narrow-fits, narrow-turn, narrow-ends}
