@@ -12,6 +12,8 @@ use Rattle.calculus.specs.Workspace.{termAt}
 use Rattle.calculus.specs.Rounds.{same, roundsIn, roundsBy}
 use Rattle.claim.specs.Press.{press}
 use Rattle.press.specs.Showing.{show}
+use Rattle.notation.specs.Reader.{sign, isIndex, settle, onDigit, onClose, popped, onBegun, step, scan, finish, lineWords, onlyTerm, lineTerm}
+use Rattle.notation.specs.Reading.{readLine}
 use Rattle.records.specs.Header.{wrongLength, wrongHeader}
 use Rattle.records.specs.Values.{valueFits, wrongValue}
 use Rattle.records.specs.Links.{namings, wrongLink}
@@ -19,11 +21,13 @@ use Rattle.records.specs.Children.{childrenFit, wrongChildren}
 use Rattle.tables.specs.Meaning.{termOf, meantTerm, meantTerms, meantBranch, meantBranches, meant, meaning}
 use Rattle.tables.specs.Load.{loadStored}
 use Rattle.tables.specs.Write.{write}
+use Rattle.text.specs.Bytes.{areBytes}
 use Rattle.vector_text.specs.Text.{pastSpace, startsWith, after, digits, numberAt, settingAt}
 use Rattle.vector_text.specs.Lists.{itemAt, withMore, items, listAt, comparedAt}
 use Rattle.vector_text.specs.Compared.{agree, areWords}
 use Rattle.vectors.specs.Pair.{verdictAt, givenAt, lentAt, refusedAfter, countedAfter, checked, pressStep, shownAfter, stepped, stepsFrom, openedAt, pairRun, pairHolds}
-use Rattle.vectors.specs.Stored.{chainFrom, tableAt, isTable, writesInto, writesBack, loadedAs, loading, loadHolds, writesWords, writeHolds}
+use Rattle.vectors.specs.Stored.{chainFrom, tableAt, isTable, writesInto, writesBack, broughtAs, loadedAs, loading, loadHolds, writesWords, writeHolds}
+use Rattle.vectors.specs.Typed.{reading, lineHolds}
 use Rattle.vectors.specs.Vector.{passes, shareOf}
 use Rattle.vectors.specs.Examples.{Read-examples, Passing-examples}
 
@@ -50,7 +54,7 @@ read-examples =
     }
 
 pub passing-examples : Passing-examples
-unfolding pastSpace startsWith after digits numberAt settingAt itemAt withMore items listAt comparedAt agree areWords verdictAt givenAt lentAt refusedAfter countedAfter checked pressStep shownAfter stepped stepsFrom openedAt pairRun pairHolds chainFrom tableAt isTable writesInto writesBack loadedAs loading loadHolds writesWords writeHolds passes loadStored write wrongLength wrongHeader valueFits wrongValue namings wrongLink childrenFit wrongChildren termOf meantTerm meantTerms meantBranch meantBranches meant meaning press show termAt read readItems item takeTerm takeTerms takeBranches readLam readApp readCon readCase readBranch oneTerm accepted? scoped? everywhere? tagged? both₃ isTag? startsAbove? rising? Dec·and decLe decLt bind orElse firstStep leftmost tree from-trees equal? ℕ-discrete same roundsIn roundsBy
+unfolding pastSpace startsWith after digits numberAt settingAt itemAt withMore items listAt comparedAt agree areWords verdictAt givenAt lentAt refusedAfter countedAfter checked pressStep shownAfter stepped stepsFrom openedAt pairRun pairHolds chainFrom tableAt isTable writesInto writesBack broughtAs loadedAs loading loadHolds writesWords writeHolds reading lineHolds passes areBytes readLine lineTerm lineWords scan step settle sign onDigit onClose isIndex onBegun finish popped onlyTerm loadStored write wrongLength wrongHeader valueFits wrongValue namings wrongLink childrenFit wrongChildren termOf meantTerm meantTerms meantBranch meantBranches meant meaning press show termAt read readItems item takeTerm takeTerms takeBranches readLam readApp readCon readCase readBranch oneTerm accepted? scoped? everywhere? tagged? both₃ isTag? startsAbove? rising? Dec·and decLe decLt bind orElse firstStep leftmost tree from-trees equal? ℕ-discrete same roundsIn roundsBy
 passing-examples =
     record {
       pressed-right = refl;
@@ -76,6 +80,17 @@ passing-examples =
       unloaded-right = refl;
       other-unloaded = refl;
       surplus-unloaded = refl;
+      read-right = refl;
+      other-read = refl;
+      fewer-read = refl;
+      nothing-read = refl;
+      surplus-read = refl;
+      unread-right = refl;
+      other-unread = refl;
+      surplus-unread = refl;
+      not-unread = refl;
+      above-read = refl;
+      above-unread = refl;
       written-right = refl;
       other-written = refl;
       surplus-written = refl;
@@ -106,6 +121,8 @@ passing-examples =
       counted-session = refl;
       unloaded-kept = refl;
       unloaded-changed = refl;
+      unread-kept = refl;
+      unread-changed = refl;
       unwritten-kept = refl;
       unwritten-changed = refl;
     }

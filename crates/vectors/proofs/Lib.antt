@@ -1,4 +1,5 @@
 pub mod StepLaws
 pub mod StoredLaws
+pub mod TypedLaws
 pub mod TallyLaws
 pub mod Examples

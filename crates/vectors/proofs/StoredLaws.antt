@@ -16,7 +16,7 @@ use Rattle.vector_text.specs.Compared.{areWords}
 use Rattle.vector_text.specs.Lists.{Listed, comparedAt}
 use Rattle.vectors.specs.Answers.{isReturned}
 use Rattle.vectors.specs.Pair.{junk}
-use Rattle.vectors.specs.Stored.{refusedLast, chainWord, chainFrom, chain, givesTerm, loadedAs, isTable, writtenAs, junkTable, writesInto, writesListed}
+use Rattle.vectors.specs.Stored.{refusedLast, chainWord, chainFrom, chain, isTable, writtenAs, junkTable, writesInto, writesBack, refusedAs, givenAs, broughtAs, endsAs, loadedAs, writesListed}
 use Rattle.vector_text.specs.declared.Compared.{Compared}
 use Rattle.vector_text.specs.declared.Number.{Number}
 
@@ -57,14 +57,23 @@ module _ (line : List ℕ) (at : ℕ) (loaded : List ℕ) (len : ℕ) (w : Writt
   pub write-given : from ≡ nowhere → writtenAs line at loaded len w ≡ record { holds = isReturned (w .answer) len && isTable line at (w .table) loaded; words = w .table }
   write-given e = rw (← is, eq-eqb from nowhere e)
 
-module _ (line : List ℕ) (at : ℕ) (table : List ℕ) (q : Brought) (from : ℕ) (is : from ≡ after line at refusedWord) where
-  pub load-refused : (from ≡ nowhere → ⊥) → loadedAs line at table q ≡ (refusedLast line from (q .answer) && areWords (q .workspace) (q .workspace) 0 junk)
-  unfolding loadedAs
-  load-refused n = rw (← is, ne-eqb from nowhere n)
+module _ (line : List ℕ) (at : ℕ) (q : Brought) (from : ℕ) (is : from ≡ after line at refusedWord) where
+  pub brought-refused : (from ≡ nowhere → ⊥) → broughtAs line at q ≡ refusedAs line from q
+  unfolding broughtAs
+  brought-refused n = rw (← is, ne-eqb from nowhere n)
 
-  pub load-given : (c : Compared) → from ≡ nowhere → c ≡ comparedAt line (after line at givesWord) (q .workspace) 0 → loadedAs line at table q ≡ givesTerm line table q c
+  pub brought-given : (c : Compared) → from ≡ nowhere → c ≡ comparedAt line (after line at givesWord) (q .workspace) 0 → broughtAs line at q ≡ givenAs q c
+  unfolding broughtAs
+  brought-given c e ce = rw (← is, eq-eqb from nowhere e, ce)
+
+module _ (line : List ℕ) (at : ℕ) (table : List ℕ) (q : Brought) (c : Compared) (is : c ≡ broughtAs line at q) where
+  pub load-ends : c .count ≡ 0 → loadedAs line at table q ≡ endsAs line c
   unfolding loadedAs
-  load-given c e ce = rw (← is, eq-eqb from nowhere e, ce)
+  load-ends e = rw (← is, eq-eqb (c .count) 0 e)
+
+  pub load-writes : (c .count ≡ 0 → ⊥) → loadedAs line at table q ≡ (c .equal && writesBack line (c .next) table (q .workspace) (c .count))
+  unfolding loadedAs
+  load-writes n = rw (← is, ne-eqb (c .count) 0 n)
 
 pub listed-of : (line : List ℕ) (l : Listed) (len size : Number) → len ≡ numberAt line (l .next) → size ≡ numberAt line (len .next)
     → writesListed line l ≡ record { holds = writesInto line (size .next) [] (l .words) (len .value) (junkTable (size .value)) .holds; words = l .words }

@@ -12,12 +12,13 @@ use Rattle.claim.specs.State.{Session, fresh}
 use Rattle.claim.specs.Answer.{Answer, refused, shown}
 use Rattle.calculus.specs.Bringing as bring
 use Rattle.vector_text.specs.Text.{nowhere, after, numberAt, settingAt}
-use Rattle.vectors.specs.Keywords.{pairWord, loadWord, writeWord, leftWord, pressWord, showWord}
+use Rattle.vectors.specs.Keywords.{pairWord, loadWord, lineWord, writeWord, leftWord, pressWord, showWord}
 use Rattle.vectors.specs.Keywords.{sameWord, differentWord, atWord, refusedWord, givesWord, writesWord}
 use Rattle.vector_text.specs.Lists.{listAt}
 use Rattle.vectors.specs.Answers.{isSession, isShown, isRefused}
 use Rattle.vectors.specs.Pair.{junk, lentAt, Stage, refusedAfter, countedAfter}
 use Rattle.vectors.specs.Stored.{chain, writtenAs, loadedAs}
+use Rattle.vectors.specs.Typed.{readAs}
 use Rattle.vectors.specs.declared.pair.Lent.{Lent}
 use Rattle.vectors.specs.Vector.{nothing, counted, passes, shareOf}
 
@@ -116,6 +117,23 @@ loading = loadWord ++ (n16 ++ tableWith 48)
 abbrev pub loadingNothing : List ℕ
 loadingNothing = loadWord ++ (n16 ++ nothingGiven)
 
+-- `line 16`, and with it the bytes of `\0`, 304 in place of the byte 48 of `0`, and no bytes
+abbrev pub lining : List ℕ
+lining = lineWord ++ n16
+
+abbrev pub readingIdentity : List ℕ
+readingIdentity = lining ++ (32 ∷ 57 ∷ 50 ∷ 44 ∷ 52 ∷ 56 ∷ [])
+
+abbrev pub readingAbove : List ℕ
+readingAbove = lining ++ (32 ∷ 51 ∷ 48 ∷ 52 ∷ [])
+
+abbrev pub readingNothing : List ℕ
+readingNothing = lining ++ nothingGiven
+
+-- ` Refused 11`
+abbrev pub outside : List ℕ
+outside = spaced refusedWord ++ (32 ∷ 49 ∷ 49 ∷ [])
+
 -- `write 16 0 1 8`
 abbrev pub writing : List ℕ
 writing = writeWord ++ (n16 ++ (n0 ++ (n1 ++ n8)))
@@ -145,9 +163,12 @@ refusedStage equal session = refusedAfter n1 0 (lentAs equal) (refused WrongLeng
 abbrev pub countedStage : Bool → Session → ℕ
 countedStage equal session = countedAfter Different 3 4 0 (lentAs equal) answered session stage .at
 
--- Whether ` Refused 1` holds of a loading and of a writing that were refused so and left this word in what was lent.
+-- Whether ` Refused 1` holds of a loading, a reading and a writing that were refused so and left this word in what was lent.
 abbrev pub unloadedFrom : ℕ → Bool
 unloadedFrom w = loadedAs (spaced refusedWord ++ n1) 0 [] (record { answer = bring.refused WrongLength; workspace = w ∷ [] })
+
+abbrev pub unreadFrom : ℕ → Bool
+unreadFrom w = readAs (spaced refusedWord ++ n1) 0 (record { answer = bring.refused WrongLength; workspace = w ∷ [] })
 
 abbrev pub unwrittenFrom : ℕ → Bool
 unwrittenFrom w = writtenAs (spaced refusedWord ++ n1) 0 [] 0 (record { answer = bring.refused WrongLength; table = w ∷ [] }) .holds
@@ -176,6 +197,17 @@ pub record Passing-examples : Type 0 where
   pub unloaded-right : passes (loadingNothing ++ (spaced refusedWord ++ n1)) ≡ true
   pub other-unloaded : passes (loadingNothing ++ (spaced refusedWord ++ n8)) ≡ false
   pub surplus-unloaded : passes (loadingNothing ++ (spaced refusedWord ++ (n1 ++ n0))) ≡ false
+  pub read-right : passes (readingIdentity ++ (spaced givesWord ++ identity)) ≡ true
+  pub other-read : passes (readingIdentity ++ (spaced givesWord ++ constant)) ≡ false
+  pub fewer-read : passes (readingIdentity ++ (spaced givesWord ++ n1)) ≡ false
+  pub nothing-read : passes (readingIdentity ++ (spaced givesWord ++ nothingGiven)) ≡ false
+  pub surplus-read : passes (readingIdentity ++ (spaced givesWord ++ (identity ++ n0))) ≡ false
+  pub unread-right : passes (readingNothing ++ outside) ≡ true
+  pub other-unread : passes (readingNothing ++ (spaced refusedWord ++ n1)) ≡ false
+  pub surplus-unread : passes (readingNothing ++ (outside ++ n0)) ≡ false
+  pub not-unread : passes (readingIdentity ++ outside) ≡ false
+  pub above-read : passes (readingAbove ++ (spaced givesWord ++ n0)) ≡ false
+  pub above-unread : passes (readingAbove ++ outside) ≡ false
   pub written-right : passes (writing ++ (spaced writesWord ++ tableWith 48)) ≡ true
   pub other-written : passes (writing ++ (spaced writesWord ++ tableWith 56)) ≡ false
   pub surplus-written : passes (writing ++ (spaced writesWord ++ (tableWith 48 ++ n0))) ≡ false
@@ -206,5 +238,7 @@ pub record Passing-examples : Type 0 where
   pub counted-session : countedStage true fresh ≡ nowhere
   pub unloaded-kept : unloadedFrom junk ≡ true
   pub unloaded-changed : unloadedFrom 0 ≡ false
+  pub unread-kept : unreadFrom junk ≡ true
+  pub unread-changed : unreadFrom 0 ≡ false
   pub unwritten-kept : unwrittenFrom junk ≡ true
   pub unwritten-changed : unwrittenFrom 0 ≡ false

@@ -11,6 +11,9 @@ loadWord = 108 ∷ 111 ∷ 97 ∷ 100 ∷ []
 abbrev pub writeWord : List ℕ
 writeWord = 119 ∷ 114 ∷ 105 ∷ 116 ∷ 101 ∷ []
 
+abbrev pub lineWord : List ℕ
+lineWord = 108 ∷ 105 ∷ 110 ∷ 101 ∷ []
+
 abbrev pub totalWord : List ℕ
 totalWord = 116 ∷ 111 ∷ 116 ∷ 97 ∷ 108 ∷ []
 

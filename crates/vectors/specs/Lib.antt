@@ -3,5 +3,6 @@ pub mod Keywords
 pub mod Answers
 pub mod Pair
 pub mod Stored
+pub mod Typed
 pub mod Vector
 pub mod Examples

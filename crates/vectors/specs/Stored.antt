@@ -90,16 +90,29 @@ junkTable n = replicate (min n listMost) junk
 unfoldable pub writesBack : List ℕ → (at : ℕ) → (loaded workspace : List ℕ) (len : ℕ) → Bool
 writesBack line at loaded workspace len = writesInto line at loaded workspace len (junkTable (length loaded)) .holds
 
--- Loading a table: a refusal changes nothing, and else the term is what the line gives, and is written.
-abbrev pub givesTerm : List ℕ → (table : List ℕ) → Brought → Compared → Bool
-givesTerm line table q c =
-    (c .equal && isReturned (q .answer) (c .count)) && writesBack line (c .next) table (q .workspace) (c .count)
+-- What a call brought into a workspace of junk, beside what the line says: the refusal that it names last, which changes nothing and has no words, or the
+-- words that it gives, with zeros after them.
+abbrev pub refusedAs : List ℕ → (from : ℕ) → Brought → Compared
+refusedAs line from q =
+    record { equal = refusedLast line from (q .answer) && areWords (q .workspace) (q .workspace) 0 junk; count = 0; next = length line }
 
+abbrev pub givenAs : Brought → Compared → Compared
+givenAs q c = record { equal = c .equal && isReturned (q .answer) (c .count); count = c .count; next = c .next }
+
+unfoldable pub broughtAs : List ℕ → (at : ℕ) → Brought → Compared
+broughtAs line at q =
+    let from = after line at refusedWord in
+    cond (eqb from nowhere) (givenAs q (comparedAt line (after line at givesWord) (q .workspace) 0)) (refusedAs line from q)
+
+-- The line ends behind it.
+abbrev pub endsAs : List ℕ → Compared → Bool
+endsAs line c = c .equal && eqb (c .next) (length line)
+
+-- Loading a table: a term that was brought is written too.
 unfoldable pub loadedAs : List ℕ → (at : ℕ) → (table : List ℕ) → Brought → Bool
 loadedAs line at table q =
-    let from = after line at refusedWord in
-    cond (eqb from nowhere) (givesTerm line table q (comparedAt line (after line at givesWord) (q .workspace) 0))
-    (refusedLast line from (q .answer) && areWords (q .workspace) (q .workspace) 0 junk)
+    let c = broughtAs line at q in
+    cond (eqb (c .count) 0) (endsAs line c) (c .equal && writesBack line (c .next) table (q .workspace) (c .count))
 
 abbrev pub loadingOf : List ℕ → (at : ℕ) → (table : List ℕ) → Brought → Verified
 loadingOf line at table q = record { holds = loadedAs line at table q; words = q .workspace }

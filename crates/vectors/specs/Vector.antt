@@ -5,9 +5,10 @@ use mathlib.Core.List.{List, [], _∷_}
 use lib.Dec.{eqb, leb, ltb}
 use lib.ListN.{length, getD, take, drop}
 use Rattle.vector_text.specs.Text.{nowhere, after}
-use Rattle.vectors.specs.Keywords.{pairWord, loadWord, writeWord}
+use Rattle.vectors.specs.Keywords.{pairWord, loadWord, lineWord, writeWord}
 use Rattle.vectors.specs.Pair.{pairHolds}
 use Rattle.vectors.specs.Stored.{loadHolds, writeHolds}
+use Rattle.vectors.specs.Typed.{lineHolds}
 use Rattle.vectors.specs.declared.vector.Tally.{Tally}
 
 -- Where the line that goes on at a position ends.
@@ -25,7 +26,9 @@ lineEnd text at = endFrom at (drop at text)
 unfoldable pub passes : List ℕ → Bool
 passes line =
     cond (eqb (after line 0 pairWord) nowhere)
-    (cond (eqb (after line 0 loadWord) nowhere) (writeHolds line (after line 0 writeWord)) (loadHolds line (after line 0 loadWord)))
+    (cond (eqb (after line 0 loadWord) nowhere)
+    (cond (eqb (after line 0 lineWord) nowhere) (writeHolds line (after line 0 writeWord)) (lineHolds line (after line 0 lineWord)))
+    (loadHolds line (after line 0 loadWord)))
     (pairHolds line (after line 0 pairWord))
 
 -- A line's share: none of an empty line and of a comment. A line that is cut off before its end fails.

@@ -9,6 +9,7 @@ use libc::STDOUT_FILENO;
 
 mod pair;
 mod stored;
+mod typed;
 mod vector;
 
 // The most bytes that are read.

@@ -12,6 +12,7 @@ use crate::pair::JUNK;
 use crate::pair::ROOM;
 use tables::load;
 use tables::write;
+use vector_text::Compared;
 use vector_text::LIST_MOST;
 use vector_text::List;
 use vector_text::NOWHERE;
@@ -27,10 +28,10 @@ use words::answer::Answer;
 ghost use mathlib.Core.Path.{_≡_};
 ghost use Prim.Native.Nat.{_≤_};
 ghost use lib.ListN.{length};
-ghost use Rattle.words.specs.Types.{answerOf};
+ghost use Rattle.words.specs.Types.{answerOf, broughtOf};
 ghost use Rattle.vectors.specs.Answers.{isReturned};
 ghost use Rattle.vector_text.specs.Lists.{listMost, listedOf};
-ghost use Rattle.vectors.specs.Stored.{verifiedOf, refusedLast, chainWord, chain, tableAt, isTable, writesInto, writesBack, loading, loadHolds, writesWords, writeHolds};
+ghost use Rattle.vectors.specs.Stored.{verifiedOf, refusedLast, chainWord, chain, tableAt, isTable, writesInto, writesBack, broughtAs, loading, loadHolds, writesWords, writeHolds};
 
 fn returns_count(answer: Answer, count: usize) -> bool
     ensures { λ r. ⌜ r ≡ isReturned (answerOf answer) count ⌝ }
@@ -138,19 +139,37 @@ fn writes(line: &[u8], at: usize, loaded: &[u32], workspace: &[u32], length: usi
     writes_into(line, at, loaded, workspace, length, &mut table[..n])
 }
 
-// Whether loading and writing go as the line says after the table.
+// What a call brought into a workspace of junk, beside what the line says: the refusal that it names last, which changes nothing and has no words, or the
+// words that it gives, with zeros after them.
+pub fn brings(line: &[u8], at: usize, answer: Answer, workspace: &[u32]) -> Compared
+    ensures { λ r. ⌜ r ≡ broughtAs (now (line .entry)) at (broughtOf answer (now (workspace .entry))) ⌝ }
+{
+    let from = after(line, at, b"Refused");
+    if from != NOWHERE {
+        return Compared {
+            equal: refuses(line, from, answer) & filled(workspace, JUNK),
+            count: 0,
+            next: line.len(),
+        };
+    }
+    let term = compare(line, after(line, at, b"gives"), workspace, 0);
+    Compared {
+        equal: term.equal & returns_count(answer, term.count),
+        count: term.count,
+        next: term.next,
+    }
+}
+
+// Whether loading and writing go as the line says after the table. A term that was brought is written too.
 fn loads(line: &[u8], at: usize, table: &[u32], workspace: &mut [u32]) -> bool
     ensures { λ r. ⌜ verifiedOf r (now (workspace .exit)) ≡ loading (now (line .entry)) at (now (table .entry)) (now (workspace .entry)) ⌝ }
 {
     let answer = load(table, workspace);
-    let from = after(line, at, b"Refused");
-    if from != NOWHERE {
-        return refuses(line, from, answer) & filled(workspace, JUNK);
+    let term = brings(line, at, answer, workspace);
+    if term.count == 0 {
+        return term.equal & (term.next == line.len());
     }
-    let term = compare(line, after(line, at, b"gives"), workspace, 0);
-    term.equal
-        & returns_count(answer, term.count)
-        & writes(line, term.next, table, workspace, term.count)
+    term.equal & writes(line, term.next, table, workspace, term.count)
 }
 
 // Whether a line is right, from its size on.

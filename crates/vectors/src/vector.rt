@@ -1,7 +1,8 @@
-// Vectors, one to a line. What a line means is said at the top of pair.rt (pair) and stored.rt (load, write).
+// Vectors, one to a line. What a line means is said at the top of pair.rt (pair), stored.rt (load, write) and typed.rt (line).
 use crate::pair::pair_holds;
 use crate::stored::load_holds;
 use crate::stored::write_holds;
+use crate::typed::line_holds;
 use libc::STDOUT_FILENO;
 use vector_text::NOWHERE;
 use vector_text::after;
@@ -26,6 +27,10 @@ fn passes(line: &[u8]) -> bool
     let load = after(line, 0, b"load");
     if load != NOWHERE {
         return load_holds(line, load);
+    }
+    let typed = after(line, 0, b"line");
+    if typed != NOWHERE {
+        return line_holds(line, typed);
     }
     write_holds(line, after(line, 0, b"write"))
 }

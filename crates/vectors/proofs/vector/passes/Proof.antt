@@ -37,12 +37,25 @@ slice-aggregate-after-3 c = search needs
 after-requires-3 : tie.Need-after-requires-3
 after-requires-3 c κs = search needs
 
-write-holds-requires : tie.Need-write-holds-requires
-write-holds-requires c κs = search needs
+line-holds-requires : tie.Need-line-holds-requires
+line-holds-requires c κs = search needs
 
 returns-3 : tie.Need-returns-3
 unfolding passes
-returns-3 c = rw (c .write-holds .ensures, ← (c .before .before .before .before .before .before .before .after .ensures), eq-eqb _ _ (c .before .before .before .before .before .before .if1 .left), ← (c .before .before .before .before .after2 .ensures), eq-eqb _ _ (c .before .before .before .if2 .left), ← (c .before .after3 .ensures))
+returns-3 c = rw (c .line-holds .ensures, ← (c .before .before .before .before .before .before .before .before .after .ensures), eq-eqb _ _ (c .before .before .before .before .before .before .before .if1 .left), ← (c .before .before .before .before .before .after2 .ensures), eq-eqb _ _ (c .before .before .before .before .if2 .left), ← (c .before .before .after3 .ensures), ne-eqb _ _ (c .before .if3 .taken))
+
+slice-aggregate-after-4 : tie.Need-slice-aggregate-after-4
+slice-aggregate-after-4 c = search needs
+
+after-requires-4 : tie.Need-after-requires-4
+after-requires-4 c κs = search needs
+
+write-holds-requires : tie.Need-write-holds-requires
+write-holds-requires c κs = search needs
+
+returns-4 : tie.Need-returns-4
+unfolding passes
+returns-4 c = rw (c .write-holds .ensures, ← (c .before .before .before .before .before .before .before .before .before .before .after .ensures), eq-eqb _ _ (c .before .before .before .before .before .before .before .before .before .if1 .left), ← (c .before .before .before .before .before .before .before .after2 .ensures), eq-eqb _ _ (c .before .before .before .before .before .before .if2 .left), ← (c .before .before .before .before .after3 .ensures), eq-eqb _ _ (c .before .before .before .if3 .left), ← (c .before .after4 .ensures))
 
 pub passes-spec : {M : Type 1} → statement M
 passes-spec =
@@ -58,5 +71,9 @@ passes-spec =
     returns-2
     slice-aggregate-after-3
     after-requires-3
+    line-holds-requires
+    returns-3
+    slice-aggregate-after-4
+    after-requires-4
     write-holds-requires
-    returns-3)
+    returns-4)
