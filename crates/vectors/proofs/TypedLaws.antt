@@ -1,11 +1,11 @@
 -- Bytes that are read.
 use Prim.Native.Nat.{ℕ, _+_, _≤_}
 use native.Mathlib.Omega.{arith}
-use mathlib.Core.Path.{_≡_, _∙_, sym, ap}
+use mathlib.Core.Path.{_≡_, _∙_, ap}
 use mathlib.Core.List.{List, _++_}
 use mathlib.Core.Bool.{true, false}
 use lib.ListN.{length, take, drop}
-use lib.Seq.{sets-eq, take-append-seam, length-take-le}
+use lib.Seq.{sets-eq, take-append-seam}
 use Rattle.words.specs.Placed.{Placed}
 use Rattle.text.specs.Bytes.{areBytes}
 use Rattle.notation.specs.Reading.{readLine}

@@ -1,14 +1,9 @@
 -- `reads` meets its contract.
-use native.Mathlib.Omega.{arith}
-use mathlib.Core.Path.{_≡_, refl, sym, _∙_, ap}
-use mathlib.Core.Bool.{true, false, cond}
-use lib.ListN.{length, take}
+use mathlib.Core.Path.{sym, _∙_, ap}
 use borrow.Author.Tests.{not-true, not-false}
-use Rattle.words.specs.Types.{broughtOf}
-use Rattle.text.specs.Bytes.{areBytes}
 use Rattle.notation.specs.Reading.{readLine}
-use Rattle.vectors.specs.Stored.{verifiedOf, broughtAs, endsAs}
-use Rattle.vectors.specs.Typed.{readingOf, reading}
+use Rattle.vectors.specs.Stored.{verifiedOf, endsAs}
+use Rattle.vectors.specs.Typed.{readingOf}
 use Rattle.vectors.proofs.TypedLaws.{placed-start, placed-count, read-bytes, read-others}
 use borrow.Author.Needs.{needs}
 use Rattle.vectors.proofs.typed.reads.Statement.{statement}
