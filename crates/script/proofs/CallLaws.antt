@@ -1,24 +1,29 @@
 -- What the calls leave, as what the operations were to do.
 use Prim.Native.Nat.{ℕ, _+_, _-_, _≤_}
 use mathlib.Core.Path.{_≡_, refl, sym, _∙_, ap}
+use mathlib.Core.Bool.{true}
 use mathlib.Core.List.{List, _++_}
 use native.Mathlib.Omega.{arith}
-use lib.ListN.{length, take, drop, replicate, set, length-replicate}
+use lib.ListN.{length, take, drop, replicate, set, length-replicate, length-drop}
 use lib.Seq.{sets, take-at, drop-at, length-take-le}
 use Rattle.press.specs.declared.answer.Pressed.{Pressed}
 use Rattle.claim.specs.Press.{press}
 use Rattle.press.specs.Types.{memoryOf, callOf, pressedOf}
+use Rattle.calculus.specs.Bringing as bring
+use Rattle.calculus.specs.Bringing.{Brought}
 use Rattle.words.specs.declared.answer.Answer.{Answer}
-use Rattle.words.specs.Types.{answerOf as tableAnswerOf}
+use Rattle.words.specs.Types.{answerOf}
 use Rattle.tables.specs.Types.{writtenOf}
 use Rattle.tables.specs.Write.{write}
 use Rattle.words.proofs.PlacedLaws.{sets-whole}
 use Rattle.script.specs.declared.Call.{Call}
 use Rattle.script.specs.declared.calls.Kept.{Kept}
+use Rattle.script.specs.declared.calls.Report.{Report}
 use Rattle.script.specs.declared.calls.Report.the-variants as report
 use Rattle.script.specs.declared.Side.{Side}
-use Rattle.script.specs.Script.{tableLimit, roomMost}
-use Rattle.script.specs.Calls.{filler, afterPress, afterWrite, ofLoad, ofWrite, performLoad, performPress, performWrite, performStore, chosen, changed, replaced, stateOf, Does, Loads}
+use Rattle.text.specs.Bytes.{areBytes}
+use Rattle.script.specs.Script.{tableLimit, roomMost, Bytes}
+use Rattle.script.specs.Calls.{filler, afterPress, afterWrite, Told, ofWrite, performBringing, performPress, performWrite, performStore, chosen, changed, replaced, reportOf, stateOf, Does, Brings}
 
 -- What fits a limit fits a list of that length, and its first words are so many.
 module _ {n limit : ℕ} (xs : List ℕ) (fits : n ≤ limit) (full : length xs ≡ limit) where
@@ -31,6 +36,14 @@ module _ {n limit : ℕ} (xs : List ℕ) (fits : n ≤ limit) (full : length xs 
 -- The room has the words of a table.
 pub within-room : {n : ℕ} → n ≤ tableLimit → n ≤ roomMost
 within-room h = omega arith
+
+-- The bytes of a line, as the part of the room that they are.
+pub line-part : (room : List ℕ) (at n : ℕ) → Bytes room at n
+    → (areBytes (take (at + n - at) (drop at room)) ≡ true) × (length (take (at + n - at) (drop at room)) ≤ tableLimit)
+line-part room at n fits =
+    let e : at + n - at ≡ n = omega arith in
+    let behind : n ≤ length (drop at room) = omega (arith, fits .inside, length-drop at room) in
+    rw e (fits .bytes, omega (arith, fits .few, length-take-le n (drop at room) behind))
 
 -- Words at the start of the room.
 at-front : {n : ℕ} {slice front : List ℕ} (room : List ℕ) → length slice ≡ n → slice ≡ front → slice ++ drop n room ≡ front ++ drop (length front) room
@@ -56,15 +69,16 @@ module _ (call : Call) (kept : Kept) (l r s l′ r′ s′ room : List ℕ) (p :
 
 -- The other calls change neither the scratch nor what is kept.
 module _ (kept : Kept) (l r s : List ℕ) (side : Side) where
-  -- A table that stands in the room.
-  pub load-does : (l′ r′ room : List ℕ) (at n : ℕ) {a : Answer} → Loads side (take (at + n - at) (drop at room)) l r l′ r′ a
-      → Does (performLoad (stateOf l r s kept) side (take n (drop at room))) s room l′ r′ s room (record { kept = kept; report = report.Loaded a })
-  load-does l′ r′ room at n {a} loads =
+  -- What is brought in stands in the room.
+  pub bring-does : (brought : (part workspace : List ℕ) → Brought) (tell : bring.Answer → Told) (l′ r′ room : List ℕ) (at n : ℕ) {a : Answer} {told : Report}
+      → reportOf room told ≡ tell (answerOf a) → Brings side (brought (take (at + n - at) (drop at room))) l r l′ r′ a
+      → Does (performBringing (stateOf l r s kept) side (brought (take n (drop at room))) tell) s room l′ r′ s room (record { kept = kept; report = told })
+  bring-does brought tell l′ r′ room at n {a} tells brings =
       let e : at + n - at ≡ n = omega arith in
-      let is : Loads side (take n (drop at room)) l r l′ r′ a = rw e at loads in
+      let is : Brings side (brought (take n (drop at room))) l r l′ r′ a = rw e at brings in
       record {
         state = ap (λ ws. record { memory = replaced (memoryOf l r (kept .session)) ws; scratch = take (kept .scratch) s }) (is .workspaces);
-        told = ap ofLoad (is .answer);
+        told = tells ∙ ap tell (is .answer);
         behind = refl;
         placed = refl;
       }
@@ -77,7 +91,7 @@ module _ (kept : Kept) (l r s : List ℕ) (side : Side) where
       let is : writtenOf a t ≡ write (chosen side l r) len (replicate n filler) = e ∙ ap (λ k. write (chosen side l r) len (replicate k filler)) all in
       record {
         state = refl;
-        told = ap (ofWrite (tableAnswerOf a)) (take-at t (drop n room) n (same ∙ all)) ∙ ap (λ w. afterWrite (stateOf l r s kept) w .told) is;
+        told = ap (ofWrite (answerOf a)) (take-at t (drop n room) n (same ∙ all)) ∙ ap (λ w. afterWrite (stateOf l r s kept) w .told) is;
         behind = refl;
         placed = at-front room (same ∙ all) (ap (λ w. w .table) is);
       }

@@ -1,4 +1,4 @@
--- Which workspace a shown part belongs to, by computation.
+-- What a line's words come to, and which workspace a shown part belongs to, by computation.
 use mathlib.Core.Path.{refl}
 use mathlib.Core.Logic.{Dec·and}
 use mathlib.Core.Option.{bind, orElse}
@@ -7,7 +7,24 @@ use Rattle.calculus.specs.Decide.{both₃, isTag?, startsAbove?, rising?, every
 use Rattle.calculus.specs.Read.{takeTerm, takeTerms, takeBranches, readLam, readApp, readCon, readCase, readBranch, item, items, oneTerm, read}
 use Rattle.calculus.specs.Workspace.{termAt}
 use Rattle.press.specs.Showing.{show}
-use Rattle.script.specs.Examples.{Shown-examples}
+use Rattle.text.specs.Bytes.{areBytes}
+use Rattle.script.specs.Script.{within, operandsIn, mayFollow, operationWith, operationIn}
+use Rattle.script.specs.Examples.{Line-examples, Shown-examples}
+
+pub line-examples : Line-examples
+unfolding operationIn operationWith operandsIn within mayFollow areBytes
+line-examples =
+    record {
+      empty = refl;
+      whole = refl;
+      last-byte = refl;
+      no-byte = refl;
+      no-side = refl;
+      most = refl;
+      too-many = refl;
+      to-come = refl;
+      no-operation = refl;
+    }
 
 pub shown-examples : Shown-examples
 unfolding show termAt read items item takeTerm takeTerms takeBranches readLam readApp readCon readCase readBranch oneTerm accepted? everywhere? tagged? both₃ isTag? startsAbove? rising? Dec·and decLe decLt bind orElse

@@ -1,18 +1,19 @@
 -- What words come to, by the tests in their order.
-use Prim.Native.Nat.{ℕ, zero, suc, _+_, _≤_, _<_}
+use Prim.Native.Nat.{ℕ, zero, suc, _+_, _-_, _≤_, _<_}
 use mathlib.Core.Path.{_≡_, refl, _∙_, sym, ap, subst}
 use mathlib.Core.Bool.{Bool, true, false, cond, _&&_, and-eq-true-iff}
 use mathlib.Core.List.{List}
 use native.Mathlib.Decide.{decLt}
 use native.Mathlib.Omega.{arith}
 use lib.Dec.{leb, eqb}
-use lib.ListN.{length, getD}
+use lib.ListN.{length, getD, take, drop}
 use borrow.Author.Tests.{le-leb, lt-leb, leb-true, eqb-true}
 use Rattle.script.specs.declared.Operands.{Operands}
 use Rattle.script.specs.declared.Operation.{Operation}
 use Rattle.script.specs.declared.Read.{Read}
 use Rattle.script.specs.declared.Read.the-variants as read
-use Rattle.script.specs.Script.{tableLimit, operations, operandsMost, wordsOf, mostOf, within, operandsIn, following, operationOf, operationWith, operationIn, Fits, Standing, Reads}
+use Rattle.script.specs.Script.{tableLimit, operations, operandsMost, wordsOf, mostOf, within, operandsIn, following, mayFollow, operationOf, followers, operationWith, operationIn}
+use Rattle.script.specs.Script.{Bytes, Fits, Standing, Reads}
 
 -- Only the numbers of the table have words.
 pub number-unknown : (n : ℕ) → operations ≤ n → wordsOf n ≡ 0
@@ -24,7 +25,8 @@ number-unknown (suc (suc (suc (suc zero)))) h = absurd (omega arith)
 number-unknown (suc (suc (suc (suc (suc zero))))) h = absurd (omega arith)
 number-unknown (suc (suc (suc (suc (suc (suc zero)))))) h = absurd (omega arith)
 number-unknown (suc (suc (suc (suc (suc (suc (suc zero))))))) h = absurd (omega arith)
-number-unknown (suc (suc (suc (suc (suc (suc (suc (suc n)))))))) h = refl
+number-unknown (suc (suc (suc (suc (suc (suc (suc (suc zero)))))))) h = absurd (omega arith)
+number-unknown (suc (suc (suc (suc (suc (suc (suc (suc (suc n))))))))) h = refl
 
 pub number-known : (n : ℕ) → 1 ≤ wordsOf n → n < operations
 number-known n h = go (decLt n operations)
@@ -43,9 +45,10 @@ words-most (suc (suc (suc (suc zero)))) = omega arith
 words-most (suc (suc (suc (suc (suc zero))))) = omega arith
 words-most (suc (suc (suc (suc (suc (suc zero)))))) = omega arith
 words-most (suc (suc (suc (suc (suc (suc (suc zero))))))) = omega arith
-words-most (suc (suc (suc (suc (suc (suc (suc (suc n)))))))) = omega arith
+words-most (suc (suc (suc (suc (suc (suc (suc (suc zero)))))))) = omega arith
+words-most (suc (suc (suc (suc (suc (suc (suc (suc (suc n))))))))) = omega arith
 
--- What the operations need of their operands: the length of a scratch and of a table within their limits.
+-- What the operations need of their operands: the length of a scratch, of a table and of a line within their limits.
 module _ (words : List ℕ) (o : Operands) (from : ℕ) where
   by-number : (P : Operation → Type 0) (n k : ℕ) {a b : Operation} → (n ≡ k → P a) → P b → P (cond (eqb n k) a b)
   by-number P n k {a} {b} here other = go (eqb n k) refl
@@ -64,23 +67,34 @@ module _ (words : List ℕ) (o : Operands) (from : ℕ) where
       let two = and-eq-true-iff (first && second) third .0 three .0 in
       (leb-true _ _ (and-eq-true-iff first second .0 two .0), leb-true _ _ (and-eq-true-iff first second .0 two .1), leb-true _ _ (and-eq-true-iff (first && second) third .0 three .1))
 
-  operation-fits : (n : ℕ) → within n o ≡ true → from + following n o ≤ length words → Fits words (operationOf n o from)
-  operation-fits n h inside =
+  line-fits : within 8 o ≡ true → from + following 8 o ≤ length words → mayFollow 8 (followers words 8 from o) ≡ true → Bytes words from (o .second)
+  unfolding mayFollow
+  line-fits h inside may = record { inside = inside; few = operands-within 8 h .1; bytes = may }
+
+  operation-fits : (n : ℕ) → within n o ≡ true → from + following n o ≤ length words → mayFollow n (followers words n from o) ≡ true
+      → Fits words (operationOf n o from)
+  operation-fits n h inside may =
       let at : (k : ℕ) → n ≡ k → within k o ≡ true = λ k e. subst (λ j. within j o ≡ true) e h in
-      by-number (Fits words) n 1 (λ e. subst (λ j. from + following j o ≤ length words) e inside)
+      let all : (k : ℕ) → n ≡ k → from + following k o ≤ length words = λ k e. subst (λ j. from + following j o ≤ length words) e inside in
+      by-number (Fits words) n 1 (all 1)
       (by-number (Fits words) n 2 (λ e. operands-within 2 (at 2 e) .0)
       (by-number (Fits words) n 3 (λ e. tt)
       (by-number (Fits words) n 4 (λ e. operands-within 4 (at 4 e) .2)
       (by-number (Fits words) n 5 (λ e. tt)
-      (by-number (Fits words) n 6 (λ e. tt) tt)))))
+      (by-number (Fits words) n 6 (λ e. tt)
+      (by-number (Fits words) n 8 (λ e. line-fits (at 8 e) (all 8 e) (subst (λ j. mayFollow j (followers words j from o) ≡ true) e may)) tt))))))
 
-  -- What follows an operation's own words is a table's at most.
+  -- What follows an operation's own words is a table's or a line's at most.
   following-most : (n : ℕ) → within n o ≡ true → following n o ≤ tableLimit
-  following-most n h = go (eqb n 1) refl
+  following-most n h = go (eqb n 1) refl (eqb n 8) refl
     where
-      go : (t : Bool) → eqb n 1 ≡ t → cond t (o .second) 0 ≤ tableLimit
-      go true e = operands-within 1 (subst (λ j. within j o ≡ true) (eqb-true n 1 e) h) .1
-      go false e = omega arith
+      second-most : (k : ℕ) → eqb n k ≡ true → o .second ≤ mostOf k 1
+      second-most k e = operands-within k (subst (λ j. within j o ≡ true) (eqb-true n k e) h) .1
+
+      go : (t : Bool) → eqb n 1 ≡ t → (u : Bool) → eqb n 8 ≡ u → cond t (o .second) (cond u (o .second) 0) ≤ tableLimit
+      go true e u f = second-most 1 e
+      go false e true f = second-most 8 f
+      go false e false f = omega arith
 
 module _ (words : List ℕ) {n count : ℕ} (n-is : n ≡ getD words 0 0) (count-is : count ≡ wordsOf n) where
   counted : count ≡ wordsOf (getD words 0 0)
@@ -101,14 +115,14 @@ module _ (words : List ℕ) {n count : ℕ} (n-is : n ≡ getD words 0 0) (count
 
     module _ {o : Operands} (o-is : o ≡ operandsIn words count) (enough : count ≤ length words) where
       as-counted : operationIn words
-          ≡ operationWith (length words) (getD words 0 0) (wordsOf (getD words 0 0)) (operandsIn words (wordsOf (getD words 0 0)))
+          ≡ operationWith words (getD words 0 0) (wordsOf (getD words 0 0)) (operandsIn words (wordsOf (getD words 0 0)))
       unfolding operationIn
       as-counted = rw (le-leb 1 (wordsOf (getD words 0 0)) (omega (arith, counted)), le-leb (wordsOf (getD words 0 0)) (length words) (omega (arith, counted)))
 
-      with-operands : operationIn words ≡ operationWith (length words) n count o
+      with-operands : operationIn words ≡ operationWith words n count o
       with-operands = rw (o-is, counted, n-is) as-counted
 
-      reads : {r : Read} → r ≡ operationWith (length words) n count o → Standing words r → Reads words (operationIn words) r
+      reads : {r : Read} → r ≡ operationWith words n count o → Standing words r → Reads words (operationIn words) r
       reads is standing = record { meaning = is ∙ sym with-operands; standing = standing }
 
       pub not-within : within n o ≡ false → Reads words (operationIn words) read.Broken
@@ -123,10 +137,27 @@ module _ (words : List ℕ) {n count : ℕ} (n-is : n ≡ getD words 0 0) (count
             (rw (inside, lt-leb (count + following n o) (length words) (omega (arith, more-is))))
             (omega (arith, more-is, following-most words o count n inside, count-is, words-most n))
 
-        pub whole : count + more ≤ length words → {operation : Operation} → operation ≡ operationOf n o count
-            → Reads words (operationIn words) (read.Whole operation)
-        unfolding operationWith
-        whole all is =
-            reads
-            (rw (is, inside, le-leb (count + following n o) (length words) (omega (arith, more-is))))
-            (rw is (operation-fits words o count n inside (omega (arith, more-is))))
+        -- The words that follow, as a part of all.
+        abbrev pub part : List ℕ
+        part = take (count + more - count) (drop count words)
+
+        may-follow : {b : Bool} → mayFollow n part ≡ b → mayFollow n (followers words n count o) ≡ b
+        may-follow e =
+            let all : count + more - count ≡ following n o = omega (arith, more-is) in
+            sym (ap (λ k. mayFollow n (take k (drop count words))) all) ∙ e
+
+        module _ (all : count + more ≤ length words) where
+          all-there : leb (count + following n o) (length words) ≡ true
+          all-there = le-leb (count + following n o) (length words) (omega (arith, more-is))
+
+          pub may-not-follow : mayFollow n part ≡ false → Reads words (operationIn words) read.Broken
+          unfolding operationWith
+          may-not-follow e = reads (rw (inside, all-there, may-follow e)) tt
+
+          pub whole : mayFollow n part ≡ true → {operation : Operation} → operation ≡ operationOf n o count
+              → Reads words (operationIn words) (read.Whole operation)
+          unfolding operationWith
+          whole e is =
+              reads
+              (rw (is, inside, all-there, may-follow e))
+              (rw is (operation-fits words o count n inside (omega (arith, more-is)) (may-follow e)))

@@ -6,6 +6,7 @@ use mathlib.Core.List.{List, [], _++_}
 use lib.Dec.{eqb, ltb}
 use lib.ListN.{length, take, drop, replicate, set}
 use Rattle.calculus.specs.Bringing as bring
+use Rattle.calculus.specs.Bringing.{Brought}
 use Rattle.claim.specs.Answer.{Memory}
 use Rattle.claim.specs.Press.{press}
 use Rattle.claim.specs.Answer as press
@@ -15,6 +16,7 @@ use Rattle.press.specs.Types.{answerOf, sessionOf, memoryOf, callOf}
 use Rattle.tables.specs.Load.{load}
 use Rattle.tables.specs.Write.{write}
 use Rattle.tables.specs.Write as written
+use Rattle.notation.specs.Reading.{readLine}
 use Rattle.words.specs.declared.answer.Answer as codeAnswer
 use Rattle.words.specs.Types.{answerOf as tableAnswerOf}
 use Rattle.script.specs.declared.Side.{Side}
@@ -41,6 +43,7 @@ pub data Told : Type 0 where
   ofShow : shown.Part → Told
   ofWrite : bring.Answer → (table : List ℕ) → Told
   ofSet ofStore ofPrint : Told
+  ofLine : bring.Answer → Told
 
 -- The state that an operation leaves, what it tells, and the words that it leaves at the start of the room for tables.
 pub record Performed : Type 0 where
@@ -68,16 +71,17 @@ filler = 7
 abbrev pub sideShown : (part left right : ℕ) → Side
 sideShown part l r = cond (eqb part 0) side.Left (cond (ltb r l) side.Right side.Left)
 
-abbrev pub performLoad : State → Side → (table : List ℕ) → Performed
-performLoad s side table =
-    let loaded = load table (chosen side (s .memory .left) (s .memory .right)) in
+-- A term brought into the workspace of a side.
+abbrev pub performBringing : State → Side → (brought : (workspace : List ℕ) → Brought) → (tell : bring.Answer → Told) → Performed
+performBringing s side brought tell =
+    let b = brought (chosen side (s .memory .left) (s .memory .right)) in
     record {
       state =
           record {
-            memory = replaced (s .memory) (changed side (s .memory .left) (s .memory .right) (loaded .workspace));
+            memory = replaced (s .memory) (changed side (s .memory .left) (s .memory .right) (b .workspace));
             scratch = s .scratch;
           };
-      told = ofLoad (loaded .answer);
+      told = tell (b .answer);
       front = [];
     }
 
@@ -111,7 +115,7 @@ performStore s side at word =
 
 -- What an operation that stands in words does and tells.
 abbrev pub performed : (words : List ℕ) → Operation → State → Performed
-performed words (operation.Load side at table) s = performLoad s side (take table (drop at words))
+performed words (operation.Load side at table) s = performBringing s side (load (take table (drop at words))) ofLoad
 performed words (operation.Press call) s = performPress s call
 performed words (operation.Show l r) s = performShow s l r
 performed words (operation.Write side len table) s = performWrite s side len table
@@ -127,6 +131,7 @@ performed words (operation.Set session) s =
     }
 performed words (operation.Store side at word) s = performStore s side at word
 performed words operation.Print s = record { state = s; told = ofPrint; front = [] }
+performed words (operation.Line side at n) s = performBringing s side (readLine (take n (drop at words))) ofLine
 
 -- The state in lent slices: the scratch is the first words of a longer slice.
 abbrev pub stateOf : (left right scratch : List ℕ) → Kept → State
@@ -148,6 +153,7 @@ reportOf room (report.Written a n) = ofWrite (tableAnswerOf a) (take n room)
 reportOf room report.Set = ofSet
 reportOf room report.Stored = ofStore
 reportOf room report.State = ofPrint
+reportOf room (report.LineRead a) = ofLine (tableAnswerOf a)
 
 -- What an operation was to do is done: the slices and what is kept are the state that it leaves, and the report is what it tells. The words behind the
 -- scratch stay, and so do those behind what is left at the start of the room.
@@ -157,10 +163,10 @@ pub record Does (due : Performed) (scratch room left′ right′ scratch′ room
   pub behind : drop (r .kept .scratch) scratch′ ≡ drop (r .kept .scratch) scratch
   pub placed : room′ ≡ due .front ++ drop (length (due .front)) room
 
--- Loading by itself: both workspaces, and the answer.
-pub record Loads (side : Side) (table left right left′ right′ : List ℕ) (r : codeAnswer.Answer) : Type 0 where
-  pub workspaces : (left′, right′) ≡ changed side left right (load table (chosen side left right) .workspace)
-  pub answer : tableAnswerOf r ≡ load table (chosen side left right) .answer
+-- Bringing a term in by itself: both workspaces, and the answer.
+pub record Brings (side : Side) (brought : (workspace : List ℕ) → Brought) (left right left′ right′ : List ℕ) (r : codeAnswer.Answer) : Type 0 where
+  pub workspaces : (left′, right′) ≡ changed side left right (brought (chosen side left right) .workspace)
+  pub answer : tableAnswerOf r ≡ brought (chosen side left right) .answer
 
 -- The slices are as long as the operations need.
 pub record Lent (scratch room : List ℕ) : Type 0 where

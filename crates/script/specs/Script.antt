@@ -1,14 +1,15 @@
 -- What a script asks: operations of words, one after the other. Each starts with its number and has its operands behind it.
 use Prim.Native.Nat.{ℕ, suc, _+_, _*_, _≤_, _<_}
 use mathlib.Core.Path.{_≡_}
-use mathlib.Core.Bool.{Bool, cond, _&&_}
+use mathlib.Core.Bool.{Bool, true, cond, _&&_}
 use mathlib.Core.List.{List, [], _∷_}
 use lib.Dec.{leb, ltb, eqb}
-use lib.ListN.{length, getD}
+use lib.ListN.{length, getD, take, drop}
 use Rattle.calculus.specs.Words.{workspaceMost}
 use Rattle.turn.specs.declared.Verdict.{Verdict}
 use Rattle.turn.specs.declared.Verdict.the-variants as verdict
 use Rattle.records.specs.Records.{form1}
+use Rattle.text.specs.Bytes.{areBytes}
 use Rattle.script.specs.declared.Side.{Side}
 use Rattle.script.specs.declared.Side.the-variants as side
 use Rattle.script.specs.declared.Operands.{Operands}
@@ -32,7 +33,7 @@ abbrev pub verdictNumbered : ℕ → Verdict
 verdictNumbered n =
     cond (eqb n 0) verdict.Same (cond (eqb n 1) verdict.Different (cond (eqb n 2) verdict.Budget verdict.Full))
 
--- The most words of a table and of a scratch: those of a header and of as many records as a workspace has words.
+-- The most words of a table, of a scratch and of a line: those of a header and of as many records as a workspace has words.
 abbrev pub tableLimit : ℕ
 tableLimit = form1 .recordWords * (workspaceMost + 1)
 
@@ -40,13 +41,13 @@ tableLimit = form1 .recordWords * (workspaceMost + 1)
 abbrev pub lentMost : ℕ
 lentMost = suc workspaceMost
 
--- How many words each operation has, its number's included, by the numbers from 0, which is none: load, press, show, write, set session, store, print.
--- Those of a load stand before its table.
+-- How many words each operation has, its number's included, by the numbers from 0, which is none: load, press, show, write, set session, store, print,
+-- line. Those of a load stand before its table, those of a line before its bytes.
 abbrev pub operations : ℕ
-operations = 8
+operations = 9
 
 abbrev pub counts : List ℕ
-counts = 0 ∷ 3 ∷ 5 ∷ 3 ∷ 4 ∷ 5 ∷ 4 ∷ 1 ∷ []
+counts = 0 ∷ 3 ∷ 5 ∷ 3 ∷ 4 ∷ 5 ∷ 4 ∷ 1 ∷ 3 ∷ []
 
 abbrev pub wordsOf : (number : ℕ) → ℕ
 wordsOf n = getD counts n 0
@@ -75,6 +76,8 @@ limits =
     ∷ sideMost ∷ any ∷ any ∷ any
     -- print
     ∷ any ∷ any ∷ any ∷ any
+    -- line: side, count
+    ∷ sideMost ∷ tableLimit ∷ any ∷ any
     ∷ []
 
 abbrev pub mostOf : (number k : ℕ) → ℕ
@@ -97,9 +100,13 @@ operandsIn words count =
       fourth = operandAt words count 4;
     }
 
--- How many words follow the operation's own: those of a load's table.
+-- How many words follow the operation's own: those of a load's table, and a line's bytes, a word each.
 abbrev pub following : (number : ℕ) → Operands → ℕ
-following n o = cond (eqb n 1) (o .second) 0
+following n o = cond (eqb n 1) (o .second) (cond (eqb n 8) (o .second) 0)
+
+-- Whether these words may follow: those of a line are bytes.
+unfoldable pub mayFollow : (number : ℕ) → (words : List ℕ) → Bool
+mayFollow n words = cond (eqb n 8) (areBytes words) true
 
 -- The operation of a number, with what follows it at a position.
 abbrev pub operationOf : (number : ℕ) → Operands → (from : ℕ) → Operation
@@ -111,13 +118,22 @@ operationOf n o from =
     (cond (eqb n 5)
     (operation.Set
     (record { total = o .first; left = o .second; right = o .third; verdict = verdictNumbered (o .fourth) }))
-    (cond (eqb n 6) (operation.Store (sideOf (o .first)) (o .second) (o .third)) operation.Print)))))
+    (cond (eqb n 6) (operation.Store (sideOf (o .first)) (o .second) (o .third))
+    (cond (eqb n 8) (operation.Line (sideOf (o .first)) from (o .second)) operation.Print))))))
 
--- What so many words come to that start with a number of so many words and these operands: an operand may be beyond its limit, and words that follow
--- may be still to come.
-unfoldable pub operationWith : (words number count : ℕ) → Operands → Read
+-- The words that follow an operation's own, which are so many.
+abbrev pub followers : List ℕ → (number count : ℕ) → Operands → List ℕ
+followers words n count o = take (following n o) (drop count words)
+
+-- What words come to that start with a number of so many words and these operands: an operand may be beyond its limit, words that follow may be still to
+-- come, and those that are there may be none that follow.
+unfoldable pub operationWith : List ℕ → (number count : ℕ) → Operands → Read
 operationWith words n count o =
-    cond (within n o) (cond (leb (count + following n o) words) (read.Whole (operationOf n o count)) read.Open) read.Broken
+    cond (within n o)
+    (cond (leb (count + following n o) (length words))
+    (cond (mayFollow n (followers words n count o)) (read.Whole (operationOf n o count)) read.Broken)
+    read.Open)
+    read.Broken
 
 -- What words come to, one at least: a whole operation, the start of one, or neither.
 unfoldable pub operationIn : List ℕ → Read
@@ -125,14 +141,20 @@ operationIn words =
     let n = getD words 0 0 in
     let count = wordsOf n in
     cond (leb 1 count)
-    (cond (leb count (length words)) (operationWith (length words) n count (operandsIn words count)) read.Open)
+    (cond (leb count (length words)) (operationWith words n count (operandsIn words count)) read.Open)
     read.Broken
 
--- Room for the words of every operation: its own, and a table's.
+-- Room for the words of every operation: its own, and a table's or a line's.
 abbrev pub roomMost : ℕ
 roomMost = suc operandsMost + tableLimit
 
--- What an operation needs lies within the words, a table's and a scratch's length within their limit.
+-- So many bytes, a word each, stand at a position of the words.
+pub record Bytes (words : List ℕ) (at n : ℕ) : Type 0 where
+  pub inside : at + n ≤ length words
+  pub few : n ≤ tableLimit
+  pub bytes : areBytes (take n (drop at words)) ≡ true
+
+-- What an operation needs lies within the words, a table's, a scratch's and a line's length within their limit.
 abbrev pub Fits : (words : List ℕ) → Operation → Type 0
 Fits words (operation.Load side at table) = at + table ≤ length words
 Fits words (operation.Press call) = call .scratch ≤ tableLimit
@@ -141,6 +163,7 @@ Fits words (operation.Write side len table) = table ≤ tableLimit
 Fits words (operation.Set session) = Unit {0}
 Fits words (operation.Store side at word) = Unit {0}
 Fits words operation.Print = Unit {0}
+Fits words (operation.Line side at n) = Bytes words at n
 
 -- Words that are a whole operation have all that it needs, and there is room for a further one where one is to come.
 abbrev pub Standing : (words : List ℕ) → Read → Type 0

@@ -2,12 +2,16 @@
 use crate::Call;
 use crate::Operation;
 use crate::Side;
+use crate::TABLE_MOST;
+use lines::read_line;
 use press::answer::Answer;
 use press::answer::Pressed;
 use press::state::Session;
 use session::press_owned;
+use text::bytes::narrow;
 use words::slices::fill;
 ghost use mathlib.Core.Path.{_≡_};
+ghost use mathlib.Core.Bool.{true};
 ghost use Prim.Native.Nat.{_≤_};
 ghost use lib.ListN.{length, replicate, set};
 ghost use lib.ListN.{length as List·length};
@@ -17,9 +21,11 @@ ghost use Rattle.press.specs.Types.{memoryOf, callOf, pressedOf};
 ghost use Rattle.tables.specs.Load.{load};
 ghost use Rattle.tables.specs.Write.{write};
 ghost use Rattle.tables.specs.Types.{writtenOf};
-ghost use Rattle.script.specs.Script.{Fits};
+ghost use Rattle.text.specs.Bytes.{areBytes};
+ghost use Rattle.notation.specs.Reading.{readLine};
+ghost use Rattle.script.specs.Script.{Fits, tableLimit};
 ghost use Rattle.script.specs.Calls.{filler, chosen, changed, sideShown, partOf};
-ghost use Rattle.script.specs.Calls.{performPress, performed, stateOf, Does, Loads, Lent};
+ghost use Rattle.script.specs.Calls.{performPress, performed, stateOf, Does, Brings, Lent};
 
 // A scratch and a table are first filled with this word.
 const FILLER: u32 = 7;
@@ -48,6 +54,7 @@ pub enum Report {
     Set,
     Stored,
     State,
+    LineRead(words::answer::Answer),
 }
 
 // What an operation leaves to keep, and what it tells.
@@ -135,12 +142,38 @@ fn show<'a>(left: &'a [u32], right: &'a [u32], left_length: usize, right_length:
 
 // Loads a table into the workspace of a side.
 fn load(side: Side, left: &mut [u32], right: &mut [u32], table: &[u32]) -> words::answer::Answer
-    ensures { λ r. ⌜ Loads side (now (table .entry)) (now (left .entry)) (now (right .entry)) (now (left .exit)) (now (right .exit)) r ⌝ }
+    ensures { λ r. ⌜ Brings side (load (now (table .entry))) (now (left .entry)) (now (right .entry)) (now (left .exit)) (now (right .exit)) r ⌝ }
 {
     match side {
         Side::Left => tables::load(table, left),
         Side::Right => tables::load(table, right),
     }
+}
+
+// Reads a line into the workspace of a side.
+fn read_into(side: Side, left: &mut [u32], right: &mut [u32], line: &[u8]) -> words::answer::Answer
+    ensures { λ r. ⌜ Brings side (readLine (now (line .entry))) (now (left .entry)) (now (right .entry)) (now (left .exit)) (now (right .exit)) r ⌝ }
+{
+    match side {
+        Side::Left => read_line(line, left),
+        Side::Right => read_line(line, right),
+    }
+}
+
+// The same with a line whose bytes are a word each.
+fn read_words(
+    side: Side,
+    left: &mut [u32],
+    right: &mut [u32],
+    words: &[u32],
+) -> words::answer::Answer
+    requires { ⌜ areBytes (now words) ≡ true ⌝ }
+    requires { ⌜ length (now words) ≤ tableLimit ⌝ }
+    ensures { λ r. ⌜ Brings side (readLine (now (words .entry))) (now (left .entry)) (now (right .entry)) (now (left .exit)) (now (right .exit)) r ⌝ }
+{
+    let mut line = [0u8; TABLE_MOST];
+    let end = narrow(words, &mut line);
+    read_into(side, left, right, &line[..end])
 }
 
 // The workspace of a side.
@@ -236,6 +269,12 @@ pub fn perform(
         }
         Operation::Print => {
             let report = Report::State;
+            Done { kept, report }
+        }
+        Operation::Line { side, at, bytes } => {
+            let end = at + bytes;
+            let answer = read_words(side, left, right, &room[at..end]);
+            let report = Report::LineRead(answer);
             Done { kept, report }
         }
     }

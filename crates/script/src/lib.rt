@@ -1,13 +1,14 @@
 // What a script asks: operations of words, one after the other. The first word of an operation is its number; one table tells how many
 // words each has, and one the largest number that each of its operands may be.
 use press::state::Session;
+use text::bytes::are_bytes;
 use turn::Verdict;
 use words::Word;
 ghost use mathlib.Core.Path.{_≡_};
 ghost use Prim.Native.Nat.{_≤_, _<_};
 ghost use lib.ListN.{length};
 ghost use Rattle.script.specs.Script.{sideOf, verdictNumbered, tableLimit, operations, operandsMost, wordsOf, mostOf};
-ghost use Rattle.script.specs.Script.{operandAt, operandsIn, within, following, operationOf, operationIn, roomMost, Reads};
+ghost use Rattle.script.specs.Script.{operandAt, operandsIn, within, following, mayFollow, operationOf, operationIn, roomMost, Reads};
 
 pub mod calls;
 
@@ -24,17 +25,19 @@ const SET: u32 = 5;
 
 const STORE: u32 = 6;
 
-const OPERATIONS: usize = 8;
+const LINE: u32 = 8;
 
-// The words of each operation, its number's included; those of a load stand before its table.
-const WORDS: [usize; OPERATIONS] = [0, 3, 5, 3, 4, 5, 4, 1];
+const OPERATIONS: usize = 9;
 
-// The words of a record, and the most words of a table and of a scratch: those of a header and of as many records as a workspace has words.
+// The words of each operation, its number's included; those of a load stand before its table, those of a line before its bytes.
+const WORDS: [usize; OPERATIONS] = [0, 3, 5, 3, 4, 5, 4, 1, 3];
+
+// The words of a record, and the most words of a table, of a scratch and of a line: those of a header and of as many records as a workspace has words.
 const RECORD_WORDS: usize = 4;
 
 pub const TABLE_MOST: usize = RECORD_WORDS * (Word::WORKSPACE_MOST + 1);
 
-// The largest numbers of operands: of a side, of a verdict, of a length of a table or a scratch, and of any other.
+// The largest numbers of operands: of a side, of a verdict, of a length of a table, a scratch or a line, and of any other.
 const SIDE: u32 = 1;
 
 const VERDICT: u32 = 3;
@@ -46,7 +49,7 @@ const ANY: u32 = 4294967295;
 // No operation has more operands.
 const OPERANDS: usize = 4;
 
-// Room for the words of every operation: its own, and a table's.
+// Room for the words of every operation: its own, and a table's or a line's.
 pub const ROOM_MOST: usize = 1 + OPERANDS + TABLE_MOST;
 
 // A line for each operation: the largest numbers of its operands.
@@ -83,6 +86,10 @@ const MOST: [u32; OPERATIONS * OPERANDS] = [
     ANY,
     ANY,
     ANY,
+    SIDE,
+    TABLE,
+    ANY,
+    ANY,
 ];
 
 // What stands behind an operation's number; 0 for those that it does not have.
@@ -106,7 +113,7 @@ pub struct Call {
     pub budget: u32,
 }
 
-// A table is told by the position of its first word among the operation's, and its words.
+// A table, and likewise a line, is told by the position of its first word among the operation's, and how many there are.
 pub enum Operation {
     Load {
         side: Side,
@@ -130,6 +137,11 @@ pub enum Operation {
         word: u32,
     },
     Print,
+    Line {
+        side: Side,
+        at: usize,
+        bytes: usize,
+    },
 }
 
 // What words come to: the start of an operation, a whole one, or neither.
@@ -212,14 +224,27 @@ fn operands_in(words: &[u32], count: usize) -> Operands
     }
 }
 
-// How many words follow an operation's own: those of a load's table.
+// How many words follow an operation's own: those of a load's table, and a line's bytes, a word each.
 fn following(number: u32, o: Operands) -> usize
     ensures { λ r. ⌜ r ≡ following number o ⌝ }
 {
     if number == LOAD {
         return o.second as usize;
     }
+    if number == LINE {
+        return o.second as usize;
+    }
     0
+}
+
+// Whether these words may follow an operation's own: those of a line are bytes.
+fn may_follow(number: u32, words: &[u32]) -> bool
+    ensures { λ r. ⌜ r ≡ mayFollow number (now (words .entry)) ⌝ }
+{
+    if number == LINE {
+        return are_bytes(words);
+    }
+    true
 }
 
 // The operation of a number, with what follows it at a position.
@@ -258,6 +283,11 @@ fn operation_of(number: u32, o: Operands, from: usize) -> Operation
             at: o.second as usize,
             word: o.third,
         },
+        LINE => Operation::Line {
+            side: side_of(o.first),
+            at: from,
+            bytes: o.second as usize,
+        },
         _ => Operation::Print,
     }
 }
@@ -282,6 +312,10 @@ pub fn operation_in(words: &[u32]) -> Read
     let more = following(number, operands);
     if words.len() - count < more {
         return Read::Open;
+    }
+    let end = count + more;
+    if !may_follow(number, &words[count..end]) {
+        return Read::Broken;
     }
     Read::Whole(operation_of(number, operands, count))
 }

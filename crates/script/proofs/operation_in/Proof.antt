@@ -2,7 +2,7 @@
 use mathlib.Core.Path.{refl, sym, _∙_}
 use native.Mathlib.Omega.{arith}
 use borrow.Author.Tests.{not-true, not-false}
-use Rattle.script.proofs.ScriptLaws.{number-known, no-words, own-open, not-within, still-open, whole}
+use Rattle.script.proofs.ScriptLaws.{number-known, no-words, own-open, not-within, still-open, may-not-follow, whole}
 use borrow.Author.Needs.{needs}
 use Rattle.script.proofs.operation_in.Statement.{statement}
 use Rattle.script.proofs.operation_in.Tie as tie
@@ -23,7 +23,10 @@ returns-4 : tie.Need-returns-4
 returns-4 c = still-open _ refl (c .before .before .before .before .before .before .before .words-of .ensures) (omega arith) (c .before .before .before .before .operands-in .ensures) (omega arith) (sym (c .before .before .before .within .ensures) ∙ not-false _ (c .before .before .if3 .left)) (c .before .following .ensures) (omega arith)
 
 returns-5 : tie.Need-returns-5
-returns-5 c = whole _ refl (c .before .before .before .before .before .before .before .before .words-of .ensures) (omega arith) (c .before .before .before .before .before .operands-in .ensures) (omega arith) (sym (c .before .before .before .before .within .ensures) ∙ not-false _ (c .before .before .before .if3 .left)) (c .before .before .following .ensures) (omega arith) (c .operation-of .ensures)
+returns-5 c = may-not-follow _ refl (c .before .before .before .before .before .before .before .before .before .before .words-of .ensures) (omega arith) (c .before .before .before .before .before .before .before .operands-in .ensures) (omega arith) (sym (c .before .before .before .before .before .before .within .ensures) ∙ not-false _ (c .before .before .before .before .before .if3 .left)) (c .before .before .before .before .following .ensures) (omega arith) (sym (c .before .may-follow .ensures) ∙ not-true _ (c .if5 .taken))
+
+returns-6 : tie.Need-returns-6
+returns-6 c = whole _ refl (c .before .before .before .before .before .before .before .before .before .before .before .words-of .ensures) (omega arith) (c .before .before .before .before .before .before .before .before .operands-in .ensures) (omega arith) (sym (c .before .before .before .before .before .before .before .within .ensures) ∙ not-false _ (c .before .before .before .before .before .before .if3 .left)) (c .before .before .before .before .before .following .ensures) (omega arith) (sym (c .before .before .may-follow .ensures) ∙ not-false _ (c .before .if5 .left)) (c .operation-of .ensures)
 
 pub operation-in-spec : {M : Type 1} → statement M
 operation-in-spec =
@@ -39,5 +42,12 @@ operation-in-spec =
     (λ c κs. search needs)
     (λ c. search needs)
     returns-4
+    (λ c. search needs)
+    (λ c. search needs)
+    (λ c. search needs)
+    (λ c. search needs)
+    (λ c. search needs)
     (λ c κs. search needs)
-    returns-5)
+    returns-5
+    (λ c κs. search needs)
+    returns-6)

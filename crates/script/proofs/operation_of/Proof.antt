@@ -49,6 +49,12 @@ side-of-requires-3 c κs = search needs
 cast-t21 : tie.Need-cast-t21
 cast-t21 c = search needs
 
+side-of-requires-4 : tie.Need-side-of-requires-4
+side-of-requires-4 c κs = search needs
+
+cast-t23 : tie.Need-cast-t23
+cast-t23 c = search needs
+
 returns : tie.Need-returns
 returns c = rw (c .before .before .match .keys1, c .before .side-of .ensures)
 
@@ -68,7 +74,10 @@ returns-6 : tie.Need-returns-6
 returns-6 c = rw (c .before .before .match .keys6, c .before .side-of3 .ensures)
 
 returns-7 : tie.Need-returns-7
-returns-7 c = let other = c .match .rest in rw (ne-eqb _ 1 (other .0 .0 .0 .0 .0 .1), ne-eqb _ 2 (other .0 .0 .0 .0 .1), ne-eqb _ 3 (other .0 .0 .0 .1), ne-eqb _ 4 (other .0 .0 .1), ne-eqb _ 5 (other .0 .1), ne-eqb _ 6 (other .1))
+returns-7 c = rw (c .before .before .match .keys7, c .before .side-of4 .ensures)
+
+returns-8 : tie.Need-returns-8
+returns-8 c = let other = c .match .rest in rw (ne-eqb _ 1 (other .0 .0 .0 .0 .0 .0 .1), ne-eqb _ 2 (other .0 .0 .0 .0 .0 .1), ne-eqb _ 3 (other .0 .0 .0 .0 .1), ne-eqb _ 4 (other .0 .0 .0 .1), ne-eqb _ 5 (other .0 .0 .1), ne-eqb _ 6 (other .0 .1), ne-eqb _ 8 (other .1))
 
 pub operation-of-spec : {M : Type 1} → statement M
 operation-of-spec =
@@ -89,10 +98,13 @@ operation-of-spec =
     verdict-of-requires
     side-of-requires-3
     cast-t21
+    side-of-requires-4
+    cast-t23
     returns
     returns-2
     returns-3
     returns-4
     returns-5
     returns-6
-    returns-7)
+    returns-7
+    returns-8)

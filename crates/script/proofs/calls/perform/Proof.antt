@@ -7,9 +7,11 @@ use lib.ListN.{length}
 use Rattle.script.specs.declared.Side.{Side}
 use Rattle.script.specs.declared.Operation.{Operation}
 use Rattle.script.specs.declared.Operation.the-variants as operation
-use Rattle.script.specs.Script.{Fits}
-use Rattle.script.specs.Calls.{ofShow}
-use Rattle.script.proofs.CallLaws.{fits-full, take-full, within-room, load-does, store-does, write-does}
+use Rattle.script.specs.Script.{Bytes, Fits}
+use Rattle.tables.specs.Load.{load}
+use Rattle.notation.specs.Reading.{readLine}
+use Rattle.script.specs.Calls.{ofLoad, ofShow, ofLine}
+use Rattle.script.proofs.CallLaws.{fits-full, take-full, within-room, line-part, bring-does, store-does, write-does}
 use borrow.Author.Needs.{needs}
 use Rattle.script.proofs.calls.perform.Statement.{statement}
 use Rattle.script.proofs.calls.perform.Tie as tie
@@ -20,6 +22,10 @@ enum-known-operation c = search needs
 -- The table lies within the room.
 load-fits : (room : List ℕ) {o : Operation} {side : Side} {at words : ℕ} → o ≡ operation.Load side at words → Fits room o → at + words ≤ length room
 load-fits room e fits = subst (Fits room) e fits
+
+-- The bytes of a line stand in the room.
+line-fits : (room : List ℕ) {o : Operation} {side : Side} {at n : ℕ} → o ≡ operation.Line side at n → Fits room o → Bytes room at n
+line-fits room e fits = subst (Fits room) e fits
 
 add-end : tie.Need-add-end
 add-end c = omega (arith, load-fits _ (c .before .operation .given .1) (c .before .before .before .before .before .before .before .pre .0), c .before .before .before .before .before .before .before .pre .1 .room-full)
@@ -75,6 +81,27 @@ store-requires c κs = search needs
 enum-told : tie.Need-enum-told
 enum-told c = search needs
 
+enum-known-operation-7 : tie.Need-enum-known-operation-7
+enum-known-operation-7 c = search needs
+
+add-end-2 : tie.Need-add-end-2
+add-end-2 c = let start = c .before .before .before .before .before .before .before in omega (arith, line-fits _ (c .before .operation7 .given .1) (start .pre .0) .inside, start .pre .1 .room-full)
+
+mul-read-words : tie.Need-mul-read-words
+mul-read-words c = let start = c .before .before .before .before .before .before .before .before .before in omega (arith, line-fits _ (c .before .before .before .operation7 .given .1) (start .pre .0) .inside, start .pre .1 .room-full)
+
+sub-read-words : tie.Need-sub-read-words
+sub-read-words c = search needs
+
+part-read-words-start : tie.Need-part-read-words-start
+part-read-words-start c = search needs
+
+part-read-words-end : tie.Need-part-read-words-end
+part-read-words-end c = line-fits _ (c .before .before .before .before .operation7 .given .1) (c .before .before .before .before .before .before .before .before .before .before .pre .0) .inside
+
+read-words-requires : tie.Need-read-words-requires
+read-words-requires c κs = line-part _ _ _ (line-fits _ (c .before .before .before .before .before .operation7 .given .1) (c .before .before .before .before .before .before .before .before .before .before .before .pre .0))
+
 same-length : tie.Need-same-length
 same-length c = search needs
 
@@ -88,7 +115,7 @@ returns : tie.Need-returns
 returns c =
     let start = c .before .before .before .before .before .before .before .before .before .before .before .before .before .before .before .before in
     let call = c .before .before .before .before .before .before .before .before .before .before .operation .given in
-    rw (call .1) (load-does (start .args .kept) _ _ _ _ _ _ (start .args .room .now) (call .0 .1 .0) (call .0 .1 .1 .0) (c .before .before .before .before .load .ensures))
+    rw (call .1) (bring-does (start .args .kept) _ _ _ _ load ofLoad _ _ (start .args .room .now) (call .0 .1 .0) (call .0 .1 .1 .0) refl (c .before .before .before .before .load .ensures))
 
 same-length-4 : tie.Need-same-length-4
 same-length-4 c = search needs
@@ -150,6 +177,21 @@ returns-6 c =
 returns-7 : tie.Need-returns-7
 returns-7 c = rw (c .enum-told .given .1) (record { state = refl; told = refl; behind = refl; placed = refl })
 
+same-length-15 : tie.Need-same-length-15
+same-length-15 c = search needs
+
+same-length-16 : tie.Need-same-length-16
+same-length-16 c = search needs
+
+same-length-17 : tie.Need-same-length-17
+same-length-17 c = search needs
+
+returns-8 : tie.Need-returns-8
+returns-8 c =
+    let start = c .before .before .before .before .before .before .before .before .before .before .before .before .before .before .before .before in
+    let call = c .before .before .before .before .before .before .before .before .before .before .operation7 .given in
+    rw (call .1) (bring-does (start .args .kept) _ _ _ _ readLine ofLine _ _ (start .args .room .now) (call .0 .1 .0) (call .0 .1 .1 .0) refl (c .before .before .before .before .read-words .ensures))
+
 pub perform-spec : {M : Type 1} → statement M
 perform-spec =
     tie.close
@@ -173,6 +215,13 @@ perform-spec =
     enum-known-operation-6
     store-requires
     enum-told
+    enum-known-operation-7
+    add-end-2
+    mul-read-words
+    sub-read-words
+    part-read-words-start
+    part-read-words-end
+    read-words-requires
     same-length
     same-length-2
     same-length-3
@@ -193,4 +242,8 @@ perform-spec =
     same-length-13
     same-length-14
     returns-6
-    returns-7)
+    returns-7
+    same-length-15
+    same-length-16
+    same-length-17
+    returns-8)
