@@ -18,5 +18,7 @@ line-examples =
       write-refused = refl;
       session-set = refl;
       stored = refl;
+      line-read = refl;
+      line-refused = refl;
       printed = refl;
     }

@@ -15,7 +15,7 @@ use Rattle.press.specs.Showing.{partBy}
 use Rattle.press.specs.declared.state.Session as codeSession
 use Rattle.press.specs.Types.{answerOf, sessionOf}
 use Rattle.calculus.specs.Bringing as bring
-use Rattle.words.specs.Types.{answerOf as tableAnswerOf}
+use Rattle.words.specs.Types.{answerOf as wordsAnswerOf}
 use Rattle.text.specs.Decimal.{field}
 use Rattle.words.specs.Placed.{Placed}
 use Rattle.text.proofs.DecimalLaws.{length-decimal}
@@ -25,8 +25,8 @@ use Rattle.script.specs.declared.calls.Report.the-variants as report
 use Rattle.script.specs.declared.Side.{Side}
 use Rattle.script.specs.declared.Side.the-variants as side
 use Rattle.script.specs.Calls.{sideOf, partOf, chosen}
-use Rattle.report.specs.Text.{loadName, writeName, leftName, rightName, scratchName}
-use Rattle.report.specs.Text.{row, headMost, refusedHead, tableHead, pressHead, showHead, sideNumber, sessionHead}
+use Rattle.report.specs.Text.{loadName, writeName, lineName, leftName, rightName, scratchName}
+use Rattle.report.specs.Text.{row, headMost, refusedHead, answerHead, pressHead, showHead, sideNumber, sessionHead}
 use Rattle.report.specs.Types.{stateHead, headOf, Lines-exact, Counts}
 
 -- The words of a shown part are those of its side.
@@ -43,14 +43,15 @@ lines-exact (report.Written a n) l r s room k = refl
 lines-exact report.Set l r s room k = refl
 lines-exact report.Stored l r s room k = refl
 lines-exact report.State l r s room k = refl
+lines-exact (report.LineRead a) l r s room k = refl
 
 -- No head is longer than `headMost`.
 length-refused : (why : Refusal) → length (refusedHead why) ≤ headMost
 length-refused why = omega (arith, length-decimal (number why))
 
-pub length-table : (name : List ℕ) → length name ≤ 5 → (a : bring.Answer) → length (tableHead name a) ≤ headMost
-length-table name h (bring.refused why) = length-refused why
-length-table name h (bring.returned n) = omega (arith, length-append name (field n), length-decimal n)
+pub length-answer : (name : List ℕ) → length name ≤ 5 → (a : bring.Answer) → length (answerHead name a) ≤ headMost
+length-answer name h (bring.refused why) = length-refused why
+length-answer name h (bring.returned n) = omega (arith, length-append name (field n), length-decimal n)
 
 pub length-pressed : (a : press.Answer) → length (pressHead a) ≤ headMost
 length-pressed (press.refused why) = length-refused why
@@ -92,13 +93,14 @@ length-state s i =
     (either-length (eqb i 2) scratchName last (omega arith) (length-session (sessionOf s))))
 
 pub head-length : (r : Report) (s : codeSession.Session) (i : ℕ) → length (headOf r s i) ≤ headMost
-head-length (report.Loaded a) s i = length-table loadName (omega arith) (tableAnswerOf a)
+head-length (report.Loaded a) s i = length-answer loadName (omega arith) (wordsAnswerOf a)
 head-length (report.Pressed a) s i = length-pressed (answerOf a)
 head-length (report.Shown p) s i = length-shown (partOf p)
-head-length (report.Written a n) s i = length-table writeName (omega arith) (tableAnswerOf a)
+head-length (report.Written a n) s i = length-answer writeName (omega arith) (wordsAnswerOf a)
 head-length report.Set s i = omega arith
 head-length report.Stored s i = omega arith
 head-length report.State s i = length-state s i
+head-length (report.LineRead a) s i = length-answer lineName (omega arith) (wordsAnswerOf a)
 
 pub length-field : (w : ℕ) → length (field w) ≤ headMost
 length-field w = omega (arith, length-decimal w)

@@ -2,12 +2,12 @@
 use Prim.Native.Nat.{ℕ}
 use mathlib.Core.Path.{_≡_}
 use mathlib.Core.List.{List, [], _∷_}
-use Rattle.calculus.specs.Refusal.{WrongLength, OverBudget, NoTerm}
+use Rattle.calculus.specs.Refusal.{WrongLength, OverBudget, NoTerm, WrongLine}
 use Rattle.calculus.specs.Rounds.{Different, Full}
 use Rattle.claim.specs.Answer as press
 use Rattle.press.specs.Showing.{left, right}
 use Rattle.calculus.specs.Bringing as bring
-use Rattle.script.specs.Calls.{State, Told, ofLoad, ofPress, ofShow, ofWrite, ofSet, ofStore, ofPrint}
+use Rattle.script.specs.Calls.{State, Told, ofLoad, ofPress, ofShow, ofWrite, ofSet, ofStore, ofPrint, ofLine}
 use Rattle.report.specs.Text.{rowsOf, textOf}
 
 -- The left workspace holds f1 and the right one f1 f2, with a word behind each.
@@ -71,6 +71,14 @@ pub record Line-examples : Type 0 where
   pub stored :
       printed ofStore
       ≡ 115 ∷ 116 ∷ 111 ∷ 114 ∷ 101 ∷ 10 ∷ []
+  -- line 4
+  pub line-read :
+      printed (ofLine (bring.returned 4))
+      ≡ 108 ∷ 105 ∷ 110 ∷ 101 ∷ 32 ∷ 52 ∷ 10 ∷ []
+  -- refused 11
+  pub line-refused :
+      printed (ofLine (bring.refused WrongLine))
+      ≡ 114 ∷ 101 ∷ 102 ∷ 117 ∷ 115 ∷ 101 ∷ 100 ∷ 32 ∷ 49 ∷ 49 ∷ 10 ∷ []
   -- left 8 7 / right 2 8 16 7 / scratch 7 / session 25 1 3 Full
   pub printed :
       printed ofPrint

@@ -10,7 +10,7 @@ use Rattle.press.specs.Showing.{Side, Part, left, right, partBy}
 use Rattle.calculus.specs.Bringing as bring
 use Rattle.text.specs.Decimal.{digitsMost, field, newline}
 use Rattle.verdict_text.specs.Line.{nameOf}
-use Rattle.script.specs.Calls.{State, Told, ofLoad, ofPress, ofShow, ofWrite, ofSet, ofStore, ofPrint}
+use Rattle.script.specs.Calls.{State, Told, ofLoad, ofPress, ofShow, ofWrite, ofSet, ofStore, ofPrint, ofLine}
 
 -- A line: its head, and its words, each behind a space.
 pub record Row : Type 0 where
@@ -46,6 +46,9 @@ sessionName = 115 ∷ 101 ∷ 115 ∷ 115 ∷ 105 ∷ 111 ∷ 110 ∷ []
 abbrev pub storeName : List ℕ
 storeName = 115 ∷ 116 ∷ 111 ∷ 114 ∷ 101 ∷ []
 
+abbrev pub lineName : List ℕ
+lineName = 108 ∷ 105 ∷ 110 ∷ 101 ∷ []
+
 abbrev pub leftName : List ℕ
 leftName = 108 ∷ 101 ∷ 102 ∷ 116 ∷ []
 
@@ -65,10 +68,10 @@ space = 32
 abbrev pub refusedHead : Refusal → List ℕ
 refusedHead why = refusedName ++ field (number why)
 
--- What loading or writing returns, behind the call's name.
-abbrev pub tableHead : (name : List ℕ) → bring.Answer → List ℕ
-tableHead name (bring.refused why) = refusedHead why
-tableHead name (bring.returned n) = name ++ field n
+-- What loading, writing or reading a line returns, behind the call's name.
+abbrev pub answerHead : (name : List ℕ) → bring.Answer → List ℕ
+answerHead name (bring.refused why) = refusedHead why
+answerHead name (bring.returned n) = name ++ field n
 
 -- The verdict, spent, both lengths and the position.
 abbrev pub pressHead : press.Answer → List ℕ
@@ -94,10 +97,10 @@ row head words = record { head = head; words = words }
 
 -- The lines of what an operation tells, with the state that it leaves.
 abbrev pub rowsOf : Told → State → List Row
-rowsOf (ofLoad a) s = row (tableHead loadName a) [] ∷ []
+rowsOf (ofLoad a) s = row (answerHead loadName a) [] ∷ []
 rowsOf (ofPress a) s = row (pressHead a) [] ∷ []
 rowsOf (ofShow p) s = row (showHead p) (take (p .count) (partBy (p .side) (s .memory .left) (s .memory .right))) ∷ []
-rowsOf (ofWrite a table) s = row (tableHead writeName a) table ∷ []
+rowsOf (ofWrite a table) s = row (answerHead writeName a) table ∷ []
 rowsOf ofSet s = row sessionName [] ∷ []
 rowsOf ofStore s = row storeName [] ∷ []
 rowsOf ofPrint s =
@@ -106,6 +109,7 @@ rowsOf ofPrint s =
     ∷ row scratchName (s .scratch)
     ∷ row (sessionHead (s .memory .session)) []
     ∷ []
+rowsOf (ofLine a) s = row (answerHead lineName a) [] ∷ []
 
 -- The most bytes of a head: the longest verdict and four numbers behind a space.
 abbrev pub headMost : ℕ

@@ -7,13 +7,13 @@ use lib.Dec.{eqb}
 use lib.ListN.{length, take}
 use Rattle.press.specs.declared.state.Session as codeSession
 use Rattle.press.specs.Types.{answerOf, sessionOf}
-use Rattle.words.specs.Types.{answerOf as tableAnswerOf}
+use Rattle.words.specs.Types.{answerOf as wordsAnswerOf}
 use Rattle.script.specs.declared.calls.Report.{Report}
 use Rattle.script.specs.declared.calls.Report.the-variants as report
 use Rattle.script.specs.declared.calls.Kept.{Kept}
 use Rattle.script.specs.Calls.{chosen, partOf, reportOf, stateOf}
-use Rattle.report.specs.Text.{loadName, writeName, sessionName, storeName, leftName, rightName, scratchName}
-use Rattle.report.specs.Text.{Row, row, rowsOf, tableHead, pressHead, showHead, sessionHead}
+use Rattle.report.specs.Text.{loadName, writeName, sessionName, storeName, lineName, leftName, rightName, scratchName}
+use Rattle.report.specs.Text.{Row, row, rowsOf, answerHead, pressHead, showHead, sessionHead}
 
 -- How many lines a report has.
 abbrev pub countOf : Report → ℕ
@@ -24,6 +24,7 @@ countOf (report.Written a n) = 1
 countOf report.Set = 1
 countOf report.Stored = 1
 countOf report.State = 4
+countOf (report.LineRead a) = 1
 
 -- The head of each line of the state, by its number from 0.
 abbrev pub stateHead : codeSession.Session → (line : ℕ) → List ℕ
@@ -32,13 +33,14 @@ stateHead s i =
 
 -- The head of a line of a report.
 abbrev pub headOf : Report → codeSession.Session → (line : ℕ) → List ℕ
-headOf (report.Loaded a) s i = tableHead loadName (tableAnswerOf a)
+headOf (report.Loaded a) s i = answerHead loadName (wordsAnswerOf a)
 headOf (report.Pressed a) s i = pressHead (answerOf a)
 headOf (report.Shown p) s i = showHead (partOf p)
-headOf (report.Written a n) s i = tableHead writeName (tableAnswerOf a)
+headOf (report.Written a n) s i = answerHead writeName (wordsAnswerOf a)
 headOf report.Set s i = sessionName
 headOf report.Stored s i = storeName
 headOf report.State s i = stateHead s i
+headOf (report.LineRead a) s i = answerHead lineName (wordsAnswerOf a)
 
 -- The words of each line of the state.
 abbrev pub stateWords : (left right scratch : List ℕ) → (line : ℕ) → List ℕ
@@ -53,6 +55,7 @@ wordsOf (report.Written a n) l r s room k i = take n room
 wordsOf report.Set l r s room k i = []
 wordsOf report.Stored l r s room k i = []
 wordsOf report.State l r s room k i = stateWords l r (take (k .scratch) s) i
+wordsOf (report.LineRead a) l r s room k i = []
 
 -- A line of a report, and so many lines from one on.
 abbrev pub lineOf : Report → (left right scratch room : List ℕ) → Kept → (line : ℕ) → Row

@@ -21,9 +21,9 @@ ghost use Rattle.words.specs.Types.{refusalOf};
 ghost use Rattle.rounds.specs.Types.{shownOf};
 ghost use Rattle.press.specs.Types.{answerOf, sessionOf};
 ghost use Rattle.claim.specs.Answer.{shown as press·shown};
-ghost use Rattle.words.specs.Types.{answerOf as tableAnswerOf};
+ghost use Rattle.words.specs.Types.{answerOf as wordsAnswerOf};
 ghost use Rattle.script.specs.Calls.{chosen, partOf, sideOf};
-ghost use Rattle.report.specs.Text.{headMost, refusedHead, tableHead, pressHead, showHead, sessionHead, sideNumber};
+ghost use Rattle.report.specs.Text.{headMost, refusedHead, answerHead, pressHead, showHead, sessionHead, sideNumber};
 ghost use Rattle.report.specs.Types.{Counts, countOf, headOf, stateHead, stateWords, wordsOf};
 
 // The bytes of the longest verdict, `Different`.
@@ -42,10 +42,10 @@ fn put_refused(refusal: Refusal, out: &mut [u8]) -> usize
     put_field(number as usize, out, name)
 }
 
-// What loading or writing returned, behind the call's name.
-fn put_table(name: &[u8], answer: words::answer::Answer, out: &mut [u8]) -> usize
-    requires { ⌜ length (tableHead (now name) (tableAnswerOf answer)) ≤ length (now out) ⌝ }
-    ensures { λ r. ⌜ Placed (now (out .entry)) 0 (tableHead (now (name .entry)) (tableAnswerOf answer)) (now (out .exit)) r ⌝ }
+// What loading, writing or reading a line returned, behind the call's name.
+fn put_answer(name: &[u8], answer: words::answer::Answer, out: &mut [u8]) -> usize
+    requires { ⌜ length (answerHead (now name) (wordsAnswerOf answer)) ≤ length (now out) ⌝ }
+    ensures { λ r. ⌜ Placed (now (out .entry)) 0 (answerHead (now (name .entry)) (wordsAnswerOf answer)) (now (out .exit)) r ⌝ }
 {
     match answer {
         words::answer::Answer::Refused(refusal) => put_refused(refusal, out),
@@ -135,13 +135,14 @@ fn put_any(report: Report, line: usize, session: Session, out: &mut [u8]) -> usi
     ensures { λ r. ⌜ Placed (now (out .entry)) 0 (headOf report session line) (now (out .exit)) r ⌝ }
 {
     match report {
-        Report::Loaded(answer) => put_table(b"load", answer, out),
+        Report::Loaded(answer) => put_answer(b"load", answer, out),
         Report::Pressed(answer) => put_pressed(answer, out),
         Report::Shown(part) => put_shown(part, out),
-        Report::Written { answer, words: _ } => put_table(b"write", answer, out),
+        Report::Written { answer, words: _ } => put_answer(b"write", answer, out),
         Report::Set => put_bytes(b"session", out, 0),
         Report::Stored => put_bytes(b"store", out, 0),
         Report::State => put_state(line, session, out),
+        Report::LineRead(answer) => put_answer(b"line", answer, out),
     }
 }
 
@@ -178,6 +179,7 @@ pub fn rows(report: Report) -> usize
         Report::Set => 1,
         Report::Stored => 1,
         Report::State => 4,
+        Report::LineRead(_) => 1,
     }
 }
 
@@ -242,6 +244,7 @@ pub fn words<'a>(
         Report::Set => first(room, 0),
         Report::Stored => first(room, 0),
         Report::State => state_words(line, left, right, scratch, kept),
+        Report::LineRead(_) => first(room, 0),
     }
 }
 

@@ -18,7 +18,7 @@ use Rattle.tables.specs.Write.{write}
 use Rattle.tables.specs.Write as written
 use Rattle.notation.specs.Reading.{readLine}
 use Rattle.words.specs.declared.answer.Answer as codeAnswer
-use Rattle.words.specs.Types.{answerOf as tableAnswerOf}
+use Rattle.words.specs.Types.{answerOf as wordsAnswerOf}
 use Rattle.script.specs.declared.Side.{Side}
 use Rattle.script.specs.declared.Side.the-variants as side
 use Rattle.script.specs.declared.Call.{Call}
@@ -146,14 +146,14 @@ abbrev pub partOf : Part → shown.Part
 partOf p = record { side = sideOf (p .side); count = p .words }
 
 abbrev pub reportOf : (room : List ℕ) → Report → Told
-reportOf room (report.Loaded a) = ofLoad (tableAnswerOf a)
+reportOf room (report.Loaded a) = ofLoad (wordsAnswerOf a)
 reportOf room (report.Pressed a) = ofPress (answerOf a)
 reportOf room (report.Shown p) = ofShow (partOf p)
-reportOf room (report.Written a n) = ofWrite (tableAnswerOf a) (take n room)
+reportOf room (report.Written a n) = ofWrite (wordsAnswerOf a) (take n room)
 reportOf room report.Set = ofSet
 reportOf room report.Stored = ofStore
 reportOf room report.State = ofPrint
-reportOf room (report.LineRead a) = ofLine (tableAnswerOf a)
+reportOf room (report.LineRead a) = ofLine (wordsAnswerOf a)
 
 -- What an operation was to do is done: the slices and what is kept are the state that it leaves, and the report is what it tells. The words behind the
 -- scratch stay, and so do those behind what is left at the start of the room.
@@ -166,7 +166,7 @@ pub record Does (due : Performed) (scratch room left′ right′ scratch′ room
 -- Bringing a term in by itself: both workspaces, and the answer.
 pub record Brings (side : Side) (brought : (workspace : List ℕ) → Brought) (left right left′ right′ : List ℕ) (r : codeAnswer.Answer) : Type 0 where
   pub workspaces : (left′, right′) ≡ changed side left right (brought (chosen side left right) .workspace)
-  pub answer : tableAnswerOf r ≡ brought (chosen side left right) .answer
+  pub answer : wordsAnswerOf r ≡ brought (chosen side left right) .answer
 
 -- The slices are as long as the operations need.
 pub record Lent (scratch room : List ℕ) : Type 0 where

@@ -1,10 +1,10 @@
--- `put_table` meets its contract, by the answer.
+-- `put_answer` meets its contract, by the answer.
 use native.Mathlib.Omega.{arith}
 use lib.ListN.{length-append}
 use Rattle.words.proofs.PlacedLaws.{placed-append}
 use borrow.Author.Needs.{needs}
-use Rattle.report.proofs.put_table.Statement.{statement}
-use Rattle.report.proofs.put_table.Tie as tie
+use Rattle.report.proofs.put_answer.Statement.{statement}
+use Rattle.report.proofs.put_answer.Tie as tie
 
 put-refused-requires : tie.Need-put-refused-requires
 put-refused-requires c κs = rw (c .before .before .answer .given .1) at (c .before .before .before .before .before .before .pre)
@@ -21,8 +21,8 @@ returns c = rw (c .before .before .before .before .before .answer .given .1) (c 
 returns-2 : tie.Need-returns-2
 returns-2 c = rw (c .before .before .before .before .before .before .before .before .before .answer2 .given .1) (placed-append (c .before .before .before .before .before .before .put-bytes .ensures) (c .before .before .put-field .ensures))
 
-pub put-table-spec : {M : Type 1} → statement M
-put-table-spec =
+pub put-answer-spec : {M : Type 1} → statement M
+put-answer-spec =
     tie.close
     (tie.spec
     (λ c. search needs)
