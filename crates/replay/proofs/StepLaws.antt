@@ -8,7 +8,9 @@ use native.Mathlib.Numerals.{add-one}
 use native.Mathlib.Omega.{arith}
 use lib.ListN.{length, take, drop, set, length-set, length-append, length-drop}
 use lib.Seq.{take-take, take-set-le, take-suc-set, length-take-le}
-use Rattle.text.specs.Bytes.{wordBytes}
+use Rattle.tables.specs.Load.{load}
+use Rattle.notation.specs.Reading.{readLine}
+use Rattle.text.specs.Bytes.{wordBytes, areBytes}
 use Rattle.text.specs.Decode.{wordAt, wordsFrom}
 use Rattle.script.specs.declared.Operation.{Operation}
 use Rattle.script.specs.declared.Operation.the-variants as operation
@@ -18,7 +20,7 @@ use Rattle.script.specs.declared.calls.Done.{Done}
 use Rattle.replay.specs.declared.steps.Progress.{Progress}
 use Rattle.replay.specs.declared.steps.Due.the-variants as due
 use Rattle.script.specs.Script.{operationIn, roomMost, Fits, Standing, Reads}
-use Rattle.script.specs.Calls.{State, Told, performLoad, performed, stateOf, Does}
+use Rattle.script.specs.Calls.{State, Told, ofLoad, ofLine, performBringing, performed, stateOf, Does}
 use Rattle.script.proofs.CallLaws.{take-full}
 use Rattle.replay.specs.Steps.{Machine, after, taken, tellsBy, tells, takenAll, Any-pieces, Stop, stopAt, upTo, Any-stop, machineOf, wordsAt, Comes, Steps}
 
@@ -31,6 +33,9 @@ part-within (w ∷ room) (suc at) n (suc m) h = part-within room at n m (omega a
 
 -- An operation that stands in the first words of the room stands in the room, and does the same.
 module _ (room : List ℕ) (m : ℕ) (inside : m ≤ length room) where
+  part-room : (at n : ℕ) → at + n ≤ length (take m room) → take n (drop at room) ≡ take n (drop at (take m room))
+  part-room at n h = sym (part-within room at n m (omega (arith, length-take-le m room inside)))
+
   fits-room : (o : Operation) → Fits (take m room) o → Fits room o
   fits-room (operation.Load side at n) h = omega (arith, length-take-le m room inside)
   fits-room (operation.Press call) h = h
@@ -39,16 +44,24 @@ module _ (room : List ℕ) (m : ℕ) (inside : m ≤ length room) where
   fits-room (operation.Set session) h = h
   fits-room (operation.Store side at word) h = h
   fits-room operation.Print h = h
+  fits-room (operation.Line side at n) h =
+      record {
+        inside = omega (arith, h .inside, length-take-le m room inside);
+        few = h .few;
+        bytes = ap areBytes (part-room at n (h .inside)) ∙ h .bytes;
+      }
 
   performed-room : (o : Operation) (s : State) → Fits (take m room) o → performed room o s ≡ performed (take m room) o s
   performed-room (operation.Load side at n) s h =
-      ap (performLoad s side) (sym (part-within room at n m (omega (arith, length-take-le m room inside))))
+      ap (λ table. performBringing s side (load table) ofLoad) (part-room at n h)
   performed-room (operation.Press call) s h = refl
   performed-room (operation.Show left right) s h = refl
   performed-room (operation.Write side len n) s h = refl
   performed-room (operation.Set session) s h = refl
   performed-room (operation.Store side at word) s h = refl
   performed-room operation.Print s h = refl
+  performed-room (operation.Line side at n) s h =
+      ap (λ line. performBringing s side (readLine line) ofLine) (part-room at n (h .inside))
 
 -- A further word, put behind those of the open operation.
 module _ (room : List ℕ) (p : Progress) (w : ℕ) (inside : p .words < roomMost) (full : length room ≡ roomMost) where
