@@ -37,13 +37,18 @@ module _ {n limit : ℕ} (xs : List ℕ) (fits : n ≤ limit) (full : length xs 
 pub within-room : {n : ℕ} → n ≤ tableLimit → n ≤ roomMost
 within-room h = omega arith
 
--- The bytes of a line, as the part of the room that they are.
-pub line-part : (room : List ℕ) (at n : ℕ) → Bytes room at n
-    → (areBytes (take (at + n - at) (drop at room)) ≡ true) × (length (take (at + n - at) (drop at room)) ≤ tableLimit)
-line-part room at n fits =
-    let e : at + n - at ≡ n = omega arith in
+-- A part of the room by its ends is so many words from a position on.
+pub part-is : (room : List ℕ) (at n : ℕ) → take (at + n - at) (drop at room) ≡ take n (drop at room)
+part-is room at n = let e : at + n - at ≡ n = omega arith in ap (λ k. take k (drop at room)) e
+
+-- The bytes of a line are bytes, and few.
+pub line-bytes : (room : List ℕ) (at n : ℕ) → Bytes room at n → areBytes (take (at + n - at) (drop at room)) ≡ true
+line-bytes room at n fits = ap areBytes (part-is room at n) ∙ fits .bytes
+
+pub line-few : (room : List ℕ) (at n : ℕ) → Bytes room at n → length (take (at + n - at) (drop at room)) ≤ tableLimit
+line-few room at n fits =
     let behind : n ≤ length (drop at room) = omega (arith, fits .inside, length-drop at room) in
-    rw e (fits .bytes, omega (arith, fits .few, length-take-le n (drop at room) behind))
+    omega (arith, fits .few, ap length (part-is room at n), length-take-le n (drop at room) behind)
 
 -- Words at the start of the room.
 at-front : {n : ℕ} {slice front : List ℕ} (room : List ℕ) → length slice ≡ n → slice ≡ front → slice ++ drop n room ≡ front ++ drop (length front) room
@@ -69,16 +74,13 @@ module _ (call : Call) (kept : Kept) (l r s l′ r′ s′ room : List ℕ) (p :
 
 -- The other calls change neither the scratch nor what is kept.
 module _ (kept : Kept) (l r s : List ℕ) (side : Side) where
-  -- What is brought in stands in the room.
-  pub bring-does : (brought : (part workspace : List ℕ) → Brought) (tell : bring.Answer → Told) (l′ r′ room : List ℕ) (at n : ℕ) {a : Answer} {told : Report}
-      → reportOf room told ≡ tell (answerOf a) → Brings side (brought (take (at + n - at) (drop at room))) l r l′ r′ a
-      → Does (performBringing (stateOf l r s kept) side (brought (take n (drop at room))) tell) s room l′ r′ s room (record { kept = kept; report = told })
-  bring-does brought tell l′ r′ room at n {a} tells brings =
-      let e : at + n - at ≡ n = omega arith in
-      let is : Brings side (brought (take n (drop at room))) l r l′ r′ a = rw e at brings in
+  pub bring-does : (brought : (workspace : List ℕ) → Brought) (tell : bring.Answer → Told) (l′ r′ room : List ℕ) {a : Answer} {told : Report}
+      → reportOf room told ≡ tell (answerOf a) → Brings side brought l r l′ r′ a
+      → Does (performBringing (stateOf l r s kept) side brought tell) s room l′ r′ s room (record { kept = kept; report = told })
+  bring-does brought tell l′ r′ room tells brings =
       record {
-        state = ap (λ ws. record { memory = replaced (memoryOf l r (kept .session)) ws; scratch = take (kept .scratch) s }) (is .workspaces);
-        told = tells ∙ ap tell (is .answer);
+        state = ap (λ ws. record { memory = replaced (memoryOf l r (kept .session)) ws; scratch = take (kept .scratch) s }) (brings .workspaces);
+        told = tells ∙ ap tell (brings .answer);
         behind = refl;
         placed = refl;
       }

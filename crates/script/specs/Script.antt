@@ -126,7 +126,7 @@ abbrev pub followers : List ℕ → (number count : ℕ) → Operands → List �
 followers words n count o = take (following n o) (drop count words)
 
 -- What words come to that start with a number of so many words and these operands: an operand may be beyond its limit, words that follow may be still to
--- come, and those that are there may be none that follow.
+-- come, and a line's may be no bytes.
 unfoldable pub operationWith : List ℕ → (number count : ℕ) → Operands → Read
 operationWith words n count o =
     cond (within n o)

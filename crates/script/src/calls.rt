@@ -11,9 +11,8 @@ use session::press_owned;
 use text::bytes::narrow;
 use words::slices::fill;
 ghost use mathlib.Core.Path.{_≡_};
-ghost use mathlib.Core.Bool.{true};
-ghost use Prim.Native.Nat.{_≤_};
-ghost use lib.ListN.{length, replicate, set};
+ghost use Prim.Native.Nat.{_≤_, _+_};
+ghost use lib.ListN.{length, take, drop, replicate, set};
 ghost use lib.ListN.{length as List·length};
 ghost use Rattle.claim.specs.Press.{press};
 ghost use Rattle.press.specs.Showing.{show};
@@ -21,9 +20,8 @@ ghost use Rattle.press.specs.Types.{memoryOf, callOf, pressedOf};
 ghost use Rattle.tables.specs.Load.{load};
 ghost use Rattle.tables.specs.Write.{write};
 ghost use Rattle.tables.specs.Types.{writtenOf};
-ghost use Rattle.text.specs.Bytes.{areBytes};
 ghost use Rattle.notation.specs.Reading.{readLine};
-ghost use Rattle.script.specs.Script.{Fits, tableLimit};
+ghost use Rattle.script.specs.Script.{Bytes, Fits};
 ghost use Rattle.script.specs.Calls.{filler, chosen, changed, sideShown, partOf};
 ghost use Rattle.script.specs.Calls.{performPress, performed, stateOf, Does, Brings, Lent};
 
@@ -140,10 +138,20 @@ fn show<'a>(left: &'a [u32], right: &'a [u32], left_length: usize, right_length:
     }
 }
 
-// Loads a table into the workspace of a side.
-fn load(side: Side, left: &mut [u32], right: &mut [u32], table: &[u32]) -> words::answer::Answer
-    ensures { λ r. ⌜ Brings side (load (now (table .entry))) (now (left .entry)) (now (right .entry)) (now (left .exit)) (now (right .exit)) r ⌝ }
+// Loads the table of so many words at a position of the room into the workspace of a side.
+fn load(
+    side: Side,
+    left: &mut [u32],
+    right: &mut [u32],
+    room: &[u32],
+    at: usize,
+    words: usize,
+) -> words::answer::Answer
+    requires { ⌜ at + words ≤ length (now room) ⌝ }
+    ensures { λ r. ⌜ Brings side (load (take words (drop at (now (room .entry))))) (now (left .entry)) (now (right .entry)) (now (left .exit)) (now (right .exit)) r ⌝ }
 {
+    let end = at + words;
+    let table = &room[at..end];
     match side {
         Side::Left => tables::load(table, left),
         Side::Right => tables::load(table, right),
@@ -160,20 +168,22 @@ fn read_into(side: Side, left: &mut [u32], right: &mut [u32], line: &[u8]) -> wo
     }
 }
 
-// The same with a line whose bytes are a word each.
+// The same with the line of so many bytes, a word each, at a position of the room.
 fn read_words(
     side: Side,
     left: &mut [u32],
     right: &mut [u32],
-    words: &[u32],
+    room: &[u32],
+    at: usize,
+    bytes: usize,
 ) -> words::answer::Answer
-    requires { ⌜ areBytes (now words) ≡ true ⌝ }
-    requires { ⌜ length (now words) ≤ tableLimit ⌝ }
-    ensures { λ r. ⌜ Brings side (readLine (now (words .entry))) (now (left .entry)) (now (right .entry)) (now (left .exit)) (now (right .exit)) r ⌝ }
+    requires { ⌜ Bytes (now room) at bytes ⌝ }
+    ensures { λ r. ⌜ Brings side (readLine (take bytes (drop at (now (room .entry))))) (now (left .entry)) (now (right .entry)) (now (left .exit)) (now (right .exit)) r ⌝ }
 {
+    let end = at + bytes;
     let mut line = [0u8; TABLE_MOST];
-    let end = narrow(words, &mut line);
-    read_into(side, left, right, &line[..end])
+    let count = narrow(&room[at..end], &mut line);
+    read_into(side, left, right, &line[..count])
 }
 
 // The workspace of a side.
@@ -234,8 +244,7 @@ pub fn perform(
 {
     match operation {
         Operation::Load { side, at, words } => {
-            let end = at + words;
-            let answer = load(side, left, right, &room[at..end]);
+            let answer = load(side, left, right, room, at, words);
             let report = Report::Loaded(answer);
             Done { kept, report }
         }
@@ -272,8 +281,7 @@ pub fn perform(
             Done { kept, report }
         }
         Operation::Line { side, at, bytes } => {
-            let end = at + bytes;
-            let answer = read_words(side, left, right, &room[at..end]);
+            let answer = read_words(side, left, right, room, at, bytes);
             let report = Report::LineRead(answer);
             Done { kept, report }
         }

@@ -2,16 +2,13 @@
 use Prim.Native.Nat.{ℕ, _+_, _≤_}
 use mathlib.Core.Path.{_≡_, refl, sym, ap, subst}
 use mathlib.Core.List.{List}
-use native.Mathlib.Omega.{arith}
 use lib.ListN.{length}
 use Rattle.script.specs.declared.Side.{Side}
 use Rattle.script.specs.declared.Operation.{Operation}
 use Rattle.script.specs.declared.Operation.the-variants as operation
 use Rattle.script.specs.Script.{Bytes, Fits}
-use Rattle.tables.specs.Load.{load}
-use Rattle.notation.specs.Reading.{readLine}
 use Rattle.script.specs.Calls.{ofLoad, ofShow, ofLine}
-use Rattle.script.proofs.CallLaws.{fits-full, take-full, within-room, line-part, bring-does, store-does, write-does}
+use Rattle.script.proofs.CallLaws.{fits-full, take-full, within-room, bring-does, store-does, write-does}
 use borrow.Author.Needs.{needs}
 use Rattle.script.proofs.calls.perform.Statement.{statement}
 use Rattle.script.proofs.calls.perform.Tie as tie
@@ -27,23 +24,8 @@ load-fits room e fits = subst (Fits room) e fits
 line-fits : (room : List ℕ) {o : Operation} {side : Side} {at n : ℕ} → o ≡ operation.Line side at n → Fits room o → Bytes room at n
 line-fits room e fits = subst (Fits room) e fits
 
-add-end : tie.Need-add-end
-add-end c = omega (arith, load-fits _ (c .before .operation .given .1) (c .before .before .before .before .before .before .before .pre .0), c .before .before .before .before .before .before .before .pre .1 .room-full)
-
-mul-load : tie.Need-mul-load
-mul-load c = omega (arith, load-fits _ (c .before .before .before .operation .given .1) (c .before .before .before .before .before .before .before .before .before .pre .0), c .before .before .before .before .before .before .before .before .before .pre .1 .room-full)
-
-sub-load : tie.Need-sub-load
-sub-load c = search needs
-
-part-load-start : tie.Need-part-load-start
-part-load-start c = search needs
-
-part-load-end : tie.Need-part-load-end
-part-load-end c = load-fits _ (c .before .before .before .before .operation .given .1) (c .before .before .before .before .before .before .before .before .before .before .pre .0)
-
 load-requires : tie.Need-load-requires
-load-requires c κs = search needs
+load-requires c κs = load-fits _ (c .before .before .before .before .operation .given .1) (c .before .before .before .before .before .before .before .before .before .before .pre .0)
 
 enum-known-operation-2 : tie.Need-enum-known-operation-2
 enum-known-operation-2 c = search needs
@@ -84,23 +66,8 @@ enum-told c = search needs
 enum-known-operation-7 : tie.Need-enum-known-operation-7
 enum-known-operation-7 c = search needs
 
-add-end-2 : tie.Need-add-end-2
-add-end-2 c = let start = c .before .before .before .before .before .before .before in omega (arith, line-fits _ (c .before .operation7 .given .1) (start .pre .0) .inside, start .pre .1 .room-full)
-
-mul-read-words : tie.Need-mul-read-words
-mul-read-words c = let start = c .before .before .before .before .before .before .before .before .before in omega (arith, line-fits _ (c .before .before .before .operation7 .given .1) (start .pre .0) .inside, start .pre .1 .room-full)
-
-sub-read-words : tie.Need-sub-read-words
-sub-read-words c = search needs
-
-part-read-words-start : tie.Need-part-read-words-start
-part-read-words-start c = search needs
-
-part-read-words-end : tie.Need-part-read-words-end
-part-read-words-end c = line-fits _ (c .before .before .before .before .operation7 .given .1) (c .before .before .before .before .before .before .before .before .before .before .pre .0) .inside
-
 read-words-requires : tie.Need-read-words-requires
-read-words-requires c κs = line-part _ _ _ (line-fits _ (c .before .before .before .before .before .operation7 .given .1) (c .before .before .before .before .before .before .before .before .before .before .before .pre .0))
+read-words-requires c κs = line-fits _ (c .before .before .before .before .operation7 .given .1) (c .before .before .before .before .before .before .before .before .before .before .pre .0)
 
 same-length : tie.Need-same-length
 same-length c = search needs
@@ -113,9 +80,8 @@ same-length-3 c = search needs
 
 returns : tie.Need-returns
 returns c =
-    let start = c .before .before .before .before .before .before .before .before .before .before .before .before .before .before .before .before in
-    let call = c .before .before .before .before .before .before .before .before .before .before .operation .given in
-    rw (call .1) (bring-does (start .args .kept) _ _ _ _ load ofLoad _ _ (start .args .room .now) (call .0 .1 .0) (call .0 .1 .1 .0) refl (c .before .before .before .before .load .ensures))
+    let start = c .before .before .before .before .before .before .before .before .before .before .before .before .before .before .before in
+    rw (c .before .before .before .before .before .before .before .before .before .operation .given .1) (bring-does (start .args .kept) _ _ _ _ _ ofLoad _ _ (start .args .room .now) refl (c .before .before .before .before .load .ensures))
 
 same-length-4 : tie.Need-same-length-4
 same-length-4 c = search needs
@@ -188,20 +154,14 @@ same-length-17 c = search needs
 
 returns-8 : tie.Need-returns-8
 returns-8 c =
-    let start = c .before .before .before .before .before .before .before .before .before .before .before .before .before .before .before .before in
-    let call = c .before .before .before .before .before .before .before .before .before .before .operation7 .given in
-    rw (call .1) (bring-does (start .args .kept) _ _ _ _ readLine ofLine _ _ (start .args .room .now) (call .0 .1 .0) (call .0 .1 .1 .0) refl (c .before .before .before .before .read-words .ensures))
+    let start = c .before .before .before .before .before .before .before .before .before .before .before .before .before .before .before in
+    rw (c .before .before .before .before .before .before .before .before .before .operation7 .given .1) (bring-does (start .args .kept) _ _ _ _ _ ofLine _ _ (start .args .room .now) refl (c .before .before .before .before .read-words .ensures))
 
 pub perform-spec : {M : Type 1} → statement M
 perform-spec =
     tie.close
     (tie.spec
     enum-known-operation
-    add-end
-    mul-load
-    sub-load
-    part-load-start
-    part-load-end
     load-requires
     enum-known-operation-2
     press-requires
@@ -216,11 +176,6 @@ perform-spec =
     store-requires
     enum-told
     enum-known-operation-7
-    add-end-2
-    mul-read-words
-    sub-read-words
-    part-read-words-start
-    part-read-words-end
     read-words-requires
     same-length
     same-length-2
