@@ -7,6 +7,7 @@ use std::process::ExitCode;
 
 use bench::cases::{contracting, growing_touched, growing_untouched, normal, untouched};
 use bench::cases::{Case, Point};
+use bench::lines::{growing_lines, Line, LineRow};
 use bench::measure::{Bench, Each, Row};
 use bench::plot::{svg, Panel};
 use bench::report::Report;
@@ -18,6 +19,7 @@ const USAGE: &str = "\
 usage: cargo bench --manifest-path tools/Cargo.toml --package bench [-- OPTION...]
   --program PATH  the unit's program: unless given, target/bin/verdict in the repository, built
                   from its sources; the stack of the calls alone is measured only there
+  --replay PATH   the unit's program that reads lines: likewise target/bin/replay
   --untimed       takes no times, which need an idle machine; all else is the same in every run
 Prints docs/BENCHMARKS.md and writes docs/growth.svg. A relative PATH starts from tools/bench.";
 
@@ -44,31 +46,34 @@ fn main() -> ExitCode {
 
 fn run() -> Result<String, String> {
     let mut program = None;
+    let mut replay = None;
     let mut is_timed = true;
     // Cargo adds `--bench`.
     let mut arguments = env::args_os().skip(1).filter(|text| text != "--bench");
     while let Some(option) = arguments.next() {
         match option.to_str() {
             Some("--program") => program = arguments.next().map(PathBuf::from),
+            Some("--replay") => replay = arguments.next().map(PathBuf::from),
             Some("--untimed") => is_timed = false,
             _ => return Err(format!("cannot use {option:?}\n{USAGE}")),
         }
     }
     let here = env::current_dir().map_err(|error| error.to_string())?;
     let root = repository::find(&here).ok_or("no repository is here or above")?;
+    let built = |name| repository::program(&root, name, &mut |line| eprintln!("bench: {line}"));
+    let replay = replay.map_or_else(|| built("replay"), Ok)?;
     let (verdict, probe) = match program {
         Some(path) => (path, None),
-        None => {
-            let program = repository::program(&root, &mut |line| eprintln!("bench: {line}"))?;
-            (program, Some(Probe::build(&root)?))
-        }
+        None => (built("verdict")?, Some(Probe::build(&root)?)),
     };
     let flat = PathBuf::from(env!("CARGO_BIN_EXE_flat"));
     let graph = PathBuf::from(env!("CARGO_BIN_EXE_graph"));
+    let descent = PathBuf::from(env!("CARGO_BIN_EXE_descent"));
     let empty = InputFile::new("empty", &[]).map_err(|error| error.to_string())?;
     let bench = Bench {
         counter: Counter::find(&flat, &empty),
         programs: [verdict, flat, graph],
+        readers: [replay, descent],
         probe,
         is_timed,
     };
@@ -84,10 +89,11 @@ fn report(bench: &Bench, root: &Path) -> Result<String, String> {
         contracting: rows(bench, contracting())?,
         untouched: rows(bench, untouched())?,
         normal: rows(bench, normal())?,
+        lines: line_rows(bench, growing_lines())?,
         counter: bench.counter,
         plot,
     };
-    Ok(report.markdown(&bench.programs))
+    Ok(report.markdown(&bench.programs, &bench.readers))
 }
 
 fn rows(bench: &Bench, cases: Vec<Case>) -> Result<Vec<Row>, String> {
@@ -97,6 +103,15 @@ fn rows(bench: &Bench, cases: Vec<Case>) -> Result<Vec<Row>, String> {
         row.map_err(|reason| format!("{}: {reason}", case.name))
     };
     cases.iter().map(measured).collect()
+}
+
+fn line_rows(bench: &Bench, lines: Vec<Line>) -> Result<Vec<LineRow>, String> {
+    let measured = |line: &Line| {
+        eprintln!("{}, {} bytes", line.shape, line.text.len());
+        let row = bench.line(line);
+        row.map_err(|reason| format!("{}: {reason}", line.shape))
+    };
+    lines.iter().map(measured).collect()
 }
 
 /// Writes the plot; its path seen from the page.

@@ -28,10 +28,10 @@ impl Case {
         }
     }
 
-    /// What the measuring of the stack reads: budget, C, the words of both sides, the left table.
+    /// What the measuring of the stack reads: 0, budget, C, the words of both sides, the left table.
     pub fn words(&self, budget: u32) -> Vec<u8> {
         let side = |term: &Term| term.words().expect("the case is within the limits");
-        let mut words = vec![budget, C];
+        let mut words = vec![0, budget, C];
         for list in [side(&self.left), side(&self.right), table(&self.left)] {
             words.push(list.len() as u32);
             words.extend(list);
@@ -333,7 +333,7 @@ mod tests {
             "Different 0 2 1 0".to_string(),
         );
         let (left, right, table) = ([1, 0], [56], [1, 2, 1, 0, 1, 0, 2, 0, 0, 0, 0, 0]);
-        let words = [&[5, C, 2][..], &left, &[1], &right, &[12], &table].concat();
+        let words = [&[0, 5, C, 2][..], &left, &[1], &right, &[12], &table].concat();
         let bytes: Vec<u8> = words.into_iter().flat_map(u32::to_le_bytes).collect();
         assert_eq!(case.words(5), bytes);
     }

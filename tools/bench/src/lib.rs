@@ -1,7 +1,8 @@
-//! The program `verdict` measured beside two peers in plain Rust.
+//! The programs `verdict` and `replay` measured beside peers in plain Rust.
 
 pub mod cases;
 mod elf;
+pub mod lines;
 pub mod measure;
 mod numbers;
 pub mod peers;

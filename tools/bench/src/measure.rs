@@ -3,6 +3,7 @@
 use std::path::{Path, PathBuf};
 
 use crate::cases::Case;
+use crate::lines::Readers;
 use crate::run::{line_of, stack_kib, Counter, InputFile};
 use crate::stack::{Probe, Stack};
 use crate::times::{times, Times};
@@ -21,6 +22,7 @@ pub const COUNTED: u32 = 10_000;
 /// What the cases are measured with.
 pub struct Bench {
     pub programs: Programs,
+    pub readers: Readers,
     pub counter: Option<Counter>,
     pub probe: Option<Probe>,
     /// Times are taken too.

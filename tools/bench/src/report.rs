@@ -6,6 +6,7 @@ use std::process::Command;
 
 use crate::cases::C;
 use crate::elf::text_size;
+use crate::lines::{LineRow, Readers, LONGEST, READERS};
 use crate::measure::{spent, Each, Programs, Row, COUNTED, NAMES};
 use crate::numbers::{grouped, rounded};
 use crate::run::Counter;
@@ -19,20 +20,22 @@ pub struct Report {
     pub contracting: Vec<Row>,
     pub untouched: Vec<Row>,
     pub normal: Vec<Row>,
+    pub lines: Vec<LineRow>,
     pub counter: Option<Counter>,
     /// The plot's path, seen from the page.
     pub plot: Option<String>,
 }
 
 impl Report {
-    pub fn markdown(&self, programs: &Programs) -> String {
+    pub fn markdown(&self, programs: &Programs, readers: &Readers) -> String {
         let mut parts = vec![self.introduction(), self.instructions()];
         parts.extend(self.plot.as_deref().map(growth));
+        parts.push(self.reading());
         let mut rows = self.groups().into_iter().flat_map(|(_, rows)| rows);
         if rows.any(|row| row.times.is_some()) {
             parts.push(self.times());
         }
-        parts.extend([self.stack(), code(programs)]);
+        parts.extend([self.stack(), self.stack_of_lines(), code(programs, readers)]);
         parts.join("\n")
     }
 
@@ -89,6 +92,33 @@ impl Report {
         text
     }
 
+    fn reading(&self) -> String {
+        let mut text = format!(
+            "## Reading a line\n\n\
+             Instructions of the unit's program `replay` and of `{peer}`, a reader in Rust by recursive \
+             descent into a tree: those of a run that reads the line into a workspace of {c} words, less \
+             those of a run that refuses it by its workspace.\n\n\
+             | line | bytes | words | {names} |\n|---|---:|---:|{columns}\n",
+            peer = READERS[1],
+            c = grouped(C as usize),
+            names = READERS.join(" | "),
+            columns = "---:|".repeat(READERS.len()),
+        );
+        for row in &self.lines {
+            let count = |count: Option<u64>| {
+                count.map_or(NONE.to_string(), |count| grouped(count as usize))
+            };
+            text += &format!(
+                "| {} | {} | {} | {} |\n",
+                row.shape,
+                grouped(row.bytes),
+                grouped(row.words),
+                row.instructions.map(count).join(" | ")
+            );
+        }
+        text
+    }
+
     fn times(&self) -> String {
         let mut text = "## Times\n\n\
              The press is the run less a run that loads the same tables and refuses the press, the \
@@ -118,20 +148,40 @@ impl Report {
         let calls = ["a press", "showing", "loading", "writing"];
         let titles = [&calls[..], &NAMES].concat();
         text += &table(&[], &titles, rows, |row| {
-            let alone = |bytes: Option<usize>| {
-                bytes.map_or(NONE.to_string(), |bytes| {
-                    format!("{:.1}", bytes as f64 / 1024.0)
-                })
-            };
             let calls = |stack: Stack| [stack.press, stack.show, stack.load, stack.write];
             let calls = row.stack.map(calls).map(|calls| calls.map(Some));
-            let mut cells = calls.unwrap_or_default().map(alone).to_vec();
-            let limit = |kib: Option<u32>| kib.map_or(NONE.to_string(), |kib| kib.to_string());
+            let mut cells = calls.unwrap_or_default().map(kib).to_vec();
             cells.extend(row.limit_kib.map(limit));
             (Vec::new(), cells)
         });
         text
     }
+
+    fn stack_of_lines(&self) -> String {
+        let mut text = format!(
+            "Of lines of {} bytes:\n\n| line | reading | {} |\n|---|---:|{}\n",
+            grouped(LONGEST),
+            READERS.join(" | "),
+            "---:|".repeat(READERS.len()),
+        );
+        for row in self.lines.iter().filter(|row| row.bytes == LONGEST) {
+            let limits = row.limit_kib.map(limit).join(" | ");
+            text += &format!("| {} | {} | {limits} |\n", row.shape, kib(row.stack));
+        }
+        text
+    }
+}
+
+/// Bytes in KiB.
+fn kib(bytes: Option<usize>) -> String {
+    bytes.map_or(NONE.to_string(), |bytes| {
+        format!("{:.1}", bytes as f64 / 1024.0)
+    })
+}
+
+/// A stack limit in KiB.
+fn limit(kib: Option<u32>) -> String {
+    kib.map_or(NONE.to_string(), |kib| kib.to_string())
 }
 
 /// Contractions a second, or microseconds where there is no contraction.
@@ -186,12 +236,13 @@ fn growth(plot: &str) -> String {
     )
 }
 
-fn code(programs: &Programs) -> String {
+fn code(programs: &Programs, readers: &Readers) -> String {
     let mut text = "## Code\n\n\
          Those of the peers have the standard library's parts in them.\n\n\
          | program | bytes of `.text` |\n|---|---:|\n"
         .to_string();
-    for (name, path) in NAMES.iter().zip(programs) {
+    let programs = NAMES.iter().zip(programs);
+    for (name, path) in programs.chain(READERS.iter().zip(readers)) {
         let size = fs::read(path).ok().and_then(|file| text_size(&file));
         let size = size.map_or(NONE.to_string(), grouped);
         text += &format!("| `{name}` | {size} |\n");
@@ -252,10 +303,23 @@ mod tests {
             contracting,
             untouched,
             normal,
+            lines: vec![line("short", 256), line("long", LONGEST)],
             counter,
             plot: Some("growth.svg".to_string()),
         };
-        report.markdown(&NAMES.map(|name| format!("/no/{name}").into()))
+        let path = |name| format!("/no/{name}").into();
+        report.markdown(&NAMES.map(path), &READERS.map(path))
+    }
+
+    fn line(shape: &'static str, bytes: usize) -> LineRow {
+        LineRow {
+            shape,
+            bytes,
+            words: 1,
+            instructions: [Some(12_345), None],
+            stack: Some(2_048),
+            limit_kib: [Some(148), None],
+        }
     }
 
     fn press(value: f64) -> Option<Estimate> {
@@ -282,6 +346,13 @@ mod tests {
             "### Contractions: contractions a second",
             "### Normal terms, no contraction: microseconds a press",
             "| `flat` | n/a |",
+            "| `replay` | n/a |",
+            "| line | bytes | words | replay | descent |",
+            "|---|---:|---:|---:|---:|",
+            "| short | 256 | 1 | 12,345 | n/a |",
+            "| long | 1,024 | 1 | 12,345 | n/a |",
+            "| line | reading | replay | descent |",
+            "| long | 2.0 | 148 | n/a |",
             "| pair | line | verdict | flat | graph |",
             "|---|---|---:|---:|---:|",
             "| pair | verdict | flat | graph |",
@@ -293,6 +364,7 @@ mod tests {
                 "{line}\n{page}"
             );
         }
+        assert!(!page.contains("| short | 2.0"), "{page}");
         assert!(page.contains("](growth.svg)"));
         assert!(page.contains("counted by `valgrind --tool=callgrind` over at most 10,000 "));
     }

@@ -8,13 +8,14 @@ use std::path::{Path, PathBuf};
 use std::process::Command;
 
 use crate::cases::Case;
+use crate::lines::Line;
 use crate::measure::spent;
 use crate::run::{line_of, InputFile};
 
 /// The library's one crate, over the crates that have the calls. It is proved when it is built; no crate
 /// of the repository holds it, so it has no name that rt would look for.
 const LIBRARY: &str = include_str!("../stack/library.txt");
-const LISTED: &str = "probe: press tables\n";
+const LISTED: &str = "probe: press tables lines\n";
 const PROGRAM: &str = include_str!("../stack/main.rs");
 
 /// Bytes of machine stack.
@@ -57,6 +58,21 @@ impl Probe {
         read(&printed, line)
             .ok_or_else(|| format!("the stack's program printed `{printed}` for `{line}`"))
     }
+
+    /// Measures reading a line, in bytes.
+    pub fn measure_line(&self, line: &Line) -> Result<usize, String> {
+        let input = InputFile::new("stack", &line.words()).map_err(|e| e.to_string())?;
+        let (printed, _) = line_of(&self.program, &input)?;
+        read_line(&printed, line.length())
+            .ok_or_else(|| format!("the stack's program printed `{printed}` for a line"))
+    }
+}
+
+/// What the program measured of a line, if the term has so many words.
+fn read_line(printed: &str, words: usize) -> Option<usize> {
+    let (length, stack) = printed.split_once(' ')?;
+    let is_read = length.parse() == Ok(words);
+    stack.parse().ok().filter(|_| is_read)
 }
 
 /// What the program measured, if it made the line's contractions.
@@ -126,5 +142,12 @@ mod tests {
         assert_eq!(read("2 10 20 30 40", "Same 3 1 1"), None);
         assert_eq!(read("2 10 20 30", "Same 2 1 1"), None);
         assert_eq!(read("Refused 9", "Same 2 1 1"), None);
+    }
+
+    #[test]
+    fn the_stack_of_reading_a_line_is_read() {
+        assert_eq!(read_line("3 100", 3), Some(100));
+        assert_eq!(read_line("4 100", 3), None);
+        assert_eq!(read_line("3", 3), None);
     }
 }

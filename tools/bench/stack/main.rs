@@ -1,7 +1,9 @@
 //! Measures the machine stack of the unit's calls by painting it. Standard input holds little-endian
-//! words: budget, C, left length, left words, right length, right words, length of the left table, its
-//! words. Prints what the press spends and the bytes of stack that these take: the press, showing the
-//! first terms, loading the table and writing it again.
+//! words. A pair is 0, budget, C, left length, left words, right length, right words, length of the left
+//! table, its words; printed are what the press spends and the bytes of stack that these take: the
+//! press, showing the first terms, loading the table and writing it again. A line is 1, C, the number of
+//! its bytes, a word for each, the length of its term, the term's words; printed are that length and the
+//! bytes of stack that reading it takes.
 
 use std::arch::asm;
 use std::io::{self, Read};
@@ -39,6 +41,8 @@ extern "C" {
         table: *mut u32,
         table_words: usize,
     );
+
+    fn probe_line(line: *const u8, bytes: usize, workspace: *mut u32, words: usize);
 }
 
 /// Bytes that are painted, of a larger stack.
@@ -74,14 +78,49 @@ struct Pair {
     table: Vec<u32>,
 }
 
-fn read(bytes: &[u8]) -> Option<Pair> {
+struct Line {
+    bytes: Vec<u8>,
+    length: usize,
+    /// The workspace with the term in it.
+    workspace: Vec<u32>,
+}
+
+enum Input {
+    Pair(Pair),
+    Line(Line),
+}
+
+fn read(bytes: &[u8]) -> Option<Input> {
     let words = bytes.chunks_exact(4);
     let mut words = words.map(|word| u32::from_le_bytes([word[0], word[1], word[2], word[3]]));
+    match words.next()? {
+        0 => read_pair(words).map(Input::Pair),
+        _ => read_line(words).map(Input::Line),
+    }
+}
+
+/// Words after their number.
+fn counted(words: &mut impl Iterator<Item = u32>) -> Option<Vec<u32>> {
+    let length = words.next()? as usize;
+    Some(words.take(length).collect())
+}
+
+fn read_line(mut words: impl Iterator<Item = u32>) -> Option<Line> {
+    let c = words.next()? as usize;
+    let bytes = counted(&mut words)?.into_iter();
+    let mut workspace = counted(&mut words)?;
+    let length = workspace.len();
+    workspace.resize(c, 0);
+    Some(Line {
+        bytes: bytes.map(|byte| byte as u8).collect(),
+        length,
+        workspace,
+    })
+}
+
+fn read_pair(mut words: impl Iterator<Item = u32>) -> Option<Pair> {
     let (budget, c) = (words.next()?, words.next()? as usize);
-    let mut counted = || {
-        let length = words.next()? as usize;
-        Some(words.by_ref().take(length).collect::<Vec<u32>>())
-    };
+    let mut counted = || counted(&mut words);
     let (mut left, mut right, table) = (counted()?, counted()?, counted()?);
     let (left_length, right_length) = (left.len(), right.len());
     left.resize(c, 0);
@@ -153,7 +192,25 @@ impl Pair {
     }
 }
 
-fn measured(mut pair: Pair) -> String {
+impl Line {
+    fn read(&self) -> usize {
+        let c = self.workspace.len();
+        let mut workspace = vec![7; c];
+        // Safety: as above.
+        let stack = used(&mut || unsafe {
+            let (line, bytes) = (self.bytes.as_ptr(), self.bytes.len());
+            probe_line(line, bytes, workspace.as_mut_ptr(), c);
+        });
+        assert!(workspace == self.workspace, "the line is read");
+        stack
+    }
+}
+
+fn measured(input: Input) -> String {
+    let mut pair = match input {
+        Input::Pair(pair) => pair,
+        Input::Line(line) => return format!("{} {}", line.length, line.read()),
+    };
     let (show, load, write) = (pair.show(), pair.load(), pair.write());
     let (spent, press) = pair.press();
     format!("{spent} {press} {show} {load} {write}")
@@ -162,8 +219,8 @@ fn measured(mut pair: Pair) -> String {
 fn main() {
     let mut bytes = Vec::new();
     io::stdin().read_to_end(&mut bytes).expect("an input");
-    let pair = read(&bytes).expect("a pair of terms and a table");
+    let input = read(&bytes).expect("a pair of terms and a table, or a line");
     let thread = thread::Builder::new().stack_size(STACK);
-    let thread = thread.spawn(move || measured(pair)).expect("a thread");
+    let thread = thread.spawn(move || measured(input)).expect("a thread");
     println!("{}", thread.join().expect("the calls return"));
 }

@@ -17,6 +17,8 @@ use unit::program::{ask, input};
 use unit::{repository, table, table_text, words_text, Term, TextError};
 
 const HELP: &str = include_str!("help.txt");
+/// The program that judges.
+const PROGRAM: &str = "verdict";
 
 fn main() -> ExitCode {
     let done = run(env::args_os().skip(1).collect());
@@ -121,7 +123,7 @@ fn program(settings: &Settings) -> Result<PathBuf, Failure> {
             "no repository is here or above: give --program PATH or --repository PATH".to_string(),
         )
     })?;
-    repository::program(&root, &mut |line| tell(line)).map_err(Failure::program)
+    repository::program(&root, PROGRAM, &mut |line| tell(line)).map_err(Failure::program)
 }
 
 /// The texts of both terms.

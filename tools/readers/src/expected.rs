@@ -97,7 +97,7 @@ mod tests {
         let longest = "0".repeat(LONGEST);
         for line in [
             "0", "90", "\\0 1", "0 (1)", "(0) 1", "(0) (1)", "0 \\0", "(0) \\0", &longest,
-            // No lines of the grammar, but neither text has more of it than the other.
+            // These are no term for either reader.
             "00", "32768", "(", ")(", "()", "\\", "(0)(1)", "0\\0", "(0",
         ] {
             assert!(is_common(line.as_bytes()), "{line}");

@@ -1,4 +1,4 @@
-//! The repository that holds the unit, and its program built from the sources as they are.
+//! The repository that holds the unit, and its programs built from the sources as they are.
 
 use std::fs::{self, File, TryLockError};
 use std::io::{self, BufRead, BufReader, ErrorKind, Write};
@@ -10,12 +10,11 @@ use std::time::{Duration, Instant};
 
 /// The list of crates, which stands at the root.
 const CRATES: &str = "crates.txt";
-/// The crate that is the program.
-const NAME: &str = "verdict";
-const PROGRAM: &str = "target/bin/verdict";
-/// What makes rt take the program for built, even where it is gone.
-const STAMP: &str = "target/stamp/verdict";
-/// All that rt printed when it was last asked for the program.
+/// Where the programs are, each named as its crate.
+const PROGRAMS: &str = "target/bin";
+/// What makes rt take a program for built, even where it is gone.
+const STAMPS: &str = "target/stamp";
+/// All that rt printed when it was last asked for a program.
 const LOG: &str = "target/log/judge.out";
 
 /// Locked while rt works: two of them in one repository would take each other's results for their own.
@@ -36,33 +35,37 @@ pub fn find(folder: &Path) -> Option<PathBuf> {
     root.map(Path::to_path_buf)
 }
 
-/// The program of the repository, proved and linked by rt unless it is there already and nothing it
+/// A program of the repository, proved and linked by rt unless it is there already and nothing it
 /// depends on has changed. Lines for the user go to `tell`.
-pub fn program(root: &Path, tell: &mut dyn FnMut(&str)) -> Result<PathBuf, String> {
+pub fn program(root: &Path, name: &str, tell: &mut dyn FnMut(&str)) -> Result<PathBuf, String> {
     if !root.join(CRATES).is_file() {
         return Err(format!(
             "{} is no repository: it has no {CRATES}",
             root.display()
         ));
     }
-    let program = root.join(PROGRAM);
+    let path = Path::new(PROGRAMS).join(name);
+    let program = root.join(&path);
     // Where it cannot be locked, or the stamp not removed, rt builds nothing, and that is found below.
     let _held = hold(&root.join(LOCK), tell);
     if !program.is_file() {
-        let _ = fs::remove_file(root.join(STAMP));
+        let _ = fs::remove_file(root.join(STAMPS).join(name));
     }
-    let checked = match start(root) {
-        Ok(child) => watch(child, root, tell),
-        Err(error) if error.kind() == ErrorKind::NotFound => return unchecked(program, tell),
+    let checked = match start(root, name) {
+        Ok(child) => watch(child, root, name, tell),
+        Err(error) if error.kind() == ErrorKind::NotFound => {
+            return unchecked(root, &path, tell);
+        }
         Err(error) => Err(error),
     };
     match checked {
         Ok(status) if status.success() && program.is_file() => Ok(program),
         Ok(status) => Err(format!(
-            "`rt check verdict` did not build {PROGRAM} from these sources: {status}\nIts log is {}",
+            "`rt check {name}` did not build {} from these sources: {status}\nIts log is {}",
+            path.display(),
             root.join(LOG).display()
         )),
-        Err(error) => Err(format!("`rt check verdict` cannot be followed: {error}")),
+        Err(error) => Err(format!("`rt check {name}` cannot be followed: {error}")),
     }
 }
 
@@ -86,30 +89,37 @@ fn hold(lock: &Path, tell: &mut dyn FnMut(&str)) -> io::Result<File> {
 }
 
 /// The program as it is, where rt is not installed.
-fn unchecked(program: PathBuf, tell: &mut dyn FnMut(&str)) -> Result<PathBuf, String> {
+fn unchecked(root: &Path, path: &Path, tell: &mut dyn FnMut(&str)) -> Result<PathBuf, String> {
+    let program = root.join(path);
     if program.is_file() {
         tell("rt is not installed: nothing shows that the program is that of these sources");
         return Ok(program);
     }
     Err(format!(
-        "there is no {PROGRAM}, and rt, which builds it, is not installed"
+        "there is no {}, and rt, which builds it, is not installed",
+        path.display()
     ))
 }
 
-fn start(root: &Path) -> io::Result<Child> {
+fn start(root: &Path, name: &str) -> io::Result<Child> {
     let mut rt = Command::new("rt");
-    rt.args(["check", NAME]).current_dir(root);
+    rt.args(["check", name]).current_dir(root);
     rt.stdin(Stdio::null()).stdout(Stdio::piped());
     rt.stderr(Stdio::piped()).spawn()
 }
 
 /// Waits for rt: all that it prints goes to the log, its progress to `tell`.
-fn watch(mut rt: Child, root: &Path, tell: &mut dyn FnMut(&str)) -> io::Result<ExitStatus> {
+fn watch(
+    mut rt: Child,
+    root: &Path,
+    name: &str,
+    tell: &mut dyn FnMut(&str),
+) -> io::Result<ExitStatus> {
     let lines = lines(&mut rt);
     let log = root.join(LOG);
     let mut progress = Progress {
         log: log.clone(),
-        needed: needed(&fs::read_to_string(root.join(CRATES))?, NAME),
+        needed: needed(&fs::read_to_string(root.join(CRATES))?, name),
         proved: 0,
         is_told: false,
     };

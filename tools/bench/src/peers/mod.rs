@@ -1,6 +1,7 @@
-//! What the unit is measured beside: programs that read and print what `verdict` does, in plain
-//! Rust from the rules.
+//! What the unit is measured beside: programs that read and print what `verdict` does, and one that
+//! reads lines as `replay` does, in plain Rust from the rules.
 
+pub mod descent;
 pub mod flat;
 pub mod graph;
 mod table;
