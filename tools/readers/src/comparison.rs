@@ -6,8 +6,8 @@ use std::str::Lines;
 use crate::expected::{Expected, TextReader};
 use crate::line::line;
 
-/// The words of each workspace, more than any line has.
-const CAPACITY: usize = 2_048;
+/// The words of each workspace: no line's term has more, since each of its words takes a byte.
+const CAPACITY: usize = 1_024;
 /// Lines of one script.
 const TOGETHER: u64 = 50;
 /// Each kind of answer has to come up so often.
@@ -86,19 +86,17 @@ pub fn compare(
     Ok(counts)
 }
 
-/// Reads each line, into the sides by turns, and prints what is left in them.
+/// Reads the lines, one into each side, and prints what is left in both before the next two.
 fn script(lines: &[Vec<u8>]) -> Vec<u8> {
     let mut words = vec![CAPACITY as u32; SIDES.len()];
-    for (nth, line) in lines.iter().enumerate() {
-        words.extend([LINE, side(nth) as u32, line.len() as u32]);
-        words.extend(line.iter().map(|byte| u32::from(*byte)));
+    for lines in lines.chunks(SIDES.len()) {
+        for (side, line) in (0..).zip(lines) {
+            words.extend([LINE, side, line.len() as u32]);
+            words.extend(line.iter().map(|byte| u32::from(*byte)));
+        }
         words.push(PRINT);
     }
     words.into_iter().flat_map(u32::to_le_bytes).collect()
-}
-
-fn side(nth: usize) -> usize {
-    nth % SIDES.len()
 }
 
 /// Goes through the transcript beside the workspaces as they have to be.
@@ -110,19 +108,25 @@ fn follow(
 ) -> Result<(), String> {
     let mut rows = text.lines();
     let mut workspaces = [[0; CAPACITY]; SIDES.len()];
-    for (nth, line) in lines.iter().enumerate() {
-        let expected = Expected::of(line, read);
-        if let Expected::Accepted(words) = &expected {
-            workspaces[side(nth)].fill(0);
-            workspaces[side(nth)][..words.len()].copy_from_slice(words);
+    for lines in lines.chunks(SIDES.len()) {
+        for (line, workspace) in lines.iter().zip(&mut workspaces) {
+            let expected = Expected::of(line, read);
+            if let Expected::Accepted(words) = &expected {
+                workspace.fill(0);
+                workspace[..words.len()].copy_from_slice(words);
+            }
+            take(&mut rows, &expected.printed(), line)?;
+            counts.count(&expected);
         }
-        printed(&mut rows, &expected, &workspaces).map_err(|(expected, printed)| {
-            format!(
-                "difference in the line `{}`\nby the text command: {expected}\nby replay:           {printed}",
-                line.escape_ascii()
-            )
-        })?;
-        counts.count(&expected);
+        for (side, workspace) in workspaces.iter().enumerate() {
+            let words = workspace.iter().map(|word| format!(" {word}"));
+            let row = SIDES[side].to_string() + &words.collect::<String>();
+            // The last line may have no other beside it.
+            take(&mut rows, &row, lines.get(side).unwrap_or(&lines[0]))?;
+        }
+        // The scratch and the session.
+        rows.next();
+        rows.next();
     }
     match rows.next() {
         None => Ok(()),
@@ -130,25 +134,17 @@ fn follow(
     }
 }
 
-/// Takes the rows of one line. The error is the first that is expected and what is there instead.
-fn printed(
-    rows: &mut Lines,
-    expected: &Expected,
-    workspaces: &[[u32; CAPACITY]; SIDES.len()],
-) -> Result<(), (String, String)> {
-    let mut take = |expected: String| match rows.next() {
-        Some(row) if row == expected => Ok(()),
-        row => Err(parted(&expected, row.unwrap_or("(end of output)"))),
-    };
-    take(expected.printed())?;
-    for (name, workspace) in SIDES.iter().zip(workspaces) {
-        let words = workspace.iter().map(|word| format!(" {word}"));
-        take(name.to_string() + &words.collect::<String>())?;
+/// Takes the row that is expected. The error names the line that it comes from.
+fn take(rows: &mut Lines, expected: &str, line: &[u8]) -> Result<(), String> {
+    let printed = rows.next().unwrap_or("(end of output)");
+    if printed == expected {
+        return Ok(());
     }
-    // The scratch and the session.
-    rows.next();
-    rows.next();
-    Ok(())
+    let (expected, printed) = parted(expected, printed);
+    Err(format!(
+        "difference in the line `{}`\nby the text command: {expected}\nby replay:           {printed}",
+        line.escape_ascii()
+    ))
 }
 
 /// Both rows, from the first field in which they differ where they are long.
