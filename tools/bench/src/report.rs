@@ -5,7 +5,7 @@ use std::path::Path;
 use std::process::Command;
 
 use crate::cases::C;
-use crate::elf::text_size;
+use crate::elf::{function_size, text_size};
 use crate::lines::{LineRow, Readers, LONGEST, READERS};
 use crate::measure::{spent, Each, Programs, Row, COUNTED, NAMES};
 use crate::numbers::{grouped, rounded};
@@ -236,17 +236,31 @@ fn growth(plot: &str) -> String {
     )
 }
 
+/// What reading a line takes of the code of `replay`: the call, and what it calls.
+const READING: [&str; 2] = ["lines::read_line", "terms::is_term"];
+
 fn code(programs: &Programs, readers: &Readers) -> String {
     let mut text = "## Code\n\n\
          Those of the peers have the standard library's parts in them.\n\n\
          | program | bytes of `.text` |\n|---|---:|\n"
         .to_string();
+    let size = |file: &Option<Vec<u8>>, size: &dyn Fn(&[u8]) -> Option<usize>| {
+        let size = file.as_deref().and_then(size);
+        size.map_or(NONE.to_string(), grouped)
+    };
     let programs = NAMES.iter().zip(programs);
     for (name, path) in programs.chain(READERS.iter().zip(readers)) {
-        let size = fs::read(path).ok().and_then(|file| text_size(&file));
-        let size = size.map_or(NONE.to_string(), grouped);
-        text += &format!("| `{name}` | {size} |\n");
+        text += &format!(
+            "| `{name}` | {} |\n",
+            size(&fs::read(path).ok(), &text_size)
+        );
     }
+    let replay = fs::read(&readers[0]).ok();
+    let [read, check] = READING.map(|name| size(&replay, &|file| function_size(file, name)));
+    text += &format!(
+        "\nIn `{}`, `{}` has {read} bytes and `{}`, which it calls, {check}.\n",
+        READERS[0], READING[0], READING[1]
+    );
     text
 }
 
@@ -347,6 +361,7 @@ mod tests {
             "### Normal terms, no contraction: microseconds a press",
             "| `flat` | n/a |",
             "| `replay` | n/a |",
+            "In `replay`, `lines::read_line` has n/a bytes and `terms::is_term`, which it calls, n/a.",
             "| line | bytes | words | replay | descent |",
             "|---|---:|---:|---:|---:|",
             "| short | 256 | 1 | 12,345 | n/a |",

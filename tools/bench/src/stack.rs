@@ -15,7 +15,7 @@ use crate::run::{line_of, InputFile};
 /// The library's one crate, over the crates that have the calls. It is proved when it is built; no crate
 /// of the repository holds it, so it has no name that rt would look for.
 const LIBRARY: &str = include_str!("../stack/library.txt");
-const LISTED: &str = "probe: press tables lines\n";
+const LISTED: &str = "probe: words press tables lines\n";
 const PROGRAM: &str = include_str!("../stack/main.rs");
 
 /// Bytes of machine stack.
