@@ -97,7 +97,8 @@ impl Report {
             "## Reading a line\n\n\
              Instructions of the unit's program `replay` and of `{peer}`, a reader in Rust by recursive \
              descent into a tree: those of a run that reads the line into a workspace of {c} words, less \
-             those of a run that refuses it by its workspace.\n\n\
+             those of a run that refuses it by its workspace. Zeros, for the arrays of `replay` and for the \
+             rest of the workspace, are a part that does not grow with the line.\n\n\
              | line | bytes | words | {names} |\n|---|---:|---:|{columns}\n",
             peer = READERS[1],
             c = grouped(C as usize),
