@@ -9,11 +9,11 @@ use Rattle.calculus.specs.Workspace.{termAt}
 use Rattle.press.specs.Showing.{show}
 use Rattle.text.specs.Bytes.{areBytes}
 use Rattle.script.specs.Script.{within, operandsIn, mayFollow, operationWith, operationIn}
-use Rattle.script.specs.Examples.{Line-examples, Shown-examples}
+use Rattle.script.specs.Examples.{Operation-examples, Shown-examples}
 
-pub line-examples : Line-examples
+pub operation-examples : Operation-examples
 unfolding operationIn operationWith operandsIn within mayFollow areBytes
-line-examples =
+operation-examples =
     record {
       empty = refl;
       whole = refl;

@@ -1,4 +1,4 @@
--- What a line's words come to, and which workspace a shown part belongs to.
+-- What the words of an operation come to, and which workspace a shown part belongs to.
 use Prim.Native.Nat.{ℕ}
 use mathlib.Core.Path.{_≡_}
 use mathlib.Core.List.{List, [], _∷_}
@@ -9,8 +9,8 @@ use Rattle.script.specs.declared.Operation.the-variants as operation
 use Rattle.script.specs.declared.Read.the-variants as read
 use Rattle.script.specs.Script.{operationIn}
 
--- A side above 1, a count above the limit and a word above 255 break the script; a side, a count or words that are still to come do not.
-pub record Line-examples : Type 0 where
+-- Of a line: a side above 1, a count above the limit and a word above 255 break the script; a side, a count or words that are still to come do not.
+pub record Operation-examples : Type 0 where
   pub empty : operationIn (8 ∷ 0 ∷ 0 ∷ []) ≡ read.Whole (operation.Line side.Left 3 0)
   pub whole : operationIn (8 ∷ 1 ∷ 2 ∷ 92 ∷ 48 ∷ []) ≡ read.Whole (operation.Line side.Right 3 2)
   pub last-byte : operationIn (8 ∷ 0 ∷ 1 ∷ 255 ∷ []) ≡ read.Whole (operation.Line side.Left 3 1)

@@ -2,7 +2,7 @@
 //! benchmark's page.
 
 use bench::cases::{contracting, normal, untouched};
-use bench::peers::{flat, graph};
+use bench::peers::{descent, flat, graph};
 use unit::program::input;
 use unit::{table, Term};
 
@@ -60,6 +60,16 @@ fn loaded(left: &str) -> String {
     printed(&bytes)
 }
 
+/// The line for bytes that are read into a workspace of 16 words.
+fn read(bytes: &str) -> String {
+    let numbers = bytes.split(',').map(|text| text.trim().parse());
+    let bytes: Vec<u32> = numbers.collect::<Result<_, _>>().expect("bytes");
+    let words = [&[16, 16, 8, 0, bytes.len() as u32], &bytes[..]].concat();
+    let script: Vec<u8> = words.into_iter().flat_map(u32::to_le_bytes).collect();
+    let line = descent::transcript(&script);
+    line.replace("refused", "Refused").trim_end().to_string()
+}
+
 /// The cells of each row of the README's table below a heading, without its titles.
 fn rows(heading: &str) -> Vec<Vec<&'static str>> {
     let heading = format!("\n## {heading}\n");
@@ -90,12 +100,14 @@ fn the_four_verdicts() {
 #[test]
 fn the_refusals() {
     let rows = rows("The refusals");
-    assert_eq!(rows.len(), 10);
+    assert_eq!(rows.len(), 11);
     let mut tried = Vec::new();
     for cells in rows {
         let (number, text) = (cells[0], cells[1]);
         let line = if let Some((_, table)) = text.split_once("`load` of ") {
             loaded(table)
+        } else if let Some((_, bytes)) = text.split_once("`read_line` of ") {
+            read(bytes)
         } else if let Some(command) = code(text).first() {
             judged(command.strip_prefix("./judge ").expect("a command"))
         } else {
@@ -104,7 +116,7 @@ fn the_refusals() {
         assert_eq!(line, format!("Refused {number}"), "{text}");
         tried.push(number);
     }
-    assert_eq!(tried, ["1", "2", "3", "4", "5", "6", "7", "8", "9"]);
+    assert_eq!(tried, ["1", "2", "3", "4", "5", "6", "7", "8", "9", "11"]);
 }
 
 #[test]
