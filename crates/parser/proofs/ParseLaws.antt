@@ -10,7 +10,7 @@ use Rattle.calculus.proofs.All.{all-some}
 use Rattle.parser.specs.declared.Scan.{Scan}
 use Rattle.notation.specs.Reader.{sign, apply, State, wanted, Begun, settle, step, scan, finish, lineWords}
 use Rattle.notation.specs.Grammar.{lineMost}
-use Rattle.parser.specs.Scan.{atPower, stateOf, roomMost, Within, Room, Parses}
+use Rattle.parser.specs.Scan.{atPower, stateOf, roomMost, Within, Ahead, Parses}
 use Rattle.notation.proofs.Bounded.{tally, load, scan-load}
 
 load-at : (p v n : ℕ) (ns ws : List ℕ) → n + tally ns + length ws ≤ load (atPower p v n ns ws)
@@ -51,7 +51,7 @@ module _ {line : List ℕ} {i : ℕ} {s : Scan} {stack out : List ℕ} (v : Pars
   pub parsing-count : s .count < s .at
   parsing-count = omega (arith, loaded, v .within .at, v .short)
 
-  pub parsing-room : 0 < i → Room s
+  pub parsing-room : 0 < i → Ahead s
   parsing-room g =
       record {
         words = omega (arith, loaded, v .within .at, v .within .top, v .short, v .inside);

@@ -48,7 +48,7 @@ pub record Within (D R : ℕ) (s : Scan) : Type 0 where
   pub wanted : s .power ≡ 1 → s .value ≡ 0
 
 -- There is room for what one further byte can add.
-pub record Room (s : Scan) : Type 0 where
+pub record Ahead (s : Scan) : Type 0 where
   pub words : suc (s .count) < s .at
   pub depth : 0 < s .top
 

@@ -5,9 +5,10 @@ ghost use mathlib.Core.Path.{_≡_};
 ghost use mathlib.Core.List.{List};
 ghost use Prim.Native.Nat.{ℕ, _≤_, _<_, _-_};
 ghost use lib.ListN.{length, drop};
+ghost use Rattle.words.specs.Room.{Room};
 ghost use Rattle.notation.specs.Grammar.{space, opening, closing, zeroDigit, backslash, lineMost};
 ghost use Rattle.notation.specs.Reader.{digitByte, apply, isIndex, lambda, opens, onBegun, settle, onDigit, onClose, step, sign, lineWords};
-ghost use Rattle.parser.specs.Scan.{stateOf, steppedOf, begunBy, begunOf, parsedOf, powerMost, roomMost, Within, StepWithin, Room, Settled, Parses};
+ghost use Rattle.parser.specs.Scan.{stateOf, steppedOf, begunBy, begunOf, parsedOf, powerMost, roomMost, Within, StepWithin, Ahead, Settled, Parses};
 
 // The bytes of the notation beside the digits.
 const SPACE: u8 = b' ';
@@ -205,7 +206,7 @@ fn begin(b: u8, s: Scan, stack: &[usize], out: &mut [u32]) -> Step
 
 // One byte in front of those that are read.
 fn on_byte(b: u8, s: Scan, stack: &mut [usize], out: &mut [u32]) -> Step
-    requires { ⌜ Within (length (now stack)) (length (now out)) s × Room s ⌝ }
+    requires { ⌜ Within (length (now stack)) (length (now out)) s × Ahead s ⌝ }
     ensures { λ r. ⌜ StepWithin (length (now (stack .entry))) (length (now (out .entry))) r × (steppedOf r (now (stack .exit)) (now (out .exit)) ≡ step (sign b) (stateOf s (now (stack .entry)) (now (out .entry)))) ⌝ }
 {
     if is_digit(b) {
@@ -220,10 +221,11 @@ fn on_byte(b: u8, s: Scan, stack: &mut [usize], out: &mut [u32]) -> Step
     }
 }
 
-// The words of the term of a line: they are `out` from the answered position on.
+// The words of the term of a line: they are `out` from the answered position on. What else the arrays hold then is free.
 pub fn parse(line: &[u8], stack: &mut [usize], out: &mut [u32]) -> Parsed
     requires { ⌜ Parses (now line) (now stack) (now out) ⌝ }
     ensures { λ r. ⌜ parsedOf r (now (out .exit)) ≡ lineWords (now (line .entry)) ⌝ }
+    ensures { λ r. ⌜ Room (now (stack .entry)) (now (stack .exit)) × Room (now (out .entry)) (now (out .exit)) ⌝ }
 {
     let mut s = Scan {
         at: ROOM,

@@ -47,7 +47,7 @@ abbrev at : tie.After-at → ℕ
 at c = c .at .given .0 .0
 
 found : (c : tie.After-at) → some (drop (at c) (out c)) ≡ lineWords (line c)
-found c = rw (c .at .given .1) at (c .before .before .before .before .parse .ensures)
+found c = rw (c .at .given .1) at (c .before .before .before .before .parse .ensures .0)
 
 fits : (c : tie.After-at) → wrongWorkspace (length (workspace c)) ≡ false
 fits c = workspace-fits (c .before .before .before .before .before .before .before .before)
@@ -104,7 +104,7 @@ clear-requires c κs =
 returns-5 : tie.Need-returns-5
 returns-5 c =
     let start = c .before .before .before .before .before .before .before .before .before .before .before .before .args in
-    read-none (start .line .now) (start .workspace .now) (workspace-fits (c .before .before .before .before .before .before .before .before)) (c .before .before .before .before .before .before .before .if2 .left) (rw (c .enum-told .given .1) at (c .before .before .before .before .parse .ensures))
+    read-none (start .line .now) (start .workspace .now) (workspace-fits (c .before .before .before .before .before .before .before .before)) (c .before .before .before .before .before .before .before .if2 .left) (rw (c .enum-told .given .1) at (c .before .before .before .before .parse .ensures .0))
 
 returns-6 : tie.Need-returns-6
 returns-6 c =

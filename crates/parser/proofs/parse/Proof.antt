@@ -7,6 +7,7 @@ use mathlib.Core.List.{List}
 use mathlib.Core.Option.{some}
 use lib.ListN.{drop}
 use Rattle.notation.specs.Reader.{scan}
+use Rattle.words.proofs.RoomLaws.{room-of-length}
 use Rattle.parser.specs.Scan.{stateOf, steppedOf}
 use Rattle.parser.proofs.ParseLaws.{Parsing, parsing-starts, parsing-room, parsing-count, scan-byte, lineWords-none, lineWords-unsettled, lineWords-settled, finish-open, finish-closed}
 use Rattle.parser.proofs.parse.Statement.{statement}
@@ -34,8 +35,11 @@ stepped c =
     c .on-byte .ensures .1 ∙ sym (scan-byte (c .before .before .before .before .before .before .before .before .before .args .line .now) (l .i) (omega arith) (l .inv .inside) (l .inv .scanned))
 
 returns : tie.Need-returns Inv-loop μ-loop
-returns c =
-    lineWords-none (c .before .before .before .before .before .before .before .before .before .before .before .before .before .before .before .args .line .now) (c .before .before .before .before .before .before .before .before .before .before .before .loop .i - 1) (sym (rw (c .enum-told .given .1) at (stepped (c .before .before .before .before .before .before))))
+returns c = (
+  lineWords-none (c .before .before .before .before .before .before .before .before .before .before .before .before .before .before .before .args .line .now) (c .before .before .before .before .before .before .before .before .before .before .before .loop .i - 1)
+      (sym (rw (c .enum-told .given .1) at (stepped (c .before .before .before .before .before .before)))),
+  (room-of-length (omega arith), room-of-length (omega arith)),
+)
 
 loop-again : tie.Need-loop-again Inv-loop μ-loop
 loop-again c =
@@ -66,9 +70,11 @@ returns-2 c =
     let over = c .before .before .before .before .before .before in
     let l = over .before .before .before .loop in
     let on = c .before .before .p .given .1 in
-    let kept = rw on at (over .settle .ensures .0) in
-    finish-open (c .before .before .p .given .0 .0 .top) (l .stack) _ (omega (arith, kept, l .inv .within, l .inv .stack-full))
-    ∙ lineWords-settled (line over) (whole over) (rw on at (over .settle .ensures .1 (l .stack)))
+    let kept = rw on at (over .settle .ensures .0) in (
+      finish-open (c .before .before .p .given .0 .0 .top) (l .stack) _ (omega (arith, kept, l .inv .within, l .inv .stack-full))
+          ∙ lineWords-settled (line over) (whole over) (rw on at (over .settle .ensures .1 (l .stack))),
+      (room-of-length (omega arith), room-of-length (omega arith)),
+    )
 
 put-applications-requires : tie.Need-put-applications-requires Inv-loop μ-loop
 put-applications-requires c κs =
@@ -79,17 +85,21 @@ put-applications-requires c κs =
 
 returns-3 : tie.Need-returns-3 Inv-loop μ-loop
 returns-3 c =
-    let over = c .before .before .before .before in
-    lineWords-unsettled (line over) (whole over) (rw (c .enum-told2 .given .1) at (over .settle .ensures .1 (over .before .before .before .loop .stack)))
+    let over = c .before .before .before .before in (
+      lineWords-unsettled (line over) (whole over) (rw (c .enum-told2 .given .1) at (over .settle .ensures .1 (over .before .before .before .loop .stack))),
+      (room-of-length (omega arith), room-of-length (omega arith)),
+    )
 
 returns-4 : tie.Need-returns-4 Inv-loop μ-loop
 returns-4 c =
     let over = c .before .before .before .before .before .before .before .before .before .before in
     let l = over .before .before .before .loop in
-    let on = c .before .before .before .before .before .before .p .given .1 in
-    rw (c .before .before .put-applications .ensures .1)
-    (finish-closed (c .before .before .before .before .before .before .p .given .0 .0 .top) (l .stack) _ (omega (arith, l .inv .stack-full))
-    ∙ lineWords-settled (line over) (whole over) (rw on at (over .settle .ensures .1 (l .stack))))
+    let on = c .before .before .before .before .before .before .p .given .1 in (
+      rw (c .before .before .put-applications .ensures .1)
+          (finish-closed (c .before .before .before .before .before .before .p .given .0 .0 .top) (l .stack) _ (omega (arith, l .inv .stack-full))
+          ∙ lineWords-settled (line over) (whole over) (rw on at (over .settle .ensures .1 (l .stack)))),
+      (room-of-length (omega arith), room-of-length (omega arith)),
+    )
 
 pub parse-spec : {M : Type 1} → statement M
 parse-spec =
