@@ -41,7 +41,7 @@ pub data State : Type 0 where
 abbrev pub apply : ℕ → List ℕ → List ℕ
 apply n ws = replicate n (word applicationKind 0) ++ ws
 
--- Whether digits are an index: it is not too large, and its first digit is not 0 or its only one.
+-- Whether digits are an index: it is not too large, and its first digit is its only one or not 0.
 unfoldable pub isIndex : (value worth : ℕ) → Bool
 isIndex v p = leb v indexLimit && (leb p (v * 10) || eqb p 10)
 

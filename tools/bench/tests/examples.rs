@@ -2,6 +2,7 @@
 //! benchmark's page.
 
 use bench::cases::{contracting, normal, untouched};
+use bench::lines::growing_lines;
 use bench::peers::{descent, flat, graph};
 use unit::program::input;
 use unit::{table, Term};
@@ -155,20 +156,36 @@ fn the_lines_of_the_help_have_the_fields_of_those_printed() {
     }
 }
 
+/// The rows of the benchmark's page below a heading that have a part.
+fn measured(heading: &str, part: &str) -> Vec<&'static str> {
+    let heading = format!("\n## {heading}\n");
+    let (_, text) = BENCHMARKS.split_once(&heading).expect("the heading");
+    let (text, _) = text.split_once("\n## ").expect("the next heading");
+    text.lines().filter(|line| line.contains(part)).collect()
+}
+
 #[test]
 fn the_rows_of_the_benchmark_are_cases() {
     let cases = [contracting(), untouched(), normal()].into_iter().flatten();
     let cases: Vec<_> = cases
         .map(|case| format!("| {} | `{}` |", case.name, case.line))
         .collect();
-    let (_, text) = BENCHMARKS
-        .split_once("\n## Instructions\n")
-        .expect("the heading");
-    let (text, _) = text.split_once("\n## ").expect("the next heading");
-    let rows: Vec<_> = text.lines().filter(|line| line.contains(" | `")).collect();
+    let rows = measured("Instructions", " | `");
     assert!(rows.len() >= 25);
     for row in rows {
         let is_case = cases.iter().any(|case| row.starts_with(case));
         assert!(is_case, "{row}");
+    }
+}
+
+#[test]
+fn the_rows_of_reading_are_lines() {
+    let rows = measured("Reading a line", "| ").into_iter().skip(1);
+    let rows: Vec<_> = rows.map(|row| row.replace(',', "")).collect();
+    let lines = growing_lines();
+    assert_eq!(rows.len(), lines.len());
+    for (row, line) in rows.iter().zip(lines) {
+        let start = format!("| {} | {} | {} |", line.shape, line.text.len(), line.length());
+        assert!(row.starts_with(&start), "{row}");
     }
 }
