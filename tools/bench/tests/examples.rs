@@ -185,7 +185,12 @@ fn the_rows_of_reading_are_lines() {
     let lines = growing_lines();
     assert_eq!(rows.len(), lines.len());
     for (row, line) in rows.iter().zip(lines) {
-        let start = format!("| {} | {} | {} |", line.shape, line.text.len(), line.length());
+        let start = format!(
+            "| {} | {} | {} |",
+            line.shape,
+            line.text.len(),
+            line.length()
+        );
         assert!(row.starts_with(&start), "{row}");
     }
 }
