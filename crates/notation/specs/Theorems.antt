@@ -11,8 +11,8 @@ use Rattle.calculus.specs.Words.{words, size}
 use Rattle.calculus.specs.Everywhere.{Asked, anywhere, Everywhere}
 use Rattle.calculus.specs.Accepted.{indexLimit, Scoped, Accepted}
 use Rattle.calculus.specs.Workspace.{wrongWorkspace}
-use Rattle.calculus.specs.Refusal.{WrongFree, WrongWorkspace, TooLong, WrongLine}
-use Rattle.calculus.specs.Bringing.{refused, returned, refuse}
+use Rattle.calculus.specs.Refusal.{Refusal, WrongFree, WrongWorkspace, TooLong, WrongLine}
+use Rattle.calculus.specs.Bringing.{refused, returned, Brought}
 use Rattle.notation.specs.Grammar.{Line, lineLeast, lineMost}
 use Rattle.notation.specs.Reader.{lineTerm}
 use Rattle.notation.specs.Reading.{readLine}
@@ -44,6 +44,10 @@ Expressible t = Everywhere expressible tt t
 abbrev pub Expressible-exact : Type 0
 Expressible-exact = (t : Term) → ((line : List ℕ) × Line line t) ↔ Expressible t
 
+-- A refusal, and the workspace as it was.
+abbrev pub unchanged : (workspace : List ℕ) → Refusal → Brought
+unchanged workspace why = record { answer = refused why; workspace = workspace }
+
 -- Past refusal 7, and with a line of 1 to 1,024 bytes.
 pub record LengthsFit (line workspace : List ℕ) : Type 0 where
   pub workspace-fits : wrongWorkspace (length workspace) ≡ false
@@ -53,15 +57,15 @@ pub record LengthsFit (line workspace : List ℕ) : Type 0 where
 -- What reading does, by the grammar alone: 7 first, then 11 exactly where the grammar gives no term or the length is wrong, then 6, then 8, and nothing
 -- is changed; otherwise the term that the grammar gives is left, which is accepted.
 pub record ReadsExactly (line workspace : List ℕ) : Type 0 where
-  pub wrong-workspace : wrongWorkspace (length workspace) ≡ true → readLine line workspace ≡ refuse workspace WrongWorkspace
+  pub wrong-workspace : wrongWorkspace (length workspace) ≡ true → readLine line workspace ≡ unchanged workspace WrongWorkspace
   pub wrong-length : wrongWorkspace (length workspace) ≡ false → (length line < lineLeast) ⊎ (lineMost < length line)
-      → readLine line workspace ≡ refuse workspace WrongLine
+      → readLine line workspace ≡ unchanged workspace WrongLine
   pub escapes : LengthsFit line workspace
       → (readLine line workspace .answer ≡ refused WrongLine → ⊥) ↔ ((t : Term) × Line line t)
-  pub outside : LengthsFit line workspace → ((t : Term) → Line line t → ⊥) → readLine line workspace ≡ refuse workspace WrongLine
-  pub wrong-free : LengthsFit line workspace → (t : Term) → Line line t → (Scoped 0 t → ⊥) → readLine line workspace ≡ refuse workspace WrongFree
+  pub outside : LengthsFit line workspace → ((t : Term) → Line line t → ⊥) → readLine line workspace ≡ unchanged workspace WrongLine
+  pub wrong-free : LengthsFit line workspace → (t : Term) → Line line t → (Scoped 0 t → ⊥) → readLine line workspace ≡ unchanged workspace WrongFree
   pub too-long : LengthsFit line workspace → (t : Term) → Line line t → Scoped 0 t → length workspace < size t
-      → readLine line workspace ≡ refuse workspace TooLong
+      → readLine line workspace ≡ unchanged workspace TooLong
   pub leaves : LengthsFit line workspace → (t : Term) → Line line t → Scoped 0 t → size t ≤ length workspace
       → Accepted 0 t
       × (readLine line workspace ≡ record { answer = returned (size t); workspace = words t ++ replicate (length workspace - size t) 0 })
