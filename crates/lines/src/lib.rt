@@ -24,12 +24,14 @@ pub fn read_line(line: &[u8], workspace: &mut [u32]) -> Answer
     if LINE_MOST < line.len() {
         return Answer::Refused(Refusal::WrongLine);
     }
+    // An empty line is outside the grammar.
     let mut stack = [0usize; ROOM];
     let mut words = [0u32; ROOM];
     match parse(line, &mut stack, &mut words) {
         Parsed::Outside => Answer::Refused(Refusal::WrongLine),
         Parsed::From(at) => {
             let length = ROOM - at;
+            // All that makes a term accepted but its free numbers, the grammar gives.
             if !is_term(&words[at..], length) {
                 return Answer::Refused(Refusal::WrongFree);
             }

@@ -131,9 +131,9 @@ pub record Reading-examples : Type 0 where
   pub term-and-zeros : readLine (92 ∷ 48 ∷ 32 ∷ 49 ∷ []) (junk 16) ≡ holding 4 (1 ∷ 2 ∷ 0 ∷ 8 ∷ replicate 12 0)
   -- the empty line, and into 15 words
   pub no-bytes : readLine [] (junk 16) ≡ unchanged (junk 16) WrongLine
-  -- `0`, the shortest line
-  pub one-byte : readLine (48 ∷ []) (junk 16) ≡ holding 1 (0 ∷ replicate 15 0)
   pub words-15 : readLine [] (junk 15) ≡ unchanged (junk 15) WrongWorkspace
+  -- `0`, the shortest line, and into 2,049 words
+  pub one-byte : readLine (48 ∷ []) (junk 16) ≡ holding 1 (0 ∷ replicate 15 0)
   pub words-2049 : readLine (48 ∷ []) (junk 2049) ≡ unchanged (junk 2049) WrongWorkspace
   -- free numbers: `255` and `256`, and under a binder `\256` and `\257`
   pub free-255 : readLine (50 ∷ 53 ∷ 53 ∷ []) (junk 16) ≡ holding 1 (2040 ∷ replicate 15 0)

@@ -47,7 +47,7 @@ pub data Spells : Category → Place → (bytes : List ℕ) → Term → Type 0 
   index : {p : Place} {bs : List ℕ} {i : ℕ} → Index bs i → Spells item p bs (var i)
   parentheses : {p : Place} {bs : List ℕ} {t : Term} → Spells items last bs t → Spells item p (opening ∷ (bs ++ (closing ∷ []))) t
   abstraction : {bs : List ℕ} {b : Term} → Spells items last bs b → Spells item last (backslash ∷ bs) (lam b)
-  -- "Juxtaposition is application and groups to the left ..", "A space stands exactly between two items of an application and nowhere else .."
+  -- "juxtaposition is application and groups to the left ..", "A space stands exactly between two items of an application and nowhere else .."
   one : {p : Place} {bs : List ℕ} {t : Term} → Spells item p bs t → Spells items p bs t
   applied : {p : Place} {bs cs : List ℕ} {f a : Term} → Spells items anywhere bs f → Spells item p cs a
       → Spells items p (bs ++ (space ∷ cs)) (app f a)

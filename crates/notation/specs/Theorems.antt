@@ -44,7 +44,7 @@ Expressible t = Everywhere expressible tt t
 abbrev pub Expressible-exact : Type 0
 Expressible-exact = (t : Term) → ((line : List ℕ) × Line line t) ↔ Expressible t
 
--- A refusal, and the workspace as it was.
+-- A refusal, and the workspace as it was: written out again, so that what is owed does not lean on `bring`.
 abbrev pub unchanged : (workspace : List ℕ) → Refusal → Brought
 unchanged workspace why = record { answer = refused why; workspace = workspace }
 

@@ -61,7 +61,7 @@ abbrev pub Settled : (R : ℕ) → Scan → codeStep.Step → Type 0
 Settled R s step.Outside = Unit {0}
 Settled R s (step.On r) = (s .at - 1 ≤ r .at) × (r .at ≤ R) × (r .top ≡ s .top) × (r .count ≡ s .count)
 
--- Each byte of a line adds at most one word or one count; one place more keeps what is asked the same for every byte.
+-- Each byte of a line adds at most one word or one count; one place more, so that every step may ask for room for one further word.
 abbrev pub roomMost : ℕ
 roomMost = suc lineMost
 

@@ -6,7 +6,7 @@ ghost use mathlib.Core.List.{List};
 ghost use Prim.Native.Nat.{ℕ, _≤_, _<_, _-_};
 ghost use lib.ListN.{length, drop};
 ghost use Rattle.words.specs.Room.{Room};
-ghost use Rattle.notation.specs.Grammar.{space, opening, closing, zeroDigit, backslash, lineMost};
+ghost use Rattle.notation.specs.Grammar.{space, opening, closing, backslash, lineMost};
 ghost use Rattle.notation.specs.Reader.{digitByte, apply, isIndex, lambda, opens, onBegun, settle, onDigit, onClose, step, sign, lineWords};
 ghost use Rattle.parser.specs.Scan.{stateOf, steppedOf, begunBy, begunOf, parsedOf, powerMost, roomMost, Within, StepWithin, Ahead, Settled, Parses};
 
@@ -22,7 +22,7 @@ const BACKSLASH: u8 = b'\\';
 // The most bytes of a line.
 pub const LINE_MOST: usize = 1024;
 
-// Each byte of a line adds at most one word or one count; one place more keeps what is asked the same for every byte.
+// Each byte of a line adds at most one word or one count; one place more, so that every step may ask for room for one further word.
 pub const ROOM: usize = LINE_MOST + 1;
 
 // What is known behind a byte. The words read so far are those of `out` from `at` on; `stack` from `top` on has the spaces of the terms around this one,
@@ -71,7 +71,7 @@ fn is_index(value: u32, power: u32) -> bool
     power == 10
 }
 
-// Puts so many applications in front of the words from `at` on, and returns where they start.
+// Puts so many applications in front of the words from `at` on, and returns where they start. A word without a payload is its kind.
 fn put_applications(out: &mut [u32], at: usize, count: usize) -> usize
     requires { ⌜ (count ≤ at) × (at ≤ length (now out)) ⌝ }
     ensures { λ r. ⌜ (r ≡ at - count) × (drop r (now (out .exit)) ≡ apply count (drop at (now (out .entry)))) ⌝ }
@@ -94,6 +94,7 @@ fn on_digit(s: Scan, d: u32) -> Step
     if s.power == 0 {
         return Step::Outside;
     }
+    // A sixth digit: no index has one.
     if s.power > Word::INDEX_MOST {
         return Step::Outside;
     }

@@ -3,8 +3,8 @@
 //     line C bytes gives words      the line of these bytes is read as these words
 //     line C bytes Refused number   a refusal, which changes nothing
 //
-// The workspace has C words: all junk before the call, and every word is compared after it. Bytes are a list of numbers like words; one above 255 is no
-// byte, and its vector fails.
+// The workspace has C words: all junk before the call, and every word is compared after it. Bytes are a list of numbers like words, `-` for none; one above
+// 255 is no byte, and its vector fails.
 use crate::pair::JUNK;
 use crate::pair::ROOM;
 use crate::stored::brings;
