@@ -24,8 +24,8 @@ use Rattle.notation.specs.Reader.{scan, settle, lineWords}
 use Rattle.notation.specs.Reading.{readLine}
 use Rattle.notation.specs.Theorems.{LengthsFit}
 use Rattle.notation.proofs.Complete.{packable, words-complete}
-use Rattle.notation.proofs.TermLaws.{found}
-use Rattle.notation.proofs.ReadingLaws.{line-accepted, reading-exact}
+use Rattle.notation.proofs.Sound.{words-sound}
+use Rattle.notation.proofs.ReadingLaws.{line-accepted, free-fits, reading-exact}
 use Rattle.parser.specs.Scan.{roomMost}
 
 no-words : none ≡ lineWords []
@@ -52,13 +52,13 @@ module _ (line workspace : List ℕ) (w : wrongWorkspace (length workspace) ≡ 
 
   module _ (out : List ℕ) (at : ℕ) (room : length out ≡ roomMost) (read : some (drop at out) ≡ lineWords line) where
     abbrev term : Term
-    term = found line (drop at out) (sym read) .0
+    term = words-sound line (sym read) .0
 
     spelled : Line line term
-    spelled = found line (drop at out) (sym read) .1
+    spelled = words-sound line (sym read) .1
 
     words-are : words term ≡ drop at out
-    words-are = found line (drop at out) (sym read) .2
+    words-are = words-sound line (sym read) .2
 
     size-is : size term ≡ roomMost - at
     size-is = omega (arith, ap length words-are, length-drop at out, room)
@@ -89,11 +89,7 @@ module _ (line workspace : List ℕ) (w : wrongWorkspace (length workspace) ≡ 
         go (no n) q = absurd (false≢true q)
 
     unscoped : isTerm (drop at out) (roomMost - at) ≡ false → Scoped 0 term → ⊥
-    unscoped e s = go (scoped? 0 term) (tested ∙ e)
-      where
-        go : (d : Dec (Scoped 0 term)) → ite d true false ≡ false → ⊥
-        go (yes a) q = false≢true (sym q)
-        go (no n) q = n s
+    unscoped e s = false≢true (sym e ∙ sym tested ∙ free-fits term s)
 
     pub read-free : isTerm (drop at out) (roomMost - at) ≡ false → refuse workspace WrongFree ≡ readLine line workspace
     read-free e = sym (reading-exact line workspace .wrong-free asked term spelled (unscoped e))

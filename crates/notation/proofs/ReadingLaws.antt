@@ -34,7 +34,7 @@ scoped-accepted (num n) d h s = absurd h
 pub line-accepted : {line : List ℕ} {t : Term} → Line line t → Scoped 0 t → Accepted 0 t
 line-accepted {t = t} l s = scoped-accepted t 0 (spells-expressible l) s
 
-free-fits : (t : Term) → Scoped 0 t → freeFits t ≡ true
+pub free-fits : (t : Term) → Scoped 0 t → freeFits t ≡ true
 free-fits t s = go (scoped? 0 t)
   where
     go : (d : Dec (Scoped 0 t)) → ite d true false ≡ true

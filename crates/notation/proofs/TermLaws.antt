@@ -22,10 +22,6 @@ pub line-complete : {bs : List ℕ} {t : Term} → Line bs t → lineTerm bs ≡
 unfolding lineTerm bind
 line-complete {t = t} s = rw (words-complete s) (only-term t (packable s))
 
--- Where words are found there is a term.
-pub found : (bs vs : List ℕ) → lineWords bs ≡ some vs → (t : Term) × Line bs t × (words t ≡ vs)
-found bs vs q = words-sound bs q
-
 pub line-sound : (bs : List ℕ) {t : Term} → lineTerm bs ≡ some t → Line bs t
 unfolding lineTerm bind
 line-sound bs {t} q = go (lineWords bs) refl q
@@ -33,14 +29,9 @@ line-sound bs {t} q = go (lineWords bs) refl q
     go : (o : Option (List ℕ)) → lineWords bs ≡ o → bind o (λ ws. bind (items ws) onlyTerm) ≡ some t → Line bs t
     go none e r = absurd (Option·none-ne-some t r)
     go (some vs) e r =
-        let g = found bs vs e in
+        let g = words-sound bs e in
         let same : g .0 ≡ t = cc (only-term (g .0) (packable (g .1)), g .2, r) in
         rw same at (g .1)
 
 pub line-exact : Line-exact
 line-exact bs t = (line-sound bs, line-complete)
-
--- Where no words are found there is none.
-pub none-found : (bs : List ℕ) → lineWords bs ≡ none → lineTerm bs ≡ none
-unfolding lineTerm bind
-none-found bs q = rw q
