@@ -9,16 +9,18 @@ use mathlib.Core.Option.{Option, some}
 use lib.Dec.{ltb}
 use lib.IntN.{pos}
 use borrow.Author.Tests.{ltb-true}
+use native.Mathlib.Nat.{add-zero}
 use native.Mathlib.Omega.{arith}
-use Rattle.calculus.specs.Term.{Sort, Exp, nil, cons, end, branch, Term, Terms, Branches, count}
+use Rattle.calculus.specs.Term.{Sort, Exp, nil, cons, end, branch, Term, Terms, Branches, count, isDefault}
 use Rattle.calculus.specs.Accepted.{freeLimit, InScope, acceptance, Accepted}
 use Rattle.calculus.specs.Shift.{moving, shift}
 use Rattle.calculus.specs.Substitution.{argument, replaced, replacing, subst}
-use Rattle.calculus.specs.Contraction.{Rule, select, Contracts, at-beta, at-case, at-numeral, in-body, in-function, in-argument}
+use Rattle.calculus.specs.Contraction.{Rule, default, listed, select, Contracts, at-beta, at-case, at-numeral, in-body, in-function, in-argument}
 use Rattle.calculus.specs.Contraction.{in-arguments, in-subject, in-branches, in-first, in-later, in-branch, in-later-branch}
 use Rattle.calculus.specs.Leftmost.{leftmost}
 use Rattle.calculus.specs.Theorems.{Contraction-keeps-accepted}
 use Rattle.calculus.proofs.All.{All, nothing, holds, all-eqb, all-some}
+use Rattle.calculus.proofs.DefaultLaws.{default-is}
 use Rattle.calculus.proofs.Move.{move-down}
 use Rattle.calculus.proofs.Spine.{spine-contraction, count-kept, rising-kept}
 use Rattle.calculus.proofs.EverywhereLaws.{Implies, everywhere-traverse}
@@ -69,12 +71,23 @@ module _ (xs : Terms) (d₀ : ℕ) (h₀ : Accepted d₀ xs) where
       (accepted-replaced depth i d′ (r .0) (omega arith) (accepted-argument d₀ xs (i - depth) h₀)))
       d d′ depth (le, fits) e h
 
-pub accepted-select : (d t : ℕ) (xs : Terms) → Accepted d xs → (bs : Branches) → Accepted d bs → All (Accepted d) (select t xs bs)
-accepted-select d t xs k end h = nothing
-accepted-select d t xs k (branch u n b bs) h =
-    all-eqb t u
+accepted-default : (d : ℕ) (bs : Branches) → Accepted d bs → All (Accepted d) (default bs)
+accepted-default d end h = nothing
+accepted-default d (branch u n b bs) h =
+    chosen (All (Accepted d)) (isDefault u n) (λ q. holds (rw (default-is u n q .1, add-zero d) at (h .1))) (accepted-default d bs (h .2))
+
+accepted-listed : (d t : ℕ) (xs : Terms) {rest : Option Term} → Accepted d xs → All (Accepted d) rest → (bs : Branches) → Accepted d bs
+    → All (Accepted d) (listed rest t xs bs)
+accepted-listed d t xs k r end h = r
+accepted-listed d t xs k r (branch u n b bs) h =
+    let later = accepted-listed d t xs k r bs (h .2) in
+    chosen (All (Accepted d)) (isDefault u n) (λ q. later)
+    (all-eqb t u
     (λ q. all-eqb (count xs) n (λ q. holds (accepted-subst xs d k 0 (d + n) d (omega arith) (omega arith) b (h .1))) nothing)
-    (accepted-select d t xs k bs (h .2))
+    later)
+
+pub accepted-select : (d t : ℕ) (xs : Terms) → Accepted d xs → (bs : Branches) → Accepted d bs → All (Accepted d) (select t xs bs)
+accepted-select d t xs k bs h = accepted-listed d t xs k (accepted-default d bs h) bs h
 
 -- Contraction at every sort.
 pub contraction-accepted : {s : Sort} {p : ℕ} {r : Rule} {e g : Exp s} (d : ℕ) → Contracts s p r e g → Accepted d e → Accepted d g

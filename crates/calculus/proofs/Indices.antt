@@ -6,6 +6,7 @@ use Rattle.calculus.specs.Term.{Sort, Exp, var, lam, app, con, case, num
 use Rattle.calculus.specs.Words.{words, size}
 use Rattle.calculus.specs.Accepted.{argumentLimit, freeLimit, Accepted, indexLimit}
 use Rattle.calculus.specs.Theorems.{IndicesWithin, Indices-bounded}
+use Rattle.calculus.proofs.DefaultLaws.{pattern-limits}
 
 indices-within : {s : Sort} (d limit : ℕ) (e : Exp s) → Accepted d e → size e * argumentLimit + d + freeLimit ≤ limit → IndicesWithin limit e
 indices-within d limit (var i) h m = omega arith
@@ -25,6 +26,7 @@ indices-within d limit (cons a xs) h m =
 indices-within d limit end h m = tt
 indices-within d limit (branch t n b bs) h m =
     let l = length-append (words b) (words bs) in
+    let k = pattern-limits t n (h .0) in
     (tt, indices-within (d + n) limit b (h .1) (omega arith), indices-within d limit bs (h .2) (omega arith))
 
 pub indices-bounded : Indices-bounded

@@ -3,6 +3,7 @@ pub mod All
 pub mod Spine
 pub mod Traversal
 pub mod EverywhereLaws
+pub mod DefaultLaws
 pub mod WordLaws
 pub mod MarkedWords
 pub mod SkipLaws
@@ -23,6 +24,7 @@ pub mod Rewriting
 pub mod Substitution
 pub mod Members
 pub mod NumeralLaws
+pub mod SelectLaws
 pub mod Parallel
 pub mod ChurchRosser
 pub mod Instances

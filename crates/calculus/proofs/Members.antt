@@ -3,13 +3,13 @@
 use Prim.Native.Nat.{ℕ, suc, _-_, _≤_, _<_}
 use mathlib.Core.Path.{_≡_, refl, ap}
 use mathlib.Core.Bool.{cond}
-use mathlib.Core.Option.{some}
+use mathlib.Core.Option.{Option, some}
 use lib.Dec.{eqb}
 use lib.IntN.{pos}
-use Rattle.calculus.specs.Term.{Sort, terms, branches, Exp, var, nil, cons, end, branch, Term, Terms, Branches, count}
+use Rattle.calculus.specs.Term.{Sort, terms, branches, Exp, var, nil, cons, end, branch, Term, Terms, Branches, count, isDefault}
 use Rattle.calculus.specs.Shift.{shift}
 use Rattle.calculus.specs.Substitution.{argument, subst}
-use Rattle.calculus.specs.Contraction.{select}
+use Rattle.calculus.specs.Contraction.{default, listed, select}
 use Rattle.calculus.proofs.All.{Both, neither, each, both-cond, both-getD}
 use Rattle.calculus.proofs.Traversal.{below-or-above}
 use Rattle.calculus.proofs.Substitution.{lift, lift-below, lift-above, put}
@@ -33,12 +33,21 @@ module _ {R : Term → Term → Type 0} where
   unfolding put
   members-put variable {xs} {xs′} i m = rw (members-count m) (both-getD (members-argument i m) (variable (i - count xs′)))
 
+  members-default : {bs bs′ : Branches} → Members R branches bs bs′ → Both R (default bs) (default bs′)
+  members-default no-branches = neither
+  members-default (a-branch {t = u} {n = n} r ms) = both-cond (isDefault u n) (each r) (members-default ms)
+
   -- What the case rule selects, if related arguments put into related bodies give related terms.
-  pub members-select : {xs xs′ : Terms} {bs bs′ : Branches} → ((b b′ : Term) → R b b′ → R (subst xs 0 b) (subst xs′ 0 b′)) → (t : ℕ)
-      → Members R terms xs xs′ → Members R branches bs bs′ → Both R (select t xs bs) (select t xs′ bs′)
-  members-select closed t m no-branches = neither
-  members-select {xs′ = xs′} closed t m (a-branch {t = u} {n = n} {b = b} {b′ = b′} r ms) =
-      rw (members-count m) (both-cond (eqb t u) (both-cond (eqb (count xs′) n) (each (closed b b′ r)) neither) (members-select closed t m ms))
+  module _ {xs xs′ : Terms} (closed : (b b′ : Term) → R b b′ → R (subst xs 0 b) (subst xs′ 0 b′)) (t : ℕ) (m : Members R terms xs xs′) where
+    members-listed : {rest rest′ : Option Term} {bs bs′ : Branches} → Both R rest rest′ → Members R branches bs bs′ → Both R (listed rest t xs bs) (listed rest′ t xs′ bs′)
+    members-listed k no-branches = k
+    members-listed k (a-branch {t = u} {n = n} {b = b} {b′ = b′} r ms) =
+        rw (members-count m)
+        (both-cond (isDefault u n) (members-listed k ms)
+        (both-cond (eqb t u) (both-cond (eqb (count xs′) n) (each (closed b b′ r)) neither) (members-listed k ms)))
+
+    pub members-select : {bs bs′ : Branches} → Members R branches bs bs′ → Both R (select t xs bs) (select t xs′ bs′)
+    members-select ms = members-listed (members-default ms) ms
 
   -- Related terms for each index are related under any number of binders.
   pub lift-related : ((i : ℕ) → R (var i) (var i)) → ((n : ℕ) (t u : Term) → R t u → R (shift (pos n) 0 t) (shift (pos n) 0 u))

@@ -5,17 +5,19 @@ use Prim.Native.Nat.{ℕ, suc, _+_}
 use mathlib.Core.Path.{_≡_, refl, sym, _∙_, ap}
 use mathlib.Core.Bool.{Bool, true, false, cond}
 use mathlib.Core.Option.{Option, some, none, Option·map, Option·getD}
+use native.Mathlib.Nat.{add-zero}
 use native.Mathlib.Numerals.{add-one}
 use lib.Dec.{eqb}
 use lib.IntN.{pos}
 use borrow.Author.Tests.{eqb-true}
-use Rattle.calculus.specs.Term.{Sort, term, terms, branches, Exp, var, lam, app, con, case, num, nil, cons, end, branch, Term, Terms, Branches, count}
+use Rattle.calculus.specs.Term.{Sort, term, terms, branches, Exp, var, lam, app, con, case, num, nil, cons, end, branch, Term, Terms, Branches, count, isDefault}
 use Rattle.calculus.specs.Shift.{shift}
 use Rattle.calculus.specs.Substitution.{subst}
 use Rattle.calculus.specs.Numeral.{numeral}
-use Rattle.calculus.specs.Contraction.{by-case, select}
+use Rattle.calculus.specs.Contraction.{by-case, default, listed, select}
 use Rattle.calculus.specs.Step.{contractum}
 use Rattle.calculus.proofs.All.{Both, neither, each}
+use Rattle.calculus.proofs.DefaultLaws.{default-is}
 use Rattle.calculus.proofs.Inversion.{result}
 use Rattle.calculus.proofs.Spine.{count-traverse}
 use Rattle.calculus.proofs.Substitution.{lift, sub, shift-is-sub, put, subst-is-sub, sub-subst}
@@ -51,16 +53,32 @@ par-refl end = par-end
 par-refl (branch t n b bs) = par-branch (par-refl b) (par-refl bs)
 
 -- The case rule commutes with substitution.
-pub select-sub : (σ : ℕ → Term) (d t : ℕ) (xs : Terms) (bs : Branches) → select t (sub σ d xs) (sub σ d bs) ≡ Option·map (sub σ d) (select t xs bs)
-select-sub σ d t xs end = refl
-select-sub σ d t xs (branch u n b bs) = rw (count-traverse (lift σ) d xs, select-sub σ d t xs bs) (by (eqb t u) (eqb (count xs) n) refl)
-  where
-    by : (tag arity : Bool) → eqb (count xs) n ≡ arity
-        → cond tag (cond arity (some (subst (sub σ d xs) 0 (sub σ (d + n) b))) none) (Option·map (sub σ d) (select t xs bs))
-        ≡ Option·map (sub σ d) (cond tag (cond arity (some (subst xs 0 b)) none) (select t xs bs))
-    by true true q = rw (← eqb-true (count xs) n q) (ap some (sym (sub-subst σ d xs b)))
-    by true false q = refl
-    by false arity q = refl
+module _ (σ : ℕ → Term) (d : ℕ) where
+  default-sub : (bs : Branches) → default (sub σ d bs) ≡ Option·map (sub σ d) (default bs)
+  default-sub end = refl
+  default-sub (branch u n b bs) = rw (default-sub bs) (by (isDefault u n) refl)
+    where
+      by : (q : Bool) → isDefault u n ≡ q → cond q (some (sub σ (d + n) b)) (Option·map (sub σ d) (default bs)) ≡ Option·map (sub σ d) (cond q (some b) (default bs))
+      by true h = rw (default-is u n h .1, add-zero d)
+      by false h = refl
+
+  listed-sub : (rest : Option Term) (t : ℕ) (xs : Terms) (bs : Branches)
+      → listed (Option·map (sub σ d) rest) t (sub σ d xs) (sub σ d bs) ≡ Option·map (sub σ d) (listed rest t xs bs)
+  listed-sub rest t xs end = refl
+  listed-sub rest t xs (branch u n b bs) =
+      rw (count-traverse (lift σ) d xs, listed-sub rest t xs bs) (by (isDefault u n) (eqb t u) (eqb (count xs) n) refl)
+    where
+      by : (q tag arity : Bool) → eqb (count xs) n ≡ arity
+          → cond q (Option·map (sub σ d) (listed rest t xs bs))
+          (cond tag (cond arity (some (subst (sub σ d xs) 0 (sub σ (d + n) b))) none) (Option·map (sub σ d) (listed rest t xs bs)))
+          ≡ Option·map (sub σ d) (cond q (listed rest t xs bs) (cond tag (cond arity (some (subst xs 0 b)) none) (listed rest t xs bs)))
+      by true tag arity h = refl
+      by false true true h = rw (← eqb-true (count xs) n h) (ap some (sym (sub-subst σ d xs b)))
+      by false true false h = refl
+      by false false arity h = refl
+
+  select-sub : (t : ℕ) (xs : Terms) (bs : Branches) → select t (sub σ d xs) (sub σ d bs) ≡ Option·map (sub σ d) (select t xs bs)
+  select-sub t xs bs = rw (default-sub bs) (listed-sub (default bs) t xs bs)
 
 -- If the terms of σ reduce to those of τ, under any number of binders, then so does what σ makes of an expression to what τ makes of its reducts.
 module _ (σ τ : ℕ → Term) (variable : (d i : ℕ) → Par term (lift σ d i) (lift τ d i)) where

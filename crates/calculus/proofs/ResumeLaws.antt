@@ -18,8 +18,9 @@ use Rattle.calculus.specs.Position.{through, stepAt, contractAt, redexAt
 use Rattle.calculus.specs.Theorems.{Redexes-before-kept}
 use Rattle.calculus.proofs.All.{Both, neither, each, both-map, both-cond, both-sym, both-none}
 use Rattle.calculus.proofs.Site.{contraction-within, contraction-leaves}
-use Rattle.calculus.proofs.Spine.{count-contraction}
 use Rattle.calculus.proofs.PositionLaws.{contract-at-position, contractAt-none, redex-none}
+use Rattle.calculus.proofs.Parallel.{par-refl, par-select}
+use Rattle.calculus.proofs.ChurchRosser.{parallel}
 
 -- Both hold something, or neither does.
 abbrev pub Alike : {A B : Type 0} → Option A → Option B → Type 0
@@ -28,6 +29,10 @@ Alike o o′ = Both (λ a b. Unit {0}) o o′
 alike-itself : {A : Type 0} (o : Option A) → Alike o o
 alike-itself none = neither
 alike-itself (some a) = each tt
+
+alike : {A B : Type 0} {R : A → B → Type 0} {o : Option A} {o′ : Option B} → Both R o o′ → Alike o o′
+alike neither = neither
+alike (each r) = each tt
 
 alike-sym : {A B : Type 0} {o : Option A} {o′ : Option B} → Alike o o′ → Alike o′ o
 alike-sym h = both-sym {S = λ b a. Unit {0}} h (λ a b r. r)
@@ -66,19 +71,6 @@ argument-kept (con t xs) a a′ = neither
 argument-kept (case e bs) a a′ = neither
 argument-kept (num n) a a′ = neither
 
-alike-found : {A : Type 0} (t : Bool) (x y : A) → Alike (cond t (some x) none) (cond t (some y) none)
-alike-found true x y = each tt
-alike-found false x y = neither
-
-select-arguments : (t : ℕ) (xs ys : Terms) → count xs ≡ count ys → (bs : Branches) → Alike (select t xs bs) (select t ys bs)
-select-arguments t xs ys e end = neither
-select-arguments t xs ys e (branch u n b bs) =
-    both-cond (eqb t u) (rw e (alike-found (eqb (count ys) n) _ _)) (select-arguments t xs ys e bs)
-
-select-branches : {p : ℕ} {r : Rule} (t : ℕ) (xs : Terms) {bs bs′ : Branches} → Contracts branches p r bs bs′ → Alike (select t xs bs) (select t xs bs′)
-select-branches t xs (in-branch {t = u} {n = n} {bs = bs} c) = both-cond (eqb t u) (alike-found (eqb (count xs) n) _ _) (alike-itself (select t xs bs))
-select-branches t xs (in-later-branch {t = u} {n = n} c) = both-cond (eqb t u) (alike-found (eqb (count xs) n) _ _) (select-branches t xs c)
-
 pub subject-kept : {p : ℕ} {r : Rule} {e e′ : Term} (bs : Branches) → Contracts term p r e e′ → 1 ≤ p → Alike (contractum (case e bs)) (contractum (case e′ bs))
 subject-kept bs at-beta h = absurd (omega arith)
 subject-kept bs (at-case k) h = absurd (omega arith)
@@ -86,7 +78,7 @@ subject-kept bs at-numeral h = absurd (omega arith)
 subject-kept bs (in-body c) h = neither
 subject-kept bs (in-function c) h = neither
 subject-kept bs (in-argument c) h = neither
-subject-kept bs (in-arguments {t = t} {xs = xs} {xs′ = ys} c) h = alike-map _ _ (select-arguments t xs ys (count-contraction c) bs)
+subject-kept bs (in-arguments {t = t} c) h = alike-map _ _ (alike (par-select t (parallel c) (par-refl bs)))
 subject-kept bs (in-subject c) h = neither
 subject-kept bs (in-branches c) h = neither
 
@@ -94,7 +86,7 @@ pub branches-kept : {p : ℕ} {r : Rule} (e : Term) {bs bs′ : Branches} → Co
 branches-kept (var i) c = neither
 branches-kept (lam b) c = neither
 branches-kept (app f a) c = neither
-branches-kept (con t xs) c = alike-map _ _ (select-branches t xs c)
+branches-kept (con t xs) c = alike-map _ _ (alike (par-select t (par-refl xs) (parallel c)))
 branches-kept (case e cs) c = neither
 branches-kept (num n) c = neither
 

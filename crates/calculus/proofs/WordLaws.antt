@@ -8,6 +8,7 @@ use Rattle.calculus.specs.Words.{kindBase, word, kindOf, payloadOf, coun
 use Rattle.calculus.specs.Everywhere.{anywhere, Asked, Everywhere}
 use Rattle.calculus.specs.Accepted.{numeralLimit, scope, Scoped, acceptance, Accepted}
 use Rattle.calculus.specs.Theorems.{counted, Packable}
+use Rattle.calculus.proofs.DefaultLaws.{pattern-limits}
 use Rattle.calculus.proofs.EverywhereLaws.{everywhere-implies}
 
 pub kindOf-word : (k p : ℕ) → k < kindBase → kindOf (word k p) ≡ k
@@ -70,7 +71,7 @@ accepted-listed d e h =
 pub accepted-packable : {s : Sort} (d : ℕ) (e : Exp s) → Accepted d e → Packable e
 accepted-packable d e h =
     everywhere-implies {P = acceptance} {Q = counted} {R = λ d p c. Unit {0}}
-    (record { constructors = λ t n h. omega arith; cases = λ bs cs same h. tt; branches = λ t n h. omega arith; numerals = λ n h. tt })
+    (record { constructors = λ t n h. omega arith; cases = λ bs cs same h. tt; branches = λ t n h. omega (arith, pattern-limits t n h .1); numerals = λ n h. tt })
     (record { abstractions = λ d p c r. tt; bodies = λ d p c n r. tt })
     (λ d p c i r h. tt)
     d tt tt e h

@@ -1,9 +1,13 @@
--- Which terms a workspace may hold ("Terms and words"): tags run from 1 to 255, arguments, branches and bound counts from 0 to 15, branch tags
--- rise strictly within a case, free numbers (indices of free variables) run from 0 to 255, and numerals from 0 to 31. Each limit stands once.
+-- Which terms a workspace may hold ("Terms and words"): tags run from 1 to 255, and a branch may be the default besides; arguments, branches and bound
+-- counts run from 0 to 15, branch tags rise strictly within a case, free numbers (indices of free variables) run from 0 to 255, and numerals from 0 to
+-- 31. Each limit stands once.
 --
 -- `Accepted d e` says it of e under d binders: an index below d is bound; any other has the free number index minus d.
 use Prim.Native.Nat.{ℕ, _+_, _≤_, _<_}
-use Rattle.calculus.specs.Term.{Sort, Exp, end, branch, Branches, count}
+use mathlib.Core.Path.{_≡_}
+use mathlib.Core.Bool.{true}
+use mathlib.Core.Logic.{_⊎_}
+use Rattle.calculus.specs.Term.{Sort, Exp, end, branch, Branches, count, isDefault}
 use Rattle.calculus.specs.Everywhere.{binders, Asked, variables, Everywhere}
 
 -- The largest tag.
@@ -43,9 +47,13 @@ abbrev pub Rising : Branches → Type 0
 Rising end = Unit {0}
 Rising (branch t n b bs) = StartsAbove t bs × Rising bs
 
--- A constructor's tag and number of arguments, and so a branch's tag and bound count.
+-- A constructor's tag and number of arguments.
 abbrev pub Tagged : (t n : ℕ) → Type 0
 Tagged t n = IsTag t × (n ≤ argumentLimit)
+
+-- A branch's tag and bound count: those of the default, or those of a constructor.
+abbrev pub Pattern : (t n : ℕ) → Type 0
+Pattern t n = (isDefault t n ≡ true) ⊎ Tagged t n
 
 -- Under d binders the index is bound, or its free number is in range.
 abbrev pub InScope : (d i : ℕ) → Type 0
@@ -65,7 +73,7 @@ acceptance =
       of-variable = InScope;
       of-constructor = Tagged;
       of-case = λ bs. (count bs ≤ branchLimit) × Rising bs;
-      of-branch = Tagged;
+      of-branch = Pattern;
       of-numeral = λ n. n ≤ numeralLimit;
     }
 

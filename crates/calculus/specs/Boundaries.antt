@@ -1,7 +1,7 @@
--- The edges of the rounds, of the position that is shown, of the word rules and of closed terms, each with the neighbour that just passes: what the starred bench pairs do not touch.
+-- The edges of the rounds, of the position that is shown, of the word rules, of the case rule and of closed terms, each with the neighbour that just passes: what the starred bench pairs do not touch.
 use mathlib.Core.Path.{_≡_}
 use Prim.Native.Nat.{ℕ}
-use mathlib.Core.List.{List, [], _∷_}
+use mathlib.Core.List.{List, [], _∷_, _++_}
 use mathlib.Core.Option.{some, none, Option·map}
 use Rattle.calculus.specs.Term.{var, lam}
 use Rattle.calculus.specs.Words.{words}
@@ -9,7 +9,7 @@ use Rattle.calculus.specs.Read.{read}
 use Rattle.calculus.specs.Comparison.{equal, differ, compareWords}
 use Rattle.calculus.specs.Rounds.{Same, Different, Budget, Full}
 use Rattle.calculus.specs.Theorems.{Closed}
-use Rattle.calculus.specs.Bench.{contracted, judged, shown}
+use Rattle.calculus.specs.Bench.{contracted, judged, shown, loop}
 
 -- W W ("Bench pairs"): 13 words, whose contractum has 20.
 abbrev pub ww : List ℕ
@@ -44,12 +44,22 @@ pub record Boundaries : Type 0 where
   pub tag-256 : read (32771 ∷ []) ≡ none
   pub branch-tag-255 : Option·map words (read (12 ∷ 0 ∷ 32645 ∷ 0 ∷ [])) ≡ some (12 ∷ 0 ∷ 32645 ∷ 0 ∷ [])
   pub branch-tag-256 : read (12 ∷ 0 ∷ 32773 ∷ 0 ∷ []) ≡ none
-  pub branch-tag-0 : read (12 ∷ 0 ∷ 5 ∷ 0 ∷ []) ≡ none
   pub arguments-15 : Option·map words (read (251 ∷ 0 ∷ 0 ∷ 0 ∷ 0 ∷ 0 ∷ 0 ∷ 0 ∷ 0 ∷ 0 ∷ 0 ∷ 0 ∷ 0 ∷ 0 ∷ 0 ∷ 0 ∷ [])) ≡ some (251 ∷ 0 ∷ 0 ∷ 0 ∷ 0 ∷ 0 ∷ 0 ∷ 0 ∷ 0 ∷ 0 ∷ 0 ∷ 0 ∷ 0 ∷ 0 ∷ 0 ∷ 0 ∷ [])
   pub bound-15 : Option·map words (read (12 ∷ 0 ∷ 253 ∷ 2160 ∷ [])) ≡ some (12 ∷ 0 ∷ 253 ∷ 2160 ∷ [])
   pub bound-15-free-256 : read (12 ∷ 0 ∷ 253 ∷ 2168 ∷ []) ≡ none
   pub branches-15 : Option·map words (read (124 ∷ 0 ∷ 133 ∷ 0 ∷ 261 ∷ 0 ∷ 389 ∷ 0 ∷ 517 ∷ 0 ∷ 645 ∷ 0 ∷ 773 ∷ 0 ∷ 901 ∷ 0 ∷ 1029 ∷ 0 ∷ 1157 ∷ 0 ∷ 1285 ∷ 0 ∷ 1413 ∷ 0 ∷ 1541 ∷ 0 ∷ 1669 ∷ 0 ∷ 1797 ∷ 0 ∷ 1925 ∷ 0 ∷ [])) ≡ some (124 ∷ 0 ∷ 133 ∷ 0 ∷ 261 ∷ 0 ∷ 389 ∷ 0 ∷ 517 ∷ 0 ∷ 645 ∷ 0 ∷ 773 ∷ 0 ∷ 901 ∷ 0 ∷ 1029 ∷ 0 ∷ 1157 ∷ 0 ∷ 1285 ∷ 0 ∷ 1413 ∷ 0 ∷ 1541 ∷ 0 ∷ 1669 ∷ 0 ∷ 1797 ∷ 0 ∷ 1925 ∷ 0 ∷ [])
   pub branches-16 : read (132 ∷ 0 ∷ 133 ∷ 0 ∷ 261 ∷ 0 ∷ 389 ∷ 0 ∷ 517 ∷ 0 ∷ 645 ∷ 0 ∷ 773 ∷ 0 ∷ 901 ∷ 0 ∷ 1029 ∷ 0 ∷ 1157 ∷ 0 ∷ 1285 ∷ 0 ∷ 1413 ∷ 0 ∷ 1541 ∷ 0 ∷ 1669 ∷ 0 ∷ 1797 ∷ 0 ∷ 1925 ∷ 0 ∷ 2053 ∷ 0 ∷ []) ≡ none
+  pub default-read : Option·map words (read (12 ∷ 0 ∷ 5 ∷ 0 ∷ [])) ≡ some (12 ∷ 0 ∷ 5 ∷ 0 ∷ [])
+  pub tag-0-bound-1 : read (12 ∷ 0 ∷ 13 ∷ 0 ∷ []) ≡ none
+  pub tag-0-bound-15 : read (12 ∷ 0 ∷ 125 ∷ 0 ∷ []) ≡ none
+  pub tag-0-with-an-argument : read (11 ∷ 0 ∷ []) ≡ none
+  pub default-first : Option·map words (read (20 ∷ 0 ∷ 5 ∷ 0 ∷ 133 ∷ 0 ∷ [])) ≡ some (20 ∷ 0 ∷ 5 ∷ 0 ∷ 133 ∷ 0 ∷ [])
+  pub default-second : read (20 ∷ 0 ∷ 133 ∷ 0 ∷ 5 ∷ 0 ∷ []) ≡ none
+  pub two-defaults : read (20 ∷ 0 ∷ 5 ∷ 0 ∷ 5 ∷ 0 ∷ []) ≡ none
+  pub default-and-14 : Option·map words (read (124 ∷ 0 ∷ 5 ∷ 0 ∷ 133 ∷ 0 ∷ 261 ∷ 0 ∷ 389 ∷ 0 ∷ 517 ∷ 0 ∷ 645 ∷ 0 ∷ 773 ∷ 0 ∷ 901 ∷ 0 ∷ 1029 ∷ 0 ∷ 1157 ∷ 0 ∷ 1285 ∷ 0 ∷ 1413 ∷ 0 ∷ 1541 ∷ 0 ∷ 1669 ∷ 0 ∷ 1797 ∷ 0 ∷ [])) ≡ some (124 ∷ 0 ∷ 5 ∷ 0 ∷ 133 ∷ 0 ∷ 261 ∷ 0 ∷ 389 ∷ 0 ∷ 517 ∷ 0 ∷ 645 ∷ 0 ∷ 773 ∷ 0 ∷ 901 ∷ 0 ∷ 1029 ∷ 0 ∷ 1157 ∷ 0 ∷ 1285 ∷ 0 ∷ 1413 ∷ 0 ∷ 1541 ∷ 0 ∷ 1669 ∷ 0 ∷ 1797 ∷ 0 ∷ [])
+  pub default-and-15 : read (132 ∷ 0 ∷ 5 ∷ 0 ∷ 133 ∷ 0 ∷ 261 ∷ 0 ∷ 389 ∷ 0 ∷ 517 ∷ 0 ∷ 645 ∷ 0 ∷ 773 ∷ 0 ∷ 901 ∷ 0 ∷ 1029 ∷ 0 ∷ 1157 ∷ 0 ∷ 1285 ∷ 0 ∷ 1413 ∷ 0 ∷ 1541 ∷ 0 ∷ 1669 ∷ 0 ∷ 1797 ∷ 0 ∷ 1925 ∷ 0 ∷ []) ≡ none
+  pub default-free-255 : Option·map words (read (12 ∷ 0 ∷ 5 ∷ 2040 ∷ [])) ≡ some (12 ∷ 0 ∷ 5 ∷ 2040 ∷ [])
+  pub default-free-256 : read (12 ∷ 0 ∷ 5 ∷ 2048 ∷ []) ≡ none
   pub tags-equal : read (20 ∷ 0 ∷ 133 ∷ 0 ∷ 133 ∷ 0 ∷ []) ≡ none
   pub tags-rising : Option·map words (read (28 ∷ 0 ∷ 133 ∷ 0 ∷ 261 ∷ 0 ∷ 389 ∷ 0 ∷ [])) ≡ some (28 ∷ 0 ∷ 133 ∷ 0 ∷ 261 ∷ 0 ∷ 389 ∷ 0 ∷ [])
   pub tags-fall-after-rise : read (28 ∷ 0 ∷ 133 ∷ 0 ∷ 389 ∷ 0 ∷ 261 ∷ 0 ∷ []) ≡ none
@@ -65,6 +75,22 @@ pub record Boundaries : Type 0 where
   pub redex-in-later-argument : contracted (147 ∷ 8 ∷ 2 ∷ 1 ∷ 0 ∷ 0 ∷ []) ≡ some (some (147 ∷ 8 ∷ 0 ∷ []))
   pub redex-in-subject : contracted (12 ∷ 2 ∷ 1 ∷ 0 ∷ 0 ∷ 133 ∷ 8 ∷ []) ≡ some (some (12 ∷ 0 ∷ 133 ∷ 8 ∷ []))
   pub redex-in-later-branch : contracted (20 ∷ 0 ∷ 133 ∷ 8 ∷ 261 ∷ 2 ∷ 1 ∷ 0 ∷ 0 ∷ []) ≡ some (some (20 ∷ 0 ∷ 133 ∷ 8 ∷ 261 ∷ 0 ∷ []))
+  pub default-taken : contracted (12 ∷ 131 ∷ 5 ∷ 0 ∷ []) ≡ some (some (0 ∷ []))
+  pub default-for-another-tag : contracted (20 ∷ 259 ∷ 5 ∷ 0 ∷ 133 ∷ 8 ∷ []) ≡ some (some (0 ∷ []))
+  pub default-left-for-a-listed-tag : contracted (20 ∷ 131 ∷ 5 ∷ 0 ∷ 133 ∷ 8 ∷ []) ≡ some (some (8 ∷ []))
+  pub default-left-for-a-listed-tag-with-fewer : contracted (20 ∷ 131 ∷ 5 ∷ 0 ∷ 141 ∷ 8 ∷ []) ≡ some none
+  pub default-left-for-a-listed-tag-with-more : contracted (20 ∷ 139 ∷ 0 ∷ 5 ∷ 0 ∷ 133 ∷ 8 ∷ []) ≡ some none
+  pub default-drops-arguments : contracted (12 ∷ 147 ∷ 8 ∷ 16 ∷ 5 ∷ 24 ∷ []) ≡ some (some (24 ∷ []))
+  pub default-lowers-nothing : contracted (1 ∷ 12 ∷ 139 ∷ 0 ∷ 5 ∷ 8 ∷ []) ≡ some (some (1 ∷ 8 ∷ []))
+  pub default-before-an-endless-argument : contracted (12 ∷ 139 ∷ (loop ++ (5 ∷ 0 ∷ []))) ≡ some (some (0 ∷ []))
+  pub no-default-for-a-variable : contracted (12 ∷ 8 ∷ 5 ∷ 0 ∷ []) ≡ some none
+  pub no-default-for-an-abstraction : contracted (12 ∷ 1 ∷ 0 ∷ 5 ∷ 0 ∷ []) ≡ some none
+  pub no-default-for-an-application : contracted (12 ∷ 2 ∷ 131 ∷ 0 ∷ 5 ∷ 0 ∷ []) ≡ some none
+  pub no-default-for-a-case : contracted (12 ∷ 4 ∷ 131 ∷ 5 ∷ 0 ∷ []) ≡ some none
+  pub no-default-for-a-numeral : contracted (12 ∷ 6 ∷ 5 ∷ 0 ∷ []) ≡ some (some (12 ∷ 1 ∷ 1 ∷ 0 ∷ 5 ∷ 0 ∷ []))
+  pub redex-in-default-first : contracted (20 ∷ 0 ∷ 5 ∷ 2 ∷ 1 ∷ 0 ∷ 8 ∷ 133 ∷ 2 ∷ 1 ∷ 0 ∷ 16 ∷ []) ≡ some (some (20 ∷ 0 ∷ 5 ∷ 8 ∷ 133 ∷ 2 ∷ 1 ∷ 0 ∷ 16 ∷ []))
+  pub default-against-its-body : judged (12 ∷ 139 ∷ 0 ∷ 5 ∷ 8 ∷ []) (8 ∷ []) 16 1 ≡ some (shown Same 1 1 1 0)
+  pub stuck-beside-a-default : judged (20 ∷ 139 ∷ 0 ∷ 5 ∷ 8 ∷ 133 ∷ 0 ∷ []) (8 ∷ []) 16 1 ≡ some (shown Different 0 7 1 0)
   pub numeral-0 : contracted (6 ∷ []) ≡ some (some (1 ∷ 1 ∷ 0 ∷ []))
   pub numeral-2 : contracted (22 ∷ []) ≡ some (some (1 ∷ 1 ∷ 2 ∷ 8 ∷ 2 ∷ 8 ∷ 0 ∷ []))
   pub numeral-31 : Option·map words (read (254 ∷ [])) ≡ some (254 ∷ [])

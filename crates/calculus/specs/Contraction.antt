@@ -1,14 +1,14 @@
 -- Contraction at a place ("Contraction"): the beta, the case and the numeral rule, legal at every redex, under binders, in arguments and in branches.
 --
 -- `Contracts s p r e g` says that e, of sort s, becomes g by one contraction with rule r of the redex whose first word stands at position p of
--- e's words. A case whose branch of the tag binds another number than the constructor's arguments is stuck, and so is an application of a
--- constructor: no rule applies to them. Where branches repeat a tag, which no accepted term does, the first of them decides.
+-- e's words. A case whose branch of the tag binds another number than the constructor's arguments is stuck, with a default beside it too, and so is an
+-- application of a constructor: no rule applies to them. Where branches repeat a tag, which no accepted term does, the first of them decides.
 use Prim.Native.Nat.{ℕ, suc, _+_}
 use mathlib.Core.Path.{_≡_}
 use mathlib.Core.Bool.{cond}
 use mathlib.Core.Option.{Option, some, none}
 use lib.Dec.{eqb}
-use Rattle.calculus.specs.Term.{Sort, term, terms, branches, Exp, lam, app, con, case, num, nil, cons, end, branch, Term, Terms, Branches, count}
+use Rattle.calculus.specs.Term.{Sort, term, terms, branches, Exp, lam, app, con, case, num, nil, cons, end, branch, Term, Terms, Branches, count, isDefault}
 use Rattle.calculus.specs.Words.{size}
 use Rattle.calculus.specs.Numeral.{numeral}
 use Rattle.calculus.specs.Substitution.{subst}
@@ -16,11 +16,23 @@ use Rattle.calculus.specs.Substitution.{subst}
 pub data Rule : Type 0 where
   by-beta by-case by-numeral : Rule
 
--- What the case rule makes of a constructor's tag and arguments and the branches: the body of the branch of that tag, with the arguments for
--- the bound indices, if the branch binds as many as there are arguments.
+-- The body of the default, if there is one.
+abbrev pub default : Branches → Option Term
+default end = none
+default (branch u n b bs) = cond (isDefault u n) (some b) (default bs)
+
+-- What the branches other than the default make of a constructor's tag and arguments: the body of the branch of that tag, with the arguments for the
+-- bound indices, if the branch binds as many as there are arguments; and `rest` where none of them has the tag.
+abbrev pub listed : (rest : Option Term) → ℕ → Terms → Branches → Option Term
+listed rest t xs end = rest
+listed rest t xs (branch u n b bs) =
+    cond (isDefault u n) (listed rest t xs bs)
+    (cond (eqb t u) (cond (eqb (count xs) n) (some (subst xs 0 b)) none)
+    (listed rest t xs bs))
+
+-- What the case rule makes of them: a tag that another branch has is left to that branch, any other takes the default, which binds nothing.
 abbrev pub select : ℕ → Terms → Branches → Option Term
-select t xs end = none
-select t xs (branch u n b bs) = cond (eqb t u) (cond (eqb (count xs) n) (some (subst xs 0 b)) none) (select t xs bs)
+select t xs bs = listed (default bs) t xs bs
 
 pub data Contracts : (s : Sort) → ℕ → Rule → Exp s → Exp s → Type 0 where
   at-beta : {b a : Term} → Contracts term 0 by-beta (app (lam b) a) (subst (cons a nil) 0 b)

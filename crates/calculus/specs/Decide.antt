@@ -1,17 +1,28 @@
 -- What is asked of every word of an expression is decidable if each question is, and so acceptance is, computed. The types say all that is decided;
 -- nothing else here needs to be read.
 use Prim.Native.Nat.{ℕ, _+_}
-use mathlib.Core.Logic.{Dec·and}
+use mathlib.Core.Path.{_≡_, refl}
+use mathlib.Core.Bool.{Bool, true, false, false≢true}
+use mathlib.Core.Logic.{Dec·and, _⊎_, inl, inr, ⊎-elim}
 use native.Mathlib.Decide.{decLe, decLt}
-use Rattle.calculus.specs.Term.{Sort, Exp, var, lam, app, con, case, num, nil, cons, end, branch, Branches, count}
+use Rattle.calculus.specs.Term.{Sort, Exp, var, lam, app, con, case, num, nil, cons, end, branch, Branches, count, isDefault}
 use Rattle.calculus.specs.Everywhere.{Asked, Everywhere}
-use Rattle.calculus.specs.Accepted.{tagLimit, argumentLimit, branchLimit, freeLimit, numeralLimit, IsTag, StartsAbove, Rising, Tagged, scope, Scoped, acceptance, Accepted}
+use Rattle.calculus.specs.Accepted.{tagLimit, argumentLimit, branchLimit, freeLimit, numeralLimit, IsTag, StartsAbove, Rising, Tagged, Pattern, scope, Scoped, acceptance, Accepted}
 
 unfoldable pub both₃ : {A B C : Type 0} → Dec A → Dec B → Dec C → Dec (A × B × C)
 both₃ (yes a) (yes b) (yes c) = yes (a, b, c)
 both₃ (yes a) (yes b) (no c) = no (λ p. c (p .2))
 both₃ (yes a) (no b) c = no (λ p. b (p .1))
 both₃ (no a) b c = no (λ p. a (p .0))
+
+abbrev pub either? : {A B : Type 0} → Dec A → Dec B → Dec (A ⊎ B)
+either? (yes a) d = yes (inl a)
+either? (no a) (yes b) = yes (inr b)
+either? (no a) (no b) = no (⊎-elim a b)
+
+abbrev pub isTrue? : (b : Bool) → Dec (b ≡ true)
+isTrue? true = yes refl
+isTrue? false = no false≢true
 
 unfoldable pub isTag? : (t : ℕ) → Dec (IsTag t)
 unfolding Dec·and
@@ -48,6 +59,9 @@ everywhere? {P = P} D d (branch t n b bs) = both₃ (D .of-branch? t n) (everywh
 unfoldable pub tagged? : (t n : ℕ) → Dec (Tagged t n)
 tagged? t n = Dec·and (isTag? t) (decLe n argumentLimit)
 
+abbrev pub pattern? : (t n : ℕ) → Dec (Pattern t n)
+pattern? t n = either? (isTrue? (isDefault t n)) (tagged? t n)
+
 unfoldable pub scoped? : {s : Sort} (d : ℕ) (e : Exp s) → Dec (Scoped d e)
 scoped? d e =
     everywhere? {P = scope}
@@ -67,7 +81,7 @@ accepted? d e =
       of-variable? = λ d i. decLe i (d + freeLimit);
       of-constructor? = tagged?;
       of-case? = λ bs. Dec·and (decLe (count bs) branchLimit) (rising? bs);
-      of-branch? = tagged?;
+      of-branch? = pattern?;
       of-numeral? = λ n. decLe n numeralLimit;
     })
     d e

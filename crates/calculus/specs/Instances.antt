@@ -3,9 +3,9 @@ use Prim.Native.Nat.{ℕ, _+_, _≤_, _<_}
 use mathlib.Core.Path.{_≡_}
 use mathlib.Core.List.{[], _∷_, _++_}
 use lib.IntN.{pos, negsuc, _+ℤ_}
-use Rattle.calculus.specs.Term.{term, var, lam, app, con, case, num, nil, cons, end, branch, Term}
+use Rattle.calculus.specs.Term.{term, var, lam, app, con, case, num, nil, cons, end, branch, Term, Branches}
 use Rattle.calculus.specs.Words.{words, size, workspaceMost}
-use Rattle.calculus.specs.Accepted.{Accepted}
+use Rattle.calculus.specs.Accepted.{Rising, Accepted}
 use Rattle.calculus.specs.Numeral.{numeral}
 use Rattle.calculus.specs.Contraction.{by-beta, by-case, by-numeral, Contracts}
 use Rattle.calculus.specs.Conversion.{Contracts₁, Reaches, Joined, Normal}
@@ -23,6 +23,13 @@ constant-applied = app (lam (var 2)) (var 0)
 abbrev pub second-branch : Term
 second-branch = case (con 2 nil) (branch 1 0 (var 0) (branch 2 0 (var 1) end))
 
+-- A case of constructor 3 with the argument f0; no other branch than the default, f1, has its tag.
+abbrev pub with-default : Branches
+with-default = branch 0 0 (var 1) (branch 2 0 (var 0) end)
+
+abbrev pub default-branch : Term
+default-branch = case (con 3 (cons (var 0) nil)) with-default
+
 -- A redex at position 3: in the argument of an application under an abstraction.
 abbrev pub inner-redex : Term
 inner-redex = lam (app (var 0) (app (lam (var 0)) (var 1)))
@@ -39,9 +46,12 @@ pub record Instances : Type 0 where
   pub moves-up : pos 1 +ℤ pos 2 ≡ pos 3
   pub moves-down : pos 3 +ℤ negsuc 1 ≡ pos 1
   pub moves-to-0 : pos 1 +ℤ negsuc 0 ≡ pos 0
+  -- Select-exact: tags that rise, from a default.
+  pub rising : Rising with-default
   -- The types about a contraction, by each rule and inside a term.
   pub contracts-by-beta : Contracts term 0 by-beta identity-applied (var 1)
   pub contracts-by-case : Contracts term 0 by-case second-branch (var 1)
+  pub contracts-by-default : Contracts term 0 by-case default-branch (var 1)
   pub contracts-by-numeral : Contracts term 0 by-numeral (num 1) (lam (lam (app (var 1) (var 0))))
   pub contracts-inside : Contracts term 3 by-beta inner-redex inner-contracted
   -- Any numeral contracts, also one that no workspace holds.

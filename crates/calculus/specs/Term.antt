@@ -1,6 +1,6 @@
 -- Terms ("Terms and words"): a variable, an abstraction, an application, a constructor with its arguments, a case with a subject (its scrutinee)
--- and branches, or a numeral. Variables are de Bruijn indices from 0; a branch has a tag, a bound count and a body under that many binders; a
--- numeral stands for the Church numeral.
+-- and branches, or a numeral. Variables are de Bruijn indices from 0; a branch has a tag, a bound count and a body under that many binders, and
+-- with tag 0 and bound count 0 it is the default; a numeral stands for the Church numeral.
 --
 -- Indices, tags, counts and numerals are any natural numbers here: the terms inside a chain have no limit. Which terms a workspace may hold is said by
 -- `Accepted`.
@@ -8,6 +8,8 @@
 -- Argument lists and branch lists are further sorts of one family of expressions, so that a definition or a law that goes through a term says
 -- once what happens at every sort.
 use Prim.Native.Nat.{ℕ, suc}
+use mathlib.Core.Bool.{Bool, _&&_}
+use lib.Dec.{eqb}
 
 pub data Sort : Type 0 where
   term terms branches : Sort
@@ -40,3 +42,7 @@ count {s = terms} nil = 0
 count {s = terms} (cons a xs) = suc (count xs)
 count {s = branches} end = 0
 count {s = branches} (branch t n b bs) = suc (count bs)
+
+-- Whether a branch is the default.
+abbrev pub isDefault : (tag bound : ℕ) → Bool
+isDefault t n = eqb t 0 && eqb n 0

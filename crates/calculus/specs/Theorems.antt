@@ -6,14 +6,15 @@ use mathlib.Core.Logic.{_↔_, _⊎_}
 use mathlib.Core.Option.{some, none, bind}
 use lib.IntN.{ℤ, pos, _+ℤ_}
 use lib.ListN.{length, take, getD}
-use Rattle.calculus.specs.Term.{Sort, term, Exp, Term}
+use Rattle.calculus.specs.Term.{Sort, term, Exp, end, branch, Term, Terms, Branches, count}
 use Rattle.calculus.specs.Words.{applicationKind, caseKind, numeralKind, kindOf, countBase, words, size, workspaceMost}
 use Rattle.calculus.specs.Everywhere.{binders, anywhere, Asked, variables, Everywhere}
-use Rattle.calculus.specs.Accepted.{Accepted, indexLimit}
+use Rattle.calculus.specs.Accepted.{Rising, Accepted, indexLimit}
 use Rattle.calculus.specs.Read.{read}
 use Rattle.calculus.specs.Shift.{move}
+use Rattle.calculus.specs.Substitution.{subst}
 use Rattle.calculus.specs.Numeral.{numeral}
-use Rattle.calculus.specs.Contraction.{Rule, by-beta, by-case, by-numeral, Contracts}
+use Rattle.calculus.specs.Contraction.{Rule, by-beta, by-case, by-numeral, select, Contracts}
 use Rattle.calculus.specs.Conversion.{Contracts₁, Reaches, Joined, Normal}
 use Rattle.calculus.specs.Leftmost.{Contracts-leftmost, leftmost}
 use Rattle.calculus.specs.Position.{contractAt, redexAt}
@@ -90,6 +91,19 @@ Numeral-words = (n : ℕ) → (words (numeral n) ≡ (1 ∷ 1 ∷ []) ++ (pairs 
 -- A moved index is the sum of index and distance as integers, wherever that is not negative.
 abbrev pub Move-exact : Type 0
 Move-exact = (z : ℤ) (i n : ℕ) → pos i +ℤ z ≡ pos n → move z i ≡ n
+
+-- A branch of this tag, bound count and body is among the branches.
+abbrev pub Has : (tag bound : ℕ) → Term → Branches → Type 0
+Has t n b end = ⊥
+Has t n b (branch u m c bs) = ((t ≡ u) × (n ≡ m) × (b ≡ c)) ⊎ Has t n b bs
+
+-- The case rule in the words of "Contraction": a constructor takes the branch of its tag, other than the default, that binds as many variables as
+-- it has arguments; where no other branch than the default has its tag, it takes the default, whose body stays as it is; and nothing else.
+abbrev pub Select-exact : Type 0
+Select-exact =
+    (t : ℕ) (xs : Terms) (bs : Branches) (u : Term) → Rising bs → (select t xs bs ≡ some u)
+    ↔ (((b : Term) × Has t (count xs) b bs × ((t ≡ 0) × (count xs ≡ 0) → ⊥) × (u ≡ subst xs 0 b))
+    ⊎ (((n : ℕ) (b : Term) → Has t n b bs → (t ≡ 0) × (n ≡ 0)) × Has 0 0 u bs))
 
 -- `leftmost` gives what the leftmost outermost contraction gives.
 abbrev pub Leftmost-step : Type 0
