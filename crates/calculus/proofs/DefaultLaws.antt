@@ -1,7 +1,7 @@
 -- The default: what tells it, and the limits that it and every other branch of an accepted term keep.
 use Prim.Native.Nat.{ℕ, _≤_}
-use mathlib.Core.Path.{_≡_}
-use mathlib.Core.Bool.{true, and-eq-true-iff}
+use mathlib.Core.Path.{_≡_, refl, sym, _∙_}
+use mathlib.Core.Bool.{Bool, true, false, false≢true, and-eq-true-iff}
 use mathlib.Core.Logic.{inl, inr}
 use native.Mathlib.Omega.{arith}
 use lib.Dec.{eqb}
@@ -14,6 +14,16 @@ default-is t n h = let both = and-eq-true-iff (eqb t 0) (eqb n 0) .0 h in (eqb-t
 
 pub default-told : (t n : ℕ) → t ≡ 0 → n ≡ 0 → isDefault t n ≡ true
 default-told t n e f = rw (e, f)
+
+pub default-not : (t n : ℕ) → ((t ≡ 0) × (n ≡ 0) → ⊥) → isDefault t n ≡ false
+default-not t n h = go (isDefault t n) refl
+  where
+    go : (q : Bool) → isDefault t n ≡ q → q ≡ false
+    go true e = absurd (h (default-is t n e))
+    go false e = refl
+
+pub not-default : (t n : ℕ) → isDefault t n ≡ false → (t ≡ 0) × (n ≡ 0) → ⊥
+not-default t n h z = false≢true (sym h ∙ default-told t n (z .0) (z .1))
 
 pub pattern-limits : (t n : ℕ) → Pattern t n → (t ≤ tagLimit) × (n ≤ argumentLimit)
 pattern-limits t n (inl h) = let is = default-is t n h in (omega arith, omega arith)

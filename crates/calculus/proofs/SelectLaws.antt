@@ -1,7 +1,7 @@
 -- What the case rule selects among branches whose tags rise: `select` is exact.
 use Prim.Native.Nat.{ℕ, _<_}
 use mathlib.Core.Path.{_≡_, refl, sym, _∙_}
-use mathlib.Core.Bool.{Bool, true, false, cond, false≢true}
+use mathlib.Core.Bool.{Bool, true, false, cond}
 use mathlib.Core.Logic.{_⊎_, inl, inr}
 use mathlib.Core.Option.{Option, some, none, Option·some-ne-none, Option·some-inj}
 use native.Mathlib.Omega.{arith}
@@ -12,7 +12,7 @@ use Rattle.calculus.specs.Accepted.{StartsAbove, Rising}
 use Rattle.calculus.specs.Substitution.{subst}
 use Rattle.calculus.specs.Contraction.{default, listed, select}
 use Rattle.calculus.specs.Theorems.{Has, Select-exact}
-use Rattle.calculus.proofs.DefaultLaws.{default-is, default-told}
+use Rattle.calculus.proofs.DefaultLaws.{default-is, default-told, default-not, not-default}
 
 -- These are not the default's.
 abbrev Other : (t n : ℕ) → Type 0
@@ -21,16 +21,6 @@ Other t n = (t ≡ 0) × (n ≡ 0) → ⊥
 -- No other branch than the default has the tag.
 abbrev Unlisted : ℕ → Branches → Type 0
 Unlisted t bs = (n : ℕ) (b : Term) → Has t n b bs → (t ≡ 0) × (n ≡ 0)
-
-other-false : (t n : ℕ) → Other t n → isDefault t n ≡ false
-other-false t n h = go (isDefault t n) refl
-  where
-    go : (q : Bool) → isDefault t n ≡ q → q ≡ false
-    go true e = absurd (h (default-is t n e))
-    go false e = refl
-
-false-other : (t n : ℕ) → isDefault t n ≡ false → Other t n
-false-other t n h z = false≢true (sym h ∙ default-told t n (z .0) (z .1))
 
 -- Tags further on are larger.
 above : {t : ℕ} (u n : ℕ) (b : Term) (bs : Branches) → StartsAbove t bs → Rising bs → Has u n b bs → t < u
@@ -57,7 +47,7 @@ module _ (rest : Option Term) (t : ℕ) (xs : Terms) where
       → listed rest t xs bs ≡ cond (eqb (count xs) n) (some (subst xs 0 b)) none
   has-listed n b end r o h = absurd h
   has-listed n b (branch u m c bs) r o (inl h) =
-      rw (← h .0, ← h .1, other-false t n o, eq-eqb t t refl, h .2)
+      rw (← h .0, ← h .1, default-not t n o, eq-eqb t t refl, h .2)
   has-listed n b (branch u m c bs) r o (inr h) =
       let k = above t n b bs (r .0) (r .1) h in
       rw (ne-eqb t u (λ e. omega arith), has-listed n b bs (r .1) o h) (same (isDefault u m))
@@ -76,7 +66,7 @@ module _ (rest : Option Term) (t : ℕ) (xs : Terms) where
       go false true d e =
           let k = eqb-true t u e in
           let z = h m c (inl (k, refl, refl)) in
-          absurd (false-other u m d (sym k ∙ z .0, z .1))
+          absurd (not-default u m d (sym k ∙ z .0, z .1))
 
 -- Another branch than the default has the tag, or none does.
 abbrev Found : ℕ → Branches → Type 0
@@ -94,7 +84,7 @@ find t (branch u m c bs) = go (eqb t u) (isDefault u m) refl refl (find t bs)
     further f = inl (f .0, f .1, inr (f .2), f .3)
 
     go : (tag q : Bool) → eqb t u ≡ tag → isDefault u m ≡ q → Found t bs → Found t (branch u m c bs)
-    go true false e d f = let k = eqb-true t u e in inl (m, c, inl (k, refl, refl), rw k (false-other u m d))
+    go true false e d f = let k = eqb-true t u e in inl (m, c, inl (k, refl, refl), rw k (not-default u m d))
     go true true e d (inl f) = further f
     go true true e d (inr f) = inr (front (λ k. let z = default-is u m d in (k ∙ z .0, z .1)) f)
     go false q e d (inl f) = further f

@@ -4,34 +4,16 @@ use crate::Record;
 use crate::every::Question;
 use crate::every::every;
 use words::Word;
+use words::pattern::is_pattern;
+use words::pattern::is_tag;
 ghost use mathlib.Core.Path.{_≡_};
 ghost use mathlib.Core.Bool.{false, _&&_};
 ghost use lib.Dec.{leb};
-ghost use Rattle.calculus.specs.Words.{numeralKind, tagOf, countOf};
-ghost use Rattle.calculus.specs.Accepted.{argumentLimit};
+ghost use Rattle.calculus.specs.Words.{numeralKind};
 ghost use Rattle.records.specs.Records.{Inside};
 ghost use Rattle.records.specs.Types.{stored, viewed};
 ghost use Rattle.records.specs.Header.{wrongLength};
-ghost use Rattle.records.specs.Values.{isTag, valueFits, valued, wrongValue};
-
-fn is_tag(tag: u32) -> bool
-    ensures { λ r. ⌜ r ≡ isTag tag ⌝ }
-{
-    if tag < 1 {
-        return false;
-    }
-    tag <= Word::TAG_MOST
-}
-
-// Whether a branch may have this value: a tag and a bound count.
-fn is_tagged(value: u32) -> bool
-    ensures { λ r. ⌜ r ≡ (isTag (tagOf value) && leb (countOf value) argumentLimit) ⌝ }
-{
-    if !is_tag(value / Word::COUNT_BASE) {
-        return false;
-    }
-    value % Word::COUNT_BASE <= Word::ARGUMENTS_MOST
-}
+ghost use Rattle.records.specs.Values.{valueFits, valued, wrongValue};
 
 // Whether a record of this kind may have this value.
 fn kind_fits(kind: u32, value: u32) -> bool
@@ -43,7 +25,7 @@ fn kind_fits(kind: u32, value: u32) -> bool
     match kind {
         Word::VARIABLE => value <= Word::INDEX_MOST,
         Word::CONSTRUCTOR => is_tag(value),
-        Word::BRANCH => is_tagged(value),
+        Word::BRANCH => is_pattern(value),
         Word::NUMERAL => value <= Word::NUMERAL_MOST,
         _ => value == 0,
     }

@@ -33,9 +33,9 @@ allowed-branch zero zero d t k p h g = absurd (omega arith)
 allowed-branch zero (suc b) d t k p h g = refl
 allowed-branch (suc n) b d t k p h g = absurd (omega arith)
 
-pub rest-branch : (n b d t p : ℕ) → n ≤ 0 → 0 < b → restBy n b d t p ≡ frame 0 (b - 1) d (tagOf p)
+pub rest-branch : (n b d t p : ℕ) → n ≤ 0 → 0 < b → restBy n b d t p ≡ frame 0 (b - 1) d (suc (tagOf p))
 rest-branch zero zero d t p h g = absurd (omega arith)
-rest-branch zero (suc b) d t p h g = ap (λ m. frame 0 m d (tagOf p)) (omega arith)
+rest-branch zero (suc b) d t p h g = ap (λ m. frame 0 m d (suc (tagOf p))) (omega arith)
 rest-branch (suc n) b d t p h g = absurd (omega arith)
 
 -- Nothing is to come.

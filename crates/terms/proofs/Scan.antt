@@ -8,17 +8,19 @@ use mathlib.Core.Option.{Option, some, none, Option·elim}
 use native.Mathlib.Nat.{add-zero}
 use native.Mathlib.Numerals.{add-one}
 use native.Mathlib.Omega.{arith}
-use lib.Dec.{eqb, ltb}
-use borrow.Author.Tests.{eqb-true, leb-true, ltb-true, le-leb, lt-ltb}
+use lib.Dec.{eqb, leb}
+use borrow.Author.Tests.{eqb-true, leb-true, le-leb}
 use Rattle.calculus.specs.Term.{Sort, term, terms, branches, Exp, Term, Terms, Branches, var, lam, app, con, case, num, nil, cons, end, branch, count}
 use Rattle.calculus.specs.Words.{variableKind, abstractionKind, applicationKind, constructorKind, caseKind, branchKind, numeralKind, kindBase, countBase, word, pack, tagOf, countOf, words}
-use Rattle.calculus.specs.Accepted.{tagLimit, argumentLimit, branchLimit, StartsAbove, Rising, Accepted}
+use Rattle.calculus.specs.Accepted.{tagLimit, branchLimit, StartsAbove, Rising, Pattern, Accepted}
 use Rattle.calculus.specs.Read.{read}
 use Rattle.calculus.specs.Skip.{following}
 use Rattle.calculus.proofs.WordLaws.{kindOf-word, payloadOf-word, word-of-parts, tagOf-pack, countOf-pack, pack-of-parts}
 use Rattle.calculus.proofs.ReadLaws.{read-exact}
+use Rattle.calculus.proofs.DefaultLaws.{pattern-limits}
 use Rattle.words.specs.Bound.{binding}
-use Rattle.terms.specs.Frames.{Frame, frame, insideBy, inside, tagAbove, startsTerm, startsBranch, allowedBy, allowed, restBy, rest}
+use Rattle.words.proofs.PatternLaws.{tagged-passes, tagged-fits, pattern-passes, pattern-fits}
+use Rattle.terms.specs.Frames.{Frame, frame, insideBy, inside, startsTerm, startsBranch, allowedBy, allowed, restBy, rest}
 
 -- A frame in front of others, left out if nothing is to come in it.
 abbrev pub pushBy : (terms branches : ℕ) → Frame → List Frame → List Frame
@@ -45,22 +47,32 @@ scan-term : (k p n b d t : ℕ) (fs : List Frame) (ws : List ℕ) → k < kindBa
 unfolding scan
 scan-term k p n b d t fs ws h q = rw (kindOf-word k p h, payloadOf-word k p h, q)
 
-scan-branch : (k p b d t : ℕ) (fs : List Frame) (ws : List ℕ) → k < kindBase → startsBranch t k p ≡ true → scan (frame 0 (suc b) d t ∷ fs) (word k p ∷ ws) ≡ scan (push (insideBy d k p) (push (frame 0 b d (tagOf p)) fs)) ws
+scan-branch : (k p b d l : ℕ) (fs : List Frame) (ws : List ℕ) → k < kindBase → startsBranch l k p ≡ true → scan (frame 0 (suc b) d l ∷ fs) (word k p ∷ ws) ≡ scan (push (insideBy d k p) (push (frame 0 b d (suc (tagOf p))) fs)) ws
 unfolding scan
-scan-branch k p b d t fs ws h q = rw (kindOf-word k p h, payloadOf-word k p h, q)
+scan-branch k p b d l fs ws h q = rw (kindOf-word k p h, payloadOf-word k p h, q)
+
+-- The first branch, if there is one, has a tag from l on.
+abbrev StartsFrom : ℕ → Branches → Type 0
+StartsFrom l end = Unit {0}
+StartsFrom l (branch u n b bs) = l ≤ u
+
+from-zero : (bs : Branches) → StartsFrom 0 bs
+from-zero end = tt
+from-zero (branch u n b bs) = omega arith
+
+from-next : (t : ℕ) (bs : Branches) → StartsAbove t bs → StartsFrom (suc t) bs
+from-next t end h = tt
+from-next t (branch u n b bs) h = omega arith
+
+next-above : (t : ℕ) (bs : Branches) → StartsFrom (suc t) bs → StartsAbove t bs
+next-above t end h = tt
+next-above t (branch u n b bs) h = omega arith
 
 -- The words of an accepted expression under d binders take its items off the frame in front.
 abbrev Passes : {s : Sort} → ℕ → Exp s → Type 0
 Passes {s = term} d e = (n b t : ℕ) (fs : List Frame) (ws : List ℕ) → scan (frame (suc n) b d t ∷ fs) (words e ++ ws) ≡ scan (push (frame n b d t) fs) ws
 Passes {s = terms} d e = (b t : ℕ) (fs : List Frame) (ws : List ℕ) → scan (push (frame (count e) b d t) fs) (words e ++ ws) ≡ scan (push (frame 0 b d t) fs) ws
-Passes {s = branches} d e = (t : ℕ) (fs : List Frame) (ws : List ℕ) → StartsAbove t e → Rising e → scan (push (frame 0 (count e) d t) fs) (words e ++ ws) ≡ scan fs ws
-
-tag-above : (t u : ℕ) → t < u → u ≤ tagLimit → tagAbove t u ≡ true
-tag-above t u h g = rw (lt-ltb t u h, le-leb u tagLimit g)
-
-starts-above-zero : (d : ℕ) (bs : Branches) → Accepted d bs → StartsAbove 0 bs
-starts-above-zero d end h = tt
-starts-above-zero d (branch t n b bs) h = h .0 .0 .0
+Passes {s = branches} d e = (l : ℕ) (fs : List Frame) (ws : List ℕ) → StartsFrom l e → Rising e → scan (push (frame 0 (count e) d l) fs) (words e ++ ws) ≡ scan fs ws
 
 passes : {s : Sort} (d : ℕ) (e : Exp s) → Accepted d e → Passes d e
 unfolding insideBy binding startsTerm startsBranch following
@@ -71,35 +83,36 @@ passes d (app e a) h =
     (scan-term applicationKind 0 n b d t fs _ (omega arith) refl ∙ rw add-zero (passes d e (h .0) 1 0 0 _ _ ∙ passes d a (h .1) 0 0 0 _ ws))
 passes d (con u xs) h =
     let k : count xs < countBase = omega arith in
-    λ n b t fs ws. scan-term constructorKind (pack u (count xs)) n b d t fs _ (omega arith) (rw (tagOf-pack u _ k) (tag-above 0 u (h .0 .0 .0) (h .0 .0 .1)))
+    λ n b t fs ws. scan-term constructorKind (pack u (count xs)) n b d t fs _ (omega arith) (rw (tagOf-pack u _ k, countOf-pack u _ k) (tagged-passes u (count xs) (h .0)))
     ∙ rw (countOf-pack u _ k, add-zero) (passes d xs (h .1) 0 0 _ ws)
 passes d (case e bs) h =
     λ n b t fs ws. rw append-assoc
     (scan-term caseKind (count bs) n b d t fs _ (omega arith) (le-leb _ _ (h .0 .0))
-    ∙ rw add-zero (passes d e (h .1) 0 (count bs) 0 _ _ ∙ passes d bs (h .2) 0 _ ws (starts-above-zero d bs (h .2)) (h .0 .1)))
+    ∙ rw add-zero (passes d e (h .1) 0 (count bs) 0 _ _ ∙ passes d bs (h .2) 0 _ ws (from-zero bs) (h .0 .1)))
 passes d (num i) h = λ n b t fs ws. scan-term numeralKind i n b d t fs ws (omega arith) (le-leb _ _ h)
 passes d nil h = λ b t fs ws. refl
 passes d (cons a xs) h = λ b t fs ws. rw append-assoc (passes d a (h .0) (count xs) b t fs _ ∙ passes d xs (h .1) b t fs ws)
-passes d end h = λ t fs ws g r. refl
+passes d end h = λ l fs ws g r. refl
 passes d (branch u m e bs) h =
-    let k : m < countBase = omega arith in
-    λ t fs ws g r. rw append-assoc
-    (scan-branch branchKind (pack u m) (count bs) d t fs _ (omega arith) (rw (tagOf-pack u m k) (tag-above t u g (h .0 .0 .1)))
-    ∙ rw (tagOf-pack u m k, countOf-pack u m k) (passes (d + m) e (h .1) 0 0 0 _ _ ∙ passes d bs (h .2) u fs ws (r .0) (r .1)))
+    let k : m < countBase = omega (arith, pattern-limits u m (h .0) .1) in
+    λ l fs ws g r. rw append-assoc
+    (scan-branch branchKind (pack u m) (count bs) d l fs _ (omega arith)
+    (rw (tagOf-pack u m k, countOf-pack u m k, le-leb l u g) (pattern-passes u m (h .0)))
+    ∙ rw (tagOf-pack u m k, countOf-pack u m k) (passes (d + m) e (h .1) 0 0 0 _ _ ∙ passes d bs (h .2) (suc u) fs ws (from-next u bs (r .0)) (r .1)))
 
--- Words that are those of n accepted terms under d binders, or of n accepted branches after one of tag t, and then words of which P holds; and words
+-- Words that are those of n accepted terms under d binders, or of n accepted branches with tags from l on, and then words of which P holds; and words
 -- that fill frames.
 abbrev TermsThen : ℕ → ℕ → (List ℕ → Type 0) → List ℕ → Type 0
 TermsThen zero d P ws = P ws
 TermsThen (suc n) d P ws = (e : Term) × (vs : List ℕ) × Accepted d e × (words e ++ vs ≡ ws) × TermsThen n d P vs
 
 abbrev BranchesThen : ℕ → ℕ → ℕ → (List ℕ → Type 0) → List ℕ → Type 0
-BranchesThen zero d t P ws = P ws
-BranchesThen (suc n) d t P ws =
-    (u : ℕ) × (m : ℕ) × (e : Term) × (vs : List ℕ) × (t < u) × (u ≤ tagLimit) × (m ≤ argumentLimit) × Accepted (d + m) e × (word branchKind (pack u m) ∷ (words e ++ vs) ≡ ws) × BranchesThen n d u P vs
+BranchesThen zero d l P ws = P ws
+BranchesThen (suc n) d l P ws =
+    (u : ℕ) × (m : ℕ) × (e : Term) × (vs : List ℕ) × (l ≤ u) × Pattern u m × Accepted (d + m) e × (word branchKind (pack u m) ∷ (words e ++ vs) ≡ ws) × BranchesThen n d (suc u) P vs
 
 abbrev FrameThen : Frame → (List ℕ → Type 0) → List ℕ → Type 0
-FrameThen f P = TermsThen (f .terms) (f .depth) (BranchesThen (f .branches) (f .depth) (f .tag) P)
+FrameThen f P = TermsThen (f .terms) (f .depth) (BranchesThen (f .branches) (f .depth) (f .least) P)
 
 abbrev Fills : List Frame → List ℕ → Type 0
 Fills [] ws = [] ≡ ws
@@ -112,11 +125,11 @@ gather-terms (suc n) d P ws h =
     let r = gather-terms n d P (h .1) (h .4) in
     (cons (h .0) (r .0), r .1, ap suc (r .2), (h .2, r .3), rw (append-assoc, r .4) (h .3), r .5)
 
-gather-branches : (n d t : ℕ) (P : List ℕ → Type 0) (ws : List ℕ) → BranchesThen n d t P ws → (bs : Branches) × (vs : List ℕ) × (count bs ≡ n) × StartsAbove t bs × Rising bs × Accepted d bs × (words bs ++ vs ≡ ws) × P vs
-gather-branches zero d t P ws h = (end, ws, refl, tt, tt, tt, refl, h)
-gather-branches (suc n) d t P ws h =
-    let r = gather-branches n d (h .0) P (h .3) (h .9) in
-    (branch (h .0) (h .1) (h .2) (r .0), r .1, ap suc (r .2), h .4, (r .3, r .4), (((omega arith, h .5), h .6), h .7, r .5), rw (append-assoc, r .6) (h .8), r .7)
+gather-branches : (n d l : ℕ) (P : List ℕ → Type 0) (ws : List ℕ) → BranchesThen n d l P ws → (bs : Branches) × (vs : List ℕ) × (count bs ≡ n) × StartsFrom l bs × Rising bs × Accepted d bs × (words bs ++ vs ≡ ws) × P vs
+gather-branches zero d l P ws h = (end, ws, refl, tt, tt, tt, refl, h)
+gather-branches (suc n) d l P ws h =
+    let r = gather-branches n d (suc (h .0)) P (h .3) (h .8) in
+    (branch (h .0) (h .1) (h .2) (r .0), r .1, ap suc (r .2), h .4, (next-above (h .0) (r .0) (r .3), r .4), (h .5, h .6, r .5), rw (append-assoc, r .6) (h .7), r .7)
 
 when-eqb : {C : Type 0} (m n : ℕ) {x y : Bool} → (m ≡ n → x ≡ true → C) → (y ≡ true → C) → cond (eqb m n) x y ≡ true → C
 when-eqb {C} m n {x} {y} f g = go (eqb m n) refl
@@ -126,11 +139,13 @@ when-eqb {C} m n {x} {y} f g = go (eqb m n) refl
     go false e q = g q
 
 -- A branch that is allowed is to come, and its tag is within the limit.
-pub branch-allowed : (n b d t k p : ℕ) → n ≤ 0 → allowedBy n b d t k p ≡ true → (0 < b) × (tagOf p ≤ tagLimit)
+pub branch-allowed : (n b d l k p : ℕ) → n ≤ 0 → allowedBy n b d l k p ≡ true → (0 < b) × (tagOf p ≤ tagLimit)
 unfolding startsBranch
-branch-allowed zero zero d t k p h q = absurd (false≢true q)
-branch-allowed zero (suc b) d t k p h q = (omega arith, leb-true _ _ (and-eq-true-iff (ltb t (tagOf p)) _ .0 (and-eq-true-iff (eqb k branchKind) (tagAbove t (tagOf p)) .0 q .1) .1))
-branch-allowed (suc n) b d t k p h q = absurd (omega arith)
+branch-allowed zero zero d l k p h q = absurd (false≢true q)
+branch-allowed zero (suc b) d l k p h q =
+    let both = and-eq-true-iff (leb l (tagOf p)) _ .0 (and-eq-true-iff (eqb k branchKind) _ .0 q .1) in
+    (omega arith, pattern-limits (tagOf p) (countOf p) (pattern-fits (tagOf p) (countOf p) (both .1)) .0)
+branch-allowed (suc n) b d l k p h q = absurd (omega arith)
 
 -- A word that may start a term starts one, if what follows the word is filled; and so for a branch.
 fill-term : (k p d : ℕ) (P : List ℕ → Type 0) (ws : List ℕ) → startsTerm d k p ≡ true → FrameThen (insideBy d k p) P ws → TermsThen 1 d P (word k p ∷ ws)
@@ -143,8 +158,7 @@ fill-term k p d P ws =
     (λ e q. rw (e, add-zero)
     (λ h.
     let g = gather-terms (countOf p) d P ws h in
-    let a = and-eq-true-iff _ _ .0 q in
-    (con (tagOf p) (g .0), g .1, (((ltb-true _ _ (a .0), leb-true _ _ (a .1)), omega arith), g .3), cc (pack-of-parts p), g .5)))
+    (con (tagOf p) (g .0), g .1, (rw (g .2) (tagged-fits (tagOf p) (countOf p) q), g .3), cc (pack-of-parts p), g .5)))
     (when-eqb k caseKind
     (λ e q. rw (e, add-zero)
     (λ h.
@@ -153,13 +167,13 @@ fill-term k p d P ws =
     (when-eqb k numeralKind (λ e q. rw e (λ h. (num p, ws, leb-true _ _ q, refl, h)))
     (λ q. absurd (false≢true q)))))))
 
-fill-branch : (k p n d t : ℕ) (P : List ℕ → Type 0) (ws : List ℕ) → startsBranch t k p ≡ true → FrameThen (insideBy d k p) (BranchesThen n d (tagOf p) P) ws → BranchesThen (suc n) d t P (word k p ∷ ws)
+fill-branch : (k p n d l : ℕ) (P : List ℕ → Type 0) (ws : List ℕ) → startsBranch l k p ≡ true → FrameThen (insideBy d k p) (BranchesThen n d (suc (tagOf p)) P) ws → BranchesThen (suc n) d l P (word k p ∷ ws)
 unfolding insideBy binding startsBranch following
-fill-branch k p n d t P ws q =
+fill-branch k p n d l P ws q =
     let a = and-eq-true-iff _ _ .0 q in
-    let b = and-eq-true-iff _ _ .0 (a .1) in
+    let b = and-eq-true-iff (leb l (tagOf p)) _ .0 (a .1) in
     rw (eqb-true k branchKind (a .0))
-    (λ h. (tagOf p, countOf p, h .0, h .1, ltb-true _ _ (b .0), leb-true _ _ (b .1), omega arith, h .2, cc (pack-of-parts p), h .4))
+    (λ h. (tagOf p, countOf p, h .0, h .1, leb-true _ _ (b .0), pattern-fits (tagOf p) (countOf p) (b .1), h .2, cc (pack-of-parts p), h .4))
 
 -- A frame that is not kept is filled by nothing.
 push-fills : (n b d t : ℕ) (fs : List Frame) → Fills (push (frame n b d t) fs) ≡ FrameThen (frame n b d t) (Fills fs)
@@ -169,8 +183,8 @@ push-fills (suc n) b d t fs = refl
 
 pushes-fill : (i r : Frame) (fs : List Frame) (ws : List ℕ) → Fills (push i (push r fs)) ws → FrameThen i (FrameThen r (Fills fs)) ws
 pushes-fill i r fs ws h =
-    subst (λ P. FrameThen i P ws) (push-fills (r .terms) (r .branches) (r .depth) (r .tag) fs)
-    (subst (λ P. P ws) (push-fills (i .terms) (i .branches) (i .depth) (i .tag) (push r fs)) h)
+    subst (λ P. FrameThen i P ws) (push-fills (r .terms) (r .branches) (r .depth) (r .least) fs)
+    (subst (λ P. P ws) (push-fills (i .terms) (i .branches) (i .depth) (i .least) (push r fs)) h)
 
 fill : (n b d t k p : ℕ) (P : List ℕ → Type 0) (ws : List ℕ) → allowedBy n b d t k p ≡ true → FrameThen (insideBy d k p) (FrameThen (restBy n b d t p) P) ws → FrameThen (frame n b d t) P (word k p ∷ ws)
 fill zero zero d t k p P ws q h = absurd (false≢true q)
@@ -185,7 +199,7 @@ scan-fills (w ∷ ws) [] q = absurd (false≢true q)
 scan-fills (w ∷ ws) (f ∷ fs) q =
     let a = and-eq-true-iff _ _ .0 q in
     let h = pushes-fill (inside (f .depth) w) (rest f w) fs ws (scan-fills ws _ (a .1)) in
-    rw (← word-of-parts w) (fill (f .terms) (f .branches) (f .depth) (f .tag) _ _ (Fills fs) ws (a .0) h)
+    rw (← word-of-parts w) (fill (f .terms) (f .branches) (f .depth) (f .least) _ _ (Fills fs) ws (a .0) h)
 
 -- The scan for one term under no binder succeeds exactly where `read` gives a term.
 abbrev pub whole : List Frame

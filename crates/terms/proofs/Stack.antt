@@ -192,7 +192,7 @@ module _ {ws : List ℕ} {n : ℕ} {stack : List ℕ} {top f i r s : ℕ} (state
   rest-shallow : unpacked r .depth ≤ (i + 1) * argumentLimit
   rest-shallow =
       let g = unpacked f in
-      omega (arith, ap (λ h. h .depth) (t .is-rest), rest-depth (g .terms) (g .branches) (g .depth) (g .tag) (payloadOf (getD ws i 0)), state .shallow)
+      omega (arith, ap (λ h. h .depth) (t .is-rest), rest-depth (g .terms) (g .branches) (g .depth) (g .least) (payloadOf (getD ws i 0)), state .shallow)
 
   inside-shallow : unpacked s .depth ≤ (i + 1) * argumentLimit
   unfolding insideBy

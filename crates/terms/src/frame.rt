@@ -1,14 +1,18 @@
 // Frames of the scan for a whole term: what is still to come at one level of the term.
 use words::Word;
+use words::pattern::is_pattern;
+use words::pattern::is_tagged;
 ghost use mathlib.Core.Path.{_≡_};
-ghost use mathlib.Core.Bool.{true, cond};
+ghost use mathlib.Core.Bool.{true, cond, _&&_};
 ghost use mathlib.Core.Option.{some, none};
 ghost use Prim.Native.Nat.{_≤_};
-ghost use Rattle.calculus.specs.Words.{kindOf, payloadOf, tagOf};
-ghost use Rattle.terms.specs.Frames.{depthLimit, frame, isFilled, allowed, rest, enteredBy, entered, startsTerm, startsBranch, tagAbove};
+ghost use lib.Dec.{leb};
+ghost use Rattle.calculus.specs.Words.{kindOf, payloadOf, tagOf, countOf};
+ghost use Rattle.words.specs.Pattern.{isPattern};
+ghost use Rattle.terms.specs.Frames.{depthLimit, frame, isFilled, allowed, rest, enteredBy, entered, startsTerm, startsBranch};
 ghost use Rattle.terms.specs.Packed.{unpacked, Packs, enteredOf};
 
-// So many terms, then so many branches with tags rising from above a tag, all under so many binders: four numbers in one word, the terms lowest.
+// So many terms, then so many branches with tags rising from a least one on, all under so many binders: four numbers in one word, the terms lowest.
 pub struct Frame(pub u32);
 
 // What a word comes to at a frame: it may not stand there, or it leads to the frame of what follows it.
@@ -18,12 +22,12 @@ pub enum Entered {
 }
 
 impl Frame {
-    // Above the terms stand the branches, above them the tag, and above it the binders.
+    // Above the terms stand the branches, above them the least tag, and above it the binders.
     const TERMS_BASE: u32 = 16;
 
     const BRANCHES_BASE: u32 = 16;
 
-    const TAG_BASE: u32 = 256;
+    const LEAST_BASE: u32 = 512;
 
     // One term under no binder.
     pub const WHOLE: Frame = Frame(1);
@@ -31,11 +35,11 @@ impl Frame {
     // The most frames that wait in a term of a workspace.
     pub const ROOM: usize = Word::WORKSPACE_MOST / 2;
 
-    fn new(terms: u32, branches: u32, depth: u32, tag: u32) -> Frame
-        requires { ⌜ Packs terms branches depth tag ⌝ }
-        ensures { λ r. ⌜ unpacked (r .0) ≡ frame terms branches depth tag ⌝ }
+    fn new(terms: u32, branches: u32, depth: u32, least: u32) -> Frame
+        requires { ⌜ Packs terms branches depth least ⌝ }
+        ensures { λ r. ⌜ unpacked (r .0) ≡ frame terms branches depth least ⌝ }
     {
-        let upper = depth * Frame::TAG_BASE + tag;
+        let upper = depth * Frame::LEAST_BASE + least;
         Frame((upper * Frame::BRANCHES_BASE + branches) * Frame::TERMS_BASE + terms)
     }
 
@@ -51,16 +55,16 @@ impl Frame {
         self.0 / Frame::TERMS_BASE % Frame::BRANCHES_BASE
     }
 
-    fn tag(self) -> u32
-        ensures { λ r. ⌜ r ≡ unpacked (self .0) .tag ⌝ }
+    fn least(self) -> u32
+        ensures { λ r. ⌜ r ≡ unpacked (self .0) .least ⌝ }
     {
-        self.0 / Frame::TERMS_BASE / Frame::BRANCHES_BASE % Frame::TAG_BASE
+        self.0 / Frame::TERMS_BASE / Frame::BRANCHES_BASE % Frame::LEAST_BASE
     }
 
     fn depth(self) -> u32
         ensures { λ r. ⌜ r ≡ unpacked (self .0) .depth ⌝ }
     {
-        self.0 / Frame::TERMS_BASE / Frame::BRANCHES_BASE / Frame::TAG_BASE
+        self.0 / Frame::TERMS_BASE / Frame::BRANCHES_BASE / Frame::LEAST_BASE
     }
 
     // Whether nothing is still to come.
@@ -82,7 +86,7 @@ impl Frame {
             return enter_term(word, self.depth());
         }
         if self.branches() > 0 {
-            return enter_branch(word, self.depth(), self.tag());
+            return enter_branch(word, self.depth(), self.least());
         }
         Entered::Nowhere
     }
@@ -96,7 +100,7 @@ impl Frame {
         if self.terms() > 0 {
             return Frame(self.0 - 1);
         }
-        Frame::new(0, self.branches() - 1, self.depth(), word.tag())
+        Frame::new(0, self.branches() - 1, self.depth(), word.tag() + 1)
     }
 }
 
@@ -110,7 +114,7 @@ fn inside_if(allowed: bool, inside: Frame) -> Entered
     Entered::Nowhere
 }
 
-// The word as the first one of a term under `depth` binders. No payload holds a count above its limit, so counts need no test.
+// The word as the first one of a term under `depth` binders.
 fn enter_term(word: Word, depth: u32) -> Entered
     requires { ⌜ depth ≤ depthLimit ⌝ }
     ensures { λ r. ⌜ enteredOf r ≡ enteredBy (startsTerm depth (kindOf (word .0)) (payloadOf (word .0))) depth (word .0) ⌝ }
@@ -123,7 +127,7 @@ fn enter_term(word: Word, depth: u32) -> Entered
         ),
         Word::ABSTRACTION => inside_if(payload == 0, Frame::new(1, 0, depth + 1, 0)),
         Word::APPLICATION => inside_if(payload == 0, Frame::new(2, 0, depth, 0)),
-        Word::CONSTRUCTOR => inside_if(tag_above(word, 0), Frame::new(word.count(), 0, depth, 0)),
+        Word::CONSTRUCTOR => inside_if(is_tagged(payload), Frame::new(word.count(), 0, depth, 0)),
         Word::CASE => {
             if payload <= Word::BRANCHES_MOST {
                 return Entered::Inside(Frame::new(1, payload, depth, 0));
@@ -135,27 +139,26 @@ fn enter_term(word: Word, depth: u32) -> Entered
     }
 }
 
-// The word as that of a branch under `depth` binders, after one of tag `tag`; the first branch of a case comes after 0.
-fn enter_branch(word: Word, depth: u32, tag: u32) -> Entered
+// The word as that of a branch under `depth` binders, of a tag that is at least `least`.
+fn enter_branch(word: Word, depth: u32, least: u32) -> Entered
     requires { ⌜ depth ≤ depthLimit ⌝ }
-    ensures { λ r. ⌜ enteredOf r ≡ enteredBy (startsBranch tag (kindOf (word .0)) (payloadOf (word .0))) depth (word .0) ⌝ }
+    ensures { λ r. ⌜ enteredOf r ≡ enteredBy (startsBranch least (kindOf (word .0)) (payloadOf (word .0))) depth (word .0) ⌝ }
 {
     if word.kind() == Word::BRANCH {
         return inside_if(
-            tag_above(word, tag),
+            pattern_from(word, least),
             Frame::new(1, 0, depth + word.count(), 0),
         );
     }
     Entered::Nowhere
 }
 
-// Whether the tag of the word is above `tag` and within the limit.
-fn tag_above(word: Word, tag: u32) -> bool
-    ensures { λ r. ⌜ r ≡ tagAbove tag (tagOf (payloadOf (word .0))) ⌝ }
+// Whether a branch may have the tag and the bound count of the word, and the tag is at least `least`.
+fn pattern_from(word: Word, least: u32) -> bool
+    ensures { λ r. ⌜ r ≡ (leb least (tagOf (payloadOf (word .0))) && isPattern (tagOf (payloadOf (word .0))) (countOf (payloadOf (word .0)))) ⌝ }
 {
-    let own = word.tag();
-    if tag < own {
-        return own <= Word::TAG_MOST;
+    if word.tag() < least {
+        return false;
     }
-    false
+    is_pattern(word.payload())
 }

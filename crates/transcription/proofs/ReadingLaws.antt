@@ -10,9 +10,12 @@ use lib.ListN.{length, length-append}
 use borrow.Author.Tests.{leb-true, eqb-true, eq-eqb, ne-eqb}
 use Rattle.calculus.specs.Words.{variableKind, constructorKind, caseKind, branchKind, numeralKind, tagOf, countOf, word, pack, workspaceMost}
 use Rattle.calculus.specs.Accepted.{argumentLimit, branchLimit, numeralLimit, indexLimit}
+use Rattle.calculus.proofs.DefaultLaws.{pattern-limits}
 use Rattle.words.specs.Limits.{payloadBound}
+use Rattle.words.specs.Pattern.{isTag, isPattern}
+use Rattle.words.proofs.PatternLaws.{tag-fits, pattern-fits}
 use Rattle.records.specs.Records.{Record, Table, Stored, recordAt, view}
-use Rattle.records.specs.Values.{isTag, valueFits}
+use Rattle.records.specs.Values.{valueFits}
 use Rattle.records.specs.Children.{children, numberFits, subjectFirst, childrenFit, chainFrom}
 use Rattle.transcription.specs.Reading.{ahead, payload, Wordable, chainWords, termWords, Readable}
 use Rattle.records.proofs.LinkRules.{Ahead, Linked, linked}
@@ -46,15 +49,12 @@ value-small : (k v : ℕ) → valueFits k v ≡ true → v ≤ indexLimit
 unfolding valueFits
 value-small k v h = go (eqb k variableKind) (eqb k constructorKind) (eqb k branchKind) (eqb k numeralKind) h
   where
-    tag : (t : ℕ) → isTag t ≡ true → t ≤ 255
-    tag t e = leb-true t 255 (and-eq-true-iff (leb 1 t) (leb t 255) .0 e .1)
-
     go : (a b c d : Bool)
-        → cond a (leb v indexLimit) (cond b (isTag v) (cond c (isTag (tagOf v) && leb (countOf v) argumentLimit) (cond d (leb v numeralLimit) (eqb v 0)))) ≡ true
+        → cond a (leb v indexLimit) (cond b (isTag v) (cond c (isPattern (tagOf v) (countOf v)) (cond d (leb v numeralLimit) (eqb v 0)))) ≡ true
         → v ≤ indexLimit
     go true b c d e = leb-true v indexLimit e
-    go false true c d e = omega (arith, tag v e)
-    go false false true d e = omega (arith, tag (tagOf v) (and-eq-true-iff (isTag (tagOf v)) (leb (countOf v) argumentLimit) .0 e .0))
+    go false true c d e = omega (arith, tag-fits v e .1)
+    go false false true d e = omega (arith, pattern-limits (tagOf v) (countOf v) (pattern-fits (tagOf v) (countOf v) e) .0)
     go false false false true e = omega (arith, leb-true v numeralLimit e)
     go false false false false e = omega (arith, eqb-true v 0 e)
 

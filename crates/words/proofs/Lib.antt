@@ -1,4 +1,5 @@
 pub mod Spans
+pub mod PatternLaws
 pub mod PlacedLaws
 pub mod BringingLaws
 pub mod RoomLaws

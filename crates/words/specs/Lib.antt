@@ -1,6 +1,7 @@
 -- What the contracts of the words' code cite beside the calculus.
 pub mod Limits
 pub mod Bound
+pub mod Pattern
 pub mod Placed
 pub mod Room
 pub mod Types

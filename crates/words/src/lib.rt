@@ -13,6 +13,7 @@ ghost use Rattle.words.specs.Limits.{payloadBound};
 ghost use Rattle.words.specs.Bound.{bound};
 
 pub mod answer;
+pub mod pattern;
 pub mod refusal;
 pub mod slices;
 pub mod workspace;

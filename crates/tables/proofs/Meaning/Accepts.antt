@@ -9,17 +9,18 @@ use lib.ListN.{length}
 use borrow.Author.Tests.{leb-true}
 use Rattle.calculus.specs.Term.{Sort, term, terms, branches, Exp, Term, Terms, Branches, count}
 use Rattle.calculus.specs.Words.{words, size, workspaceMost, caseKind, branchKind, tagOf, countOf}
-use Rattle.calculus.specs.Accepted.{argumentLimit, branchLimit, indexLimit, IsTag, Rising, Scoped, Accepted}
+use Rattle.calculus.specs.Accepted.{branchLimit, indexLimit, Rising, Pattern, Scoped, Accepted}
 use Rattle.calculus.specs.Theorems.{Packable}
 use Rattle.calculus.proofs.WordLaws.{accepted-packable}
+use Rattle.words.proofs.PatternLaws.{pattern-fits}
 use Rattle.terms.specs.IsTerm.{isTerm}
 use Rattle.terms.proofs.FreeNumbers.{scoped-is-term}
 use Rattle.records.specs.Records.{Table, OfKind}
 use Rattle.tables.specs.Meaning.{Means, plain, case-of, no-term, a-term, no-branch, a-branch}
-use Rattle.records.specs.Values.{isTag, valueFits}
+use Rattle.records.specs.Values.{valueFits}
 use Rattle.records.specs.Children.{children, numberFits, subjectFirst, sortsFit, childrenFit}
 use Rattle.calculus.specs.Bringing.{freeFits}
-use Rattle.tables.proofs.Meaning.Nodes.{tag-fits, node-accepted, node-scoped}
+use Rattle.tables.proofs.Meaning.Nodes.{node-accepted, node-scoped}
 use Rattle.records.proofs.LinkRules.{Linked}
 use Rattle.tables.proofs.Meaning.ChainMeaning.{terms-chain, case-chain}
 use Rattle.records.proofs.Fits.{Valued, Fitted}
@@ -44,11 +45,9 @@ module _ (T : Table) (L : Linked T) (values : Valued T) (fits : Fitted T) where
       let counted = case-chain T L m ms in
       (omega (arith, counted .0), counted .1 .0 (both .1))
 
-  branch-fits : {i : ℕ} → OfKind T branchKind i → IsTag (tagOf (T .at i .value)) × (countOf (T .at i .value) ≤ argumentLimit)
+  branch-fits : {i : ℕ} → OfKind T branchKind i → Pattern (tagOf (T .at i .value)) (countOf (T .at i .value))
   unfolding valueFits
-  branch-fits {i} k =
-      let both = and-eq-true-iff (isTag (tagOf (T .at i .value))) (leb (countOf (T .at i .value)) argumentLimit) .0 (value-of k) in
-      (tag-fits _ (both .0), leb-true _ _ (both .1))
+  branch-fits k = pattern-fits _ _ (value-of k)
 
   pub means-accepted : {s : Sort} {i : ℕ} {e : Exp s} → Means T s i e → (d : ℕ) → Scoped d e → Accepted d e
   means-accepted (plain k n m) d f = node-accepted n d (value-of k) (number-fits k m) (λ d′ g. means-accepted m d′ g) f

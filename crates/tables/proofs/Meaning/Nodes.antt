@@ -12,15 +12,16 @@ use Rattle.calculus.specs.Term.{Sort, term, terms, branches, Exp, var, lam, app
 use Rattle.calculus.specs.Words.{variableKind, abstractionKind, applicationKind, constructorKind, caseKind, branchKind, numeralKind, word, words, size}
 use Rattle.calculus.specs.Skip.{following, arity}
 use Rattle.calculus.specs.Everywhere.{Asked, Everywhere}
-use Rattle.calculus.specs.Accepted.{tagLimit, argumentLimit, numeralLimit, indexLimit, IsTag, Scoped, Accepted}
+use Rattle.calculus.specs.Accepted.{argumentLimit, numeralLimit, indexLimit, Scoped, Accepted}
 use Rattle.calculus.specs.Theorems.{Packable, IndicesWithin}
 use Rattle.calculus.proofs.WordLaws.{tagOf-pack}
 use Rattle.calculus.proofs.SkipLaws.{arity-variable, arity-constructor, arity-numeral}
 use Rattle.calculus.proofs.All.{All, holds, nothing, all-eqb}
 use Rattle.tables.specs.Meaning.{Node, variable, abstraction, application, constructor, numeral, leafOf, onlyOne, applicationOf, valueless, termOf}
-use Rattle.records.specs.Values.{isTag, valueFits}
+use Rattle.records.specs.Values.{valueFits}
 use Rattle.records.specs.Children.{numberFits}
 use Rattle.transcription.specs.Reading.{payload}
+use Rattle.words.proofs.PatternLaws.{tag-passes, tag-fits}
 use Rattle.records.specs.Records.{entry}
 use Rattle.tables.specs.Write.{linkTo, records}
 use Rattle.transcription.specs.Writing.{valueOf}
@@ -154,12 +155,6 @@ node-below P constructor d h = (d, h .1)
 node-below P numeral d h = (d, tt)
 
 -- Acceptance, and what refusals 3 and 5 test of the node itself.
-pub tag-passes : (t : ℕ) → IsTag t → isTag t ≡ true
-tag-passes t h = and-eq-true-iff _ _ .1 (le-leb 1 t (h .0), le-leb t tagLimit (h .1))
-
-pub tag-fits : (t : ℕ) → isTag t ≡ true → IsTag t
-tag-fits t h = let both = and-eq-true-iff (leb 1 t) (leb t tagLimit) .0 h in (leb-true 1 t (both .0), leb-true t tagLimit (both .1))
-
 pub node-fits : {k v : ℕ} {xs : Terms} {t : Term} → Node k v xs t → (d : ℕ) → Accepted d t → IndicesWithin indexLimit t
     → (valueFits k v ≡ true) × (numberFits k (count xs) ≡ true)
 unfolding valueFits

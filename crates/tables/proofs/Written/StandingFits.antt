@@ -8,16 +8,18 @@ use lib.ListN.{length-append}
 use borrow.Author.Tests.{le-leb, ne-eqb}
 use Rattle.calculus.specs.Term.{Sort, term, terms, branches, Exp, case, nil, cons, branch, Term, Terms, Branches, count}
 use Rattle.calculus.specs.Words.{words, size, caseKind, numeralKind, countBase}
-use Rattle.calculus.specs.Accepted.{argumentLimit, branchLimit, acceptance, Accepted, indexLimit}
+use Rattle.calculus.specs.Accepted.{branchLimit, acceptance, Accepted, indexLimit}
 use Rattle.calculus.specs.Theorems.{counted, within, IndicesWithin}
 use Rattle.calculus.proofs.WordLaws.{tagOf-pack, countOf-pack, accepted-packable}
+use Rattle.calculus.proofs.DefaultLaws.{pattern-limits}
+use Rattle.words.proofs.PatternLaws.{pattern-passes}
 use Rattle.records.specs.Records.{Table, OfKind}
 use Rattle.tables.specs.Meaning.{Node, Means, no-term}
 use Rattle.records.specs.Values.{valueFits}
 use Rattle.records.specs.Children.{children, numberFits, childrenFit}
 use Rattle.tables.specs.Write.{linkTo, records}
 use Rattle.records.proofs.LinkRules.{Linked}
-use Rattle.tables.proofs.Meaning.Nodes.{tag-passes, node-plain, node-size, node-below, node-fits, Built, plain, of-case, empty, listed, ended, branched}
+use Rattle.tables.proofs.Meaning.Nodes.{node-plain, node-size, node-below, node-fits, Built, plain, of-case, empty, listed, ended, branched}
 use Rattle.tables.proofs.Meaning.ChainMeaning.{terms-chain, case-chain}
 use Rattle.tables.proofs.Written.Standing.{Stand, stand-node, stand-both, stand-next, then, stand-means}
 
@@ -79,10 +81,10 @@ module _ (T : Table) (L : Linked T) where
       let room = length-append (words b) (words bs) in
       let both = stand-both T b bs (suc i) 0 0 (h .1) in
       let body = stand-means T c (suc i) 0 (omega arith) (omega arith) (accepted-packable _ b (a .1)) (both .0) in
-      let small : n < countBase = omega arith in
+      let small : n < countBase = omega (arith, pattern-limits t n (a .0) .1) in
       record {
         known-kind = rw (h .0) (omega arith);
-        value-fits = rw (h .0, tagOf-pack, countOf-pack, tag-passes t (a .0 .0), le-leb n argumentLimit (a .0 .1));
+        value-fits = rw (h .0, tagOf-pack t n small, countOf-pack t n small) (pattern-passes t n (a .0));
         children-fit = node-children {xs = cons b nil} (l, omega arith, ap (λ r. r .kind) (h .0)) (rw (h .0) (then body (stand-next T c _ 0 (both .0)) no-term)) (λ e. omega arith) refl;
       }
 

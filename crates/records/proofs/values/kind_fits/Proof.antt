@@ -18,7 +18,7 @@ returns-3 c = rw (c .before .match .keys2) (c .is-tag .ensures)
 
 returns-4 : tie.Need-returns-4
 unfolding valueFits
-returns-4 c = rw (c .before .match .keys3) (c .is-tagged .ensures)
+returns-4 c = rw (c .before .match .keys3) (c .is-pattern .ensures)
 
 returns-5 : tie.Need-returns-5
 unfolding valueFits

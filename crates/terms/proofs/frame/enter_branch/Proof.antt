@@ -12,8 +12,8 @@ use Rattle.terms.proofs.frame.enter_branch.Tie as tie
 kind-requires : tie.Need-kind-requires
 kind-requires c κs = search needs
 
-tag-above-requires : tie.Need-tag-above-requires
-tag-above-requires c κs = search needs
+pattern-from-requires : tie.Need-pattern-from-requires
+pattern-from-requires c κs = search needs
 
 count-requires : tie.Need-count-requires
 count-requires c κs = search needs
@@ -22,7 +22,7 @@ add-new : tie.Need-add-new
 add-new c = search needs
 
 new-requires : tie.Need-new-requires
-new-requires c κs = record { terms-fit = omega arith; branches-fit = omega arith; depth-fits = omega (arith, c .count .ensures); tag-fits = omega arith }
+new-requires c κs = record { terms-fit = omega arith; branches-fit = omega arith; depth-fits = omega (arith, c .count .ensures); least-fits = omega arith }
 
 inside-if-requires : tie.Need-inside-if-requires
 inside-if-requires c κs = search needs
@@ -32,7 +32,7 @@ unfolding startsBranch insideBy binding following
 returns c =
     let t = c .before .before .before in
     c .inside-if .ensures
-    ∙ rw (c .before .new .ensures, c .before .before .count .ensures, t .tag-above .ensures, sym (t .before .before .kind .ensures) ∙ t .before .if1 .taken)
+    ∙ rw (c .before .new .ensures, c .before .before .count .ensures, t .pattern-from .ensures, sym (t .before .before .kind .ensures) ∙ t .before .if1 .taken)
 
 returns-2 : tie.Need-returns-2
 unfolding startsBranch
@@ -43,7 +43,7 @@ enter-branch-spec =
     tie.close
     (tie.spec
     kind-requires
-    tag-above-requires
+    pattern-from-requires
     count-requires
     add-new
     new-requires

@@ -30,7 +30,7 @@ add-new : tie.Need-add-new
 add-new c = search needs
 
 new-requires-2 : tie.Need-new-requires-2
-new-requires-2 c κs = record { terms-fit = omega arith; branches-fit = omega arith; depth-fits = omega arith; tag-fits = omega arith }
+new-requires-2 c κs = record { terms-fit = omega arith; branches-fit = omega arith; depth-fits = omega arith; least-fits = omega arith }
 
 inside-if-requires-2 : tie.Need-inside-if-requires-2
 inside-if-requires-2 c κs = search needs
@@ -41,8 +41,8 @@ new-requires-3 c κs = search needs
 inside-if-requires-3 : tie.Need-inside-if-requires-3
 inside-if-requires-3 c κs = search needs
 
-tag-above-requires : tie.Need-tag-above-requires
-tag-above-requires c κs = search needs
+is-tagged-requires : tie.Need-is-tagged-requires
+is-tagged-requires c κs = search needs
 
 count-requires : tie.Need-count-requires
 count-requires c κs = search needs
@@ -95,7 +95,7 @@ unfolding startsTerm insideBy binding following
 returns-5 c =
     let t = c .before .before .before in
     c .inside-if4 .ensures
-    ∙ rw (c .before .new4 .ensures, c .before .before .count .ensures, t .tag-above .ensures, sym (t .before .before .kind .ensures) ∙ t .before .match .keys4)
+    ∙ rw (c .before .new4 .ensures, c .before .before .count .ensures, t .is-tagged .ensures, t .before .before .before .payload .ensures, sym (t .before .before .kind .ensures) ∙ t .before .match .keys4)
     (simp add-zero)
 
 returns-6 : tie.Need-returns-6
@@ -130,7 +130,7 @@ enter-term-spec =
     inside-if-requires-2
     new-requires-3
     inside-if-requires-3
-    tag-above-requires
+    is-tagged-requires
     count-requires
     new-requires-4
     inside-if-requires-4

@@ -20,7 +20,7 @@ returns : tie.Need-returns
 returns c =
     let f = unpacked (c .before .before .before .before .args .self .0) in
     c .enter-term .ensures
-    ∙ rw (c .before .depth .ensures, allowed-term (f .terms) (f .branches) (f .depth) (f .tag) _ _ (omega (arith, c .before .before .before .terms .ensures)))
+    ∙ rw (c .before .depth .ensures, allowed-term (f .terms) (f .branches) (f .depth) (f .least) _ _ (omega (arith, c .before .before .before .terms .ensures)))
 
 branches-requires : tie.Need-branches-requires
 branches-requires c κs = search needs
@@ -28,8 +28,8 @@ branches-requires c κs = search needs
 depth-requires-2 : tie.Need-depth-requires-2
 depth-requires-2 c κs = search needs
 
-tag-requires : tie.Need-tag-requires
-tag-requires c κs = search needs
+least-requires : tie.Need-least-requires
+least-requires c κs = search needs
 
 enter-branch-requires : tie.Need-enter-branch-requires
 enter-branch-requires c κs = search needs
@@ -39,13 +39,13 @@ returns-2 c =
     let f = unpacked (c .before .before .before .before .before .before .before .args .self .0) in
     let b = c .before .before .before .before in
     c .enter-branch .ensures
-    ∙ rw (c .before .before .depth2 .ensures, c .before .tag .ensures)
-    (rw (allowed-branch (f .terms) (f .branches) (f .depth) (f .tag) _ _ (omega (arith, b .before .before .terms .ensures)) (omega (arith, b .branches .ensures))))
+    ∙ rw (c .before .before .depth2 .ensures, c .before .least .ensures)
+    (rw (allowed-branch (f .terms) (f .branches) (f .depth) (f .least) _ _ (omega (arith, b .before .before .terms .ensures)) (omega (arith, b .branches .ensures))))
 
 returns-3 : tie.Need-returns-3
 returns-3 c =
     let f = unpacked (c .before .before .before .before .args .self .0) in
-    rw (allowed-none (f .terms) (f .branches) (f .depth) (f .tag) _ _
+    rw (allowed-none (f .terms) (f .branches) (f .depth) (f .least) _ _
     (omega (arith, c .before .before .before .terms .ensures)) (omega (arith, c .before .branches .ensures)))
 
 pub enter-spec : {M : Type 1} → statement M
@@ -58,7 +58,7 @@ enter-spec =
     returns
     branches-requires
     depth-requires-2
-    tag-requires
+    least-requires
     enter-branch-requires
     returns-2
     returns-3)

@@ -1,7 +1,7 @@
 -- `is_tag` meets its contract.
 use borrow.Author.Tests.{lt-leb, le-leb}
-use Rattle.records.proofs.values.is_tag.Statement.{statement}
-use Rattle.records.proofs.values.is_tag.Tie as tie
+use Rattle.words.proofs.pattern.is_tag.Statement.{statement}
+use Rattle.words.proofs.pattern.is_tag.Tie as tie
 
 returns : tie.Need-returns
 returns c = rw (lt-leb 1 _ (c .if1 .taken))

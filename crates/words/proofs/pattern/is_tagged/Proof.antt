@@ -1,8 +1,8 @@
 -- `is_tagged` meets its contract: each return knows the test before it.
 use borrow.Author.Needs.{needs}
 use borrow.Author.Tests.{not-true, not-false}
-use Rattle.records.proofs.values.is_tagged.Statement.{statement}
-use Rattle.records.proofs.values.is_tagged.Tie as tie
+use Rattle.words.proofs.pattern.is_tagged.Statement.{statement}
+use Rattle.words.proofs.pattern.is_tagged.Tie as tie
 
 returns : tie.Need-returns
 returns c = rw (← c .before .is-tag .ensures, not-true (c .before .is-tag .result) (c .if1 .taken))
