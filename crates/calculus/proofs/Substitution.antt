@@ -258,3 +258,7 @@ shift-subst n d xs e =
 
 pub subst-shift : {s : Sort} (xs : Terms) (e : Exp s) → subst xs 0 (shift (pos (count xs)) 0 e) ≡ e
 subst-shift xs e = subst-is-sub xs 0 (shift (pos (count xs)) 0 e) ∙ put-shift xs e
+
+-- With no arguments nothing is put, and no index falls.
+pub subst-none : {s : Sort} (e : Exp s) → subst nil 0 e ≡ e
+subst-none e = ap (subst nil 0) (sym (shift-zero 0 e)) ∙ subst-shift nil e

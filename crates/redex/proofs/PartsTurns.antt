@@ -10,71 +10,94 @@ use lib.Dec.{eqb}
 use borrow.Author.Tests.{eq-eqb, ne-eqb}
 use lib.ListN.{length, getD, drop, drop-of-length-le, List·getD-eq-default}
 use lib.Seq.{drop-cons, drop-drop, getD-drop}
+use Rattle.calculus.specs.Term.{isDefault}
 use Rattle.calculus.specs.Words.{variableKind, abstractionKind, applicationKind, constructorKind, caseKind, numeralKind, kindOf, payloadOf, tagOf, countOf}
 use Rattle.calculus.specs.Skip.{skip, span}
 use Rattle.calculus.specs.Contraction.{by-beta}
 use Rattle.calculus.proofs.SkipLaws.{skip-drop}
 use Rattle.redex.specs.declared.Found.{Found}
 use Rattle.redex.specs.declared.Found.the-variants as found
-use Rattle.redex.specs.Rules.{nothing, parted, numbered, branchBody, withBody, caseParts, partsBehind, parts}
+use Rattle.redex.specs.Rules.{nothing, parted, numbered, orDefault, branchBody, withBody, caseParts, partsBehind, parts}
 
-pub branchBody-none : (t n i : ℕ) (ws : List ℕ) → branchBody zero t n i ws ≡ found.Nothing
+pub branchBody-none : (before : Found) (t n i : ℕ) (ws : List ℕ) → branchBody before zero t n i ws ≡ before
 unfolding branchBody
-branchBody-none t n i ws = refl
+branchBody-none before t n i ws = refl
 
-pub branchBody-past : (k t n i : ℕ) (ws : List ℕ) → length ws ≤ i → branchBody k t n i (drop i ws) ≡ found.Nothing
+pub branchBody-past : (before : Found) (k t n i : ℕ) (ws : List ℕ) → length ws ≤ i → branchBody before k t n i (drop i ws) ≡ before
 unfolding branchBody
-branchBody-past zero t n i ws h = refl
-branchBody-past (suc k) t n i ws h = rw (drop-of-length-le ws h)
+branchBody-past before zero t n i ws h = refl
+branchBody-past before (suc k) t n i ws h = rw (drop-of-length-le ws h)
 
 -- The branch at i, or those behind it.
-branchBody-step : (k t n i : ℕ) (ws : List ℕ) → i < length ws → (k ≡ 0 → ⊥)
-    → branchBody k t n i (drop i ws)
-    ≡ cond (eqb t (tagOf (payloadOf (getD ws i 0))))
-    (cond (eqb n (countOf (payloadOf (getD ws i 0)))) (found.At (i + 1) (k - 1)) found.Nothing)
-    (branchBody (k - 1) t n (i + 1 + span 1 (drop (i + 1) ws)) (drop (i + 1 + span 1 (drop (i + 1) ws)) ws))
+branchBody-step : (before : Found) (k t n i : ℕ) (ws : List ℕ) → i < length ws → (k ≡ 0 → ⊥)
+    → branchBody before k t n i (drop i ws)
+    ≡ cond (isDefault (tagOf (payloadOf (getD ws i 0))) (countOf (payloadOf (getD ws i 0))))
+    (branchBody (orDefault before (i + 1) (k - 1)) (k - 1) t n (i + 1 + span 1 (drop (i + 1) ws)) (drop (i + 1 + span 1 (drop (i + 1) ws)) ws))
+    (cond (eqb t (tagOf (payloadOf (getD ws i 0))))
+    (cond (eqb n (countOf (payloadOf (getD ws i 0)))) (found.Listed (i + 1) (k - 1)) found.Nothing)
+    (branchBody before (k - 1) t n (i + 1 + span 1 (drop (i + 1) ws)) (drop (i + 1 + span 1 (drop (i + 1) ws)) ws)))
 unfolding branchBody
-branchBody-step zero t n i ws h z = absurd (z refl)
-branchBody-step (suc k) t n i ws h z =
+branchBody-step before zero t n i ws h z = absurd (z refl)
+branchBody-step before (suc k) t n i ws h z =
     let e : suc k - 1 ≡ k = omega arith in
     rw (drop-cons ws i 0 h, e, ← drop-drop (span 1 (drop (i + 1) ws)) (i + 1) ws, ← skip-drop 1 (drop (i + 1) ws), add-one i)
 
--- The branch at i has the tag and binds n variables, or another number; or it has another tag.
-module _ (k t n i : ℕ) (ws : List ℕ) (within : i < length ws) (left : k ≡ 0 → ⊥) where
-  pub branchBody-fits : t ≡ tagOf (payloadOf (getD ws i 0)) → n ≡ countOf (payloadOf (getD ws i 0)) → branchBody k t n i (drop i ws) ≡ found.At (i + 1) (k - 1)
-  branchBody-fits p q = branchBody-step k t n i ws within left ∙ rw (eq-eqb _ _ p, eq-eqb _ _ q)
+-- The branch at i is the default; or it is another that has the tag and binds n variables, or another number; or it has another tag.
+module _ (before : Found) (k t n i : ℕ) (ws : List ℕ) (within : i < length ws) (left : k ≡ 0 → ⊥) {default : Bool}
+    (told : default ≡ isDefault (tagOf (payloadOf (getD ws i 0))) (countOf (payloadOf (getD ws i 0)))) where
+  pub branchBody-default : default ≡ true → {j : ℕ} → j ≡ i + 1 + span 1 (drop (i + 1) ws)
+      → branchBody before k t n i (drop i ws) ≡ branchBody (orDefault before (i + 1) (k - 1)) (k - 1) t n j (drop j ws)
+  branchBody-default d q = branchBody-step before k t n i ws within left ∙ rw (← told, d, q)
 
-  pub branchBody-other : t ≡ tagOf (payloadOf (getD ws i 0)) → (n ≡ countOf (payloadOf (getD ws i 0)) → ⊥) → branchBody k t n i (drop i ws) ≡ found.Nothing
-  branchBody-other p q = branchBody-step k t n i ws within left ∙ rw (eq-eqb _ _ p, ne-eqb _ _ q)
+  pub branchBody-fits : default ≡ false → t ≡ tagOf (payloadOf (getD ws i 0)) → n ≡ countOf (payloadOf (getD ws i 0))
+      → branchBody before k t n i (drop i ws) ≡ found.Listed (i + 1) (k - 1)
+  branchBody-fits d p q = branchBody-step before k t n i ws within left ∙ rw (← told, d, eq-eqb _ _ p, eq-eqb _ _ q)
 
-  pub branchBody-later : (t ≡ tagOf (payloadOf (getD ws i 0)) → ⊥) → {j : ℕ} → j ≡ i + 1 + span 1 (drop (i + 1) ws) → branchBody k t n i (drop i ws) ≡ branchBody (k - 1) t n j (drop j ws)
-  branchBody-later p q = branchBody-step k t n i ws within left ∙ rw (ne-eqb _ _ p, q)
+  pub branchBody-other : default ≡ false → t ≡ tagOf (payloadOf (getD ws i 0)) → (n ≡ countOf (payloadOf (getD ws i 0)) → ⊥)
+      → branchBody before k t n i (drop i ws) ≡ found.Nothing
+  branchBody-other d p q = branchBody-step before k t n i ws within left ∙ rw (← told, d, eq-eqb _ _ p, ne-eqb _ _ q)
+
+  pub branchBody-later : default ≡ false → (t ≡ tagOf (payloadOf (getD ws i 0)) → ⊥) → {j : ℕ} → j ≡ i + 1 + span 1 (drop (i + 1) ws)
+      → branchBody before k t n i (drop i ws) ≡ branchBody before (k - 1) t n j (drop j ws)
+  branchBody-later d p q = branchBody-step before k t n i ws within left ∙ rw (← told, d, ne-eqb _ _ p, q)
 
 -- Fewer branches than all are behind the one that was found.
 data Behind (k : ℕ) : Found → Type 0 where
   absent : Behind k found.Nothing
-  fewer : {b left : ℕ} → left < k → Behind k (found.At b left)
+  by-listed : {body left : ℕ} → left < k → Behind k (found.Listed body left)
+  by-default : {body left : ℕ} → left < k → Behind k (found.Default body left)
 
 behind-cond : {k : ℕ} (c : Bool) {r x : Found} → Behind k r → Behind k x → Behind k (cond c r x)
 behind-cond true r x = r
 behind-cond false r x = x
 
-behind-more : {k : ℕ} {r : Found} → Behind k r → Behind (suc k) r
-behind-more absent = absent
-behind-more (fewer {left = left} l) = fewer {left = left} (omega arith)
+behind-default : {k left : ℕ} {before : Found} (body : ℕ) → Behind k before → left < k → Behind k (orDefault before body left)
+behind-default body absent l = by-default l
+behind-default body (by-listed h) l = by-listed h
+behind-default body (by-default h) l = by-default h
 
-branchBody-behind : (k t n i : ℕ) (ws : List ℕ) → Behind k (branchBody k t n i ws)
+branchBody-behind : {all : ℕ} {before : Found} (k t n i : ℕ) (ws : List ℕ) → Behind all before → k ≤ all → Behind all (branchBody before k t n i ws)
 unfolding branchBody
-branchBody-behind zero t n i ws = absent
-branchBody-behind (suc k) t n i [] = absent
-branchBody-behind (suc k) t n i (w ∷ ws) =
-    behind-cond (eqb t (tagOf (payloadOf w))) (behind-cond (eqb n (countOf (payloadOf w))) (fewer (omega arith)) absent) (behind-more (branchBody-behind k t n (i + 1 + span 1 ws) (skip 1 ws)))
+branchBody-behind zero t n i ws h m = h
+branchBody-behind (suc k) t n i [] h m = h
+branchBody-behind (suc k) t n i (w ∷ ws) h m =
+    behind-cond (isDefault (tagOf (payloadOf w)) (countOf (payloadOf w)))
+    (branchBody-behind k t n _ (skip 1 ws) (behind-default (i + 1) h (omega arith)) (omega arith))
+    (behind-cond (eqb t (tagOf (payloadOf w))) (behind-cond (eqb n (countOf (payloadOf w))) (by-listed (omega arith)) absent)
+    (branchBody-behind k t n _ (skip 1 ws) h (omega arith)))
 
-pub branchBody-left : (k t n i : ℕ) (ws : List ℕ) {b left : ℕ} → found.At b left ≡ branchBody k t n i ws → left < k
-branchBody-left k t n i ws e = go (rw (← e) at (branchBody-behind k t n i ws))
-  where
-    go : {b left : ℕ} → Behind k (found.At b left) → left < k
-    go (fewer l) = l
+module _ (k t n i : ℕ) (ws : List ℕ) {body left : ℕ} where
+  pub listed-left : found.Listed body left ≡ branchBody found.Nothing k t n i ws → left < k
+  listed-left e = go (rw (← e) at (branchBody-behind {all = k} k t n i ws absent (omega arith)))
+    where
+      go : Behind k (found.Listed body left) → left < k
+      go (by-listed l) = l
+
+  pub default-left : found.Default body left ≡ branchBody found.Nothing k t n i ws → left < k
+  default-left e = go (rw (← e) at (branchBody-behind {all = k} k t n i ws absent (omega arith)))
+    where
+      go : Behind k (found.Default body left) → left < k
+      go (by-default l) = l
 
 -- The words from a position on, by the first, and by the first two.
 pub first-word : (i : ℕ) (ws : List ℕ) (j : ℕ) → i < length ws → j ≡ i + 1 → drop i ws ≡ getD ws i 0 ∷ drop j ws
@@ -86,7 +109,7 @@ first-two i ws h = first-word i ws (i + 1) (omega arith) refl ∙ ap (_∷_ (get
 -- A case of a constructor, by what its words and the search among its branches say.
 pub caseParts-found : (i w v : ℕ) (ws : List ℕ) {p t n j : ℕ} {r x : Found}
     → p ≡ payloadOf w → t ≡ tagOf (payloadOf v) → n ≡ countOf (payloadOf v) → j ≡ i + 1 + span 1 (drop (i + 1) ws)
-    → r ≡ branchBody p t n j (drop j ws) → r ≡ x → caseParts i w v (drop (i + 1) ws) ≡ withBody (i + 2) n x
+    → r ≡ branchBody found.Nothing p t n j (drop j ws) → r ≡ x → caseParts i w v (drop (i + 1) ws) ≡ withBody (i + 2) n x
 unfolding caseParts
 caseParts-found i w v ws e₁ e₂ e₃ e₄ e₅ e₆ =
     rw (← e₆, e₅, e₁, e₂, e₃, e₄, ← drop-drop (span 1 (drop (i + 1) ws)) (i + 1) ws, ← skip-drop 1 (drop (i + 1) ws))

@@ -4,27 +4,28 @@ use Prim.Native.Nat.{ℕ, suc, _+_, _≤_, _<_}
 use mathlib.Core.Path.{_≡_, refl, sym, _∙_, ap}
 use mathlib.Core.Bool.{Bool, true, false, cond}
 use mathlib.Core.List.{List, [], _∷_, _++_, append-assoc, append-nil}
-use mathlib.Core.Option.{Option, some, none, Option·map}
+use mathlib.Core.Option.{Option, some, none, Option·map, orElse}
 use native.Mathlib.Nat.{add-zero}
 use native.Mathlib.Omega.{arith}
 use lib.Dec.{eqb}
 use lib.ListN.{length, drop, length-append}
 use lib.Seq.{drop-drop, drop-append-seam}
 use borrow.Author.Tests.{ne-eqb}
-use Rattle.calculus.specs.Term.{Sort, Exp, Term, Terms, Branches, var, lam, app, con, case, num, nil, cons, end, branch, count}
+use Rattle.calculus.specs.Term.{Sort, Exp, Term, Terms, Branches, var, lam, app, con, case, num, nil, cons, end, branch, count, isDefault}
 use Rattle.calculus.specs.Words.{variableKind, abstractionKind, applicationKind, constructorKind, caseKind, branchKind, numeralKind, kindBase, word, countBase, pack, words, size}
 use Rattle.calculus.specs.Skip.{skip, span}
 use Rattle.calculus.specs.Substitution.{subst as substitution}
 use Rattle.calculus.specs.Numeral.{numeral}
-use Rattle.calculus.specs.Contraction.{Rule, by-case, by-numeral, select}
+use Rattle.calculus.specs.Contraction.{Rule, by-case, by-numeral, default, listed, select}
 use Rattle.calculus.specs.Position.{stepAt}
 use Rattle.calculus.specs.Theorems.{Packable, IndicesWithin}
 use Rattle.calculus.proofs.WordLaws.{kindOf-word, payloadOf-word, tagOf-pack, countOf-pack}
 use Rattle.calculus.proofs.SkipLaws.{itemsAnd, skip-words, skip-zero, span-words}
 use Rattle.calculus.proofs.FirstLaws.{span-items}
+use Rattle.calculus.proofs.Substitution.{subst-none}
 use Rattle.redex.specs.declared.Found.{Found}
 use Rattle.redex.specs.declared.Found.the-variants as found
-use Rattle.redex.specs.Rules.{Parts, nothing, parted, numbered, branchBody, withBody, caseParts, partsBehind, parts}
+use Rattle.redex.specs.Rules.{Parts, nothing, parted, numbered, orDefault, branchBody, withBody, caseParts, partsBehind, parts}
 
 -- From a position on, a workspace is these words.
 pub record From (W : List ℕ) (p : ℕ) (ws : List ℕ) : Type 0 where
@@ -65,26 +66,50 @@ ending t e {left = left} vs k h h′ s q =
 -- What the case rule selects, beside the body that was found, which has no more words than so many, and the branches left behind it.
 data Selected (W : List ℕ) (xs : Terms) (most last : ℕ) : Option Term → Found → Type 0 where
   nowhere : Selected W xs most last none found.Nothing
-  body : {p left : ℕ} {b : Term} → Stands W p b → size b ≤ most → Ending W p left last → Selected W xs most last (some (substitution xs 0 b)) (found.At p left)
+  by-listed : {p left : ℕ} {b : Term} → Stands W p b → size b ≤ most → Ending W p left last → Selected W xs most last (some (substitution xs 0 b)) (found.Listed p left)
+  by-default : {p left : ℕ} {b : Term} → Stands W p b → size b ≤ most → Ending W p left last → Selected W xs most last (some b) (found.Default p left)
 
-selected-eqb : {W : List ℕ} {xs : Terms} {most last : ℕ} (x y : Option Term) (q r : Found) (m n : ℕ) → Selected W xs most last x q → Selected W xs most last y r
-    → Selected W xs most last (cond (eqb m n) x y) (cond (eqb m n) q r)
-selected-eqb {W} {xs} {most} {last} x y q r m n s t = go (eqb m n)
-  where
-    go : (b : Bool) → Selected W xs most last (cond b x y) (cond b q r)
-    go true = s
-    go false = t
+-- By the tests of one branch: whether it is the default, whether it has the tag, whether it binds as many as there are arguments.
+by-tests : {W : List ℕ} {xs : Terms} {most last : ℕ} (others : Bool → Option Term) (default tag fits : Bool) {taken : Option Term} {q r o : Found}
+    → Selected W xs most last (others true) q → Selected W xs most last taken r → Selected W xs most last (others false) o
+    → Selected W xs most last (cond default (others default) (cond tag (cond fits taken none) (others default))) (cond default q (cond tag (cond fits r found.Nothing) o))
+by-tests others true tag fits d s o = d
+by-tests others false true true d s o = s
+by-tests others false true false d s o = nowhere
+by-tests others false false fits d s o = o
 
-selected : (t : ℕ) (xs : Terms) (bs : Branches) {W : List ℕ} {at : ℕ} (vs : List ℕ) (most last : ℕ) → size bs ≤ most → at + size bs ≡ last → Packable bs → From W at (words bs ++ vs)
-    → Selected W xs most last (select t xs bs) (branchBody (count bs) t (count xs) at (words bs ++ vs))
+-- The default among the branches is behind the one that was found before them.
+earlier : {W : List ℕ} {xs : Terms} {most last : ℕ} {rest : Option Term} {before : Found} {p : ℕ} {b : Term} (left : ℕ) (o : Option Term) → Selected W xs most last rest before
+    → Stands W p b → size b ≤ most → Ending W p left last
+    → Selected W xs most last (orElse rest (some b)) (orDefault before p left) × (orElse (orElse rest (some b)) o ≡ orElse rest (some b))
+unfolding orElse
+earlier left o nowhere s m e = (by-default s m e, refl)
+earlier left o (by-listed s m e) _ _ _ = (by-listed s m e, refl)
+earlier left o (by-default s m e) _ _ _ = (by-default s m e, refl)
+
+none-behind : {A : Type 0} (o : Option A) → orElse o none ≡ o
+unfolding orElse
+none-behind none = refl
+none-behind (some a) = refl
+
+selected : (t : ℕ) (xs : Terms) (bs : Branches) {W : List ℕ} {at : ℕ} {rest : Option Term} {before : Found} (vs : List ℕ) (most last : ℕ) → Selected W xs most last rest before
+    → size bs ≤ most → at + size bs ≡ last → Packable bs → From W at (words bs ++ vs)
+    → Selected W xs most last (listed (orElse rest (default bs)) t xs bs) (branchBody before (count bs) t (count xs) at (words bs ++ vs))
 unfolding branchBody
-selected t xs end vs most last m l h s = nowhere
-selected t xs (branch u n b bs) vs most last m l h s =
-    let k : suc (size b + size bs) ≤ most = omega (arith, length-append (words b) (words bs)) in
+selected t xs end {rest = rest} vs most last k m l h s = rw (none-behind rest) k
+selected t xs (branch u n b bs) {W} {at} {rest} {before} vs most last k m l h s =
+    let c : suc (size b + size bs) ≤ most = omega (arith, length-append (words b) (words bs)) in
     let q = payloadOf-word branchKind (pack u n) (omega arith) in
     let s′ = rw (append-assoc (words b) (words bs) vs) at (behind-word s) in
+    let here = stands b (words bs ++ vs) s′ (h .1) in
+    let room : at + 1 + size b + size bs ≡ last = omega (arith, length-append (words b) (words bs)) in
+    let ends = ending b bs vs (add-zero (count bs)) (h .1) (h .2) s′ room in
+    let first = earlier (count bs) (default bs) k here (omega arith) ends in
     rw (q, tagOf-pack u n (h .0), countOf-pack u n (h .0), append-assoc (words b) (words bs) vs, span-items b (words bs ++ vs) refl (h .1), skip-term b (words bs ++ vs) (h .1))
-    (selected-eqb _ _ _ _ t u (selected-eqb _ _ _ _ (count xs) n (body (stands b (words bs ++ vs) s′ (h .1)) (omega arith) (ending b bs vs (add-zero (count bs)) (h .1) (h .2) s′ (omega (arith, length-append (words b) (words bs))))) nowhere) (selected t xs bs vs most last (omega arith) (omega (arith, length-append (words b) (words bs))) (h .2) (behind (words b) s′)))
+    (by-tests (λ d. listed (orElse rest (cond d (some b) (default bs))) t xs bs) (isDefault u n) (eqb t u) (eqb (count xs) n)
+    (rw (first .1) at (selected t xs bs vs most last (first .0) (omega arith) room (h .2) (behind (words b) s′)))
+    (by-listed here (omega arith) ends)
+    (selected t xs bs vs most last k (omega arith) room (h .2) (behind (words b) s′)))
 
 -- What contracting a term at its first word, which stands at a position, gives, beside the parts that were found there.
 pub data Root (W : List ℕ) (at : ℕ) (t : Term) : Option (Rule × Term) → Parts → Type 0 where
@@ -128,7 +153,9 @@ root-selected : {W : List ℕ} {at : ℕ} {t : Term} {xs : Terms} {a most : ℕ}
     → ((limit : ℕ) → IndicesWithin limit t → IndicesWithin limit xs) → most + size xs ≤ size t
     → Root W at t (Option·map (λ u. (by-case, u)) o) (withBody a (count xs) r)
 root-selected nowhere s l i m = stuck
-root-selected (body b k e) s l i m = contracts b s l i (omega arith) e
+root-selected (by-listed b k e) s l i m = contracts b s l i (omega arith) e
+root-selected {xs = xs} (by-default {b = e} b k ends) s l i m =
+    rw (← subst-none e) (contracts b (stands nil (words xs ++ s .after) (s .words-at) tt) (omega arith) (λ limit i. tt) (omega arith) ends)
 
 parts-constructor : (n p at : ℕ) (ws : List ℕ)
     → parts at (word caseKind n ∷ word constructorKind p ∷ ws) ≡ caseParts at (word caseKind n) (word constructorKind p) (word constructorKind p ∷ ws)
@@ -137,7 +164,7 @@ parts-constructor n p at ws = rw (kindOf-word caseKind n (omega arith), kindOf-w
 
 caseParts-words : (n t : ℕ) (xs : Terms) (at : ℕ) (vs : List ℕ) → Packable (con t xs)
     → caseParts at (word caseKind n) (word constructorKind (pack t (count xs))) (words (con t xs) ++ vs)
-    ≡ withBody (at + 2) (count xs) (branchBody n t (count xs) (at + 1 + size (con t xs)) vs)
+    ≡ withBody (at + 2) (count xs) (branchBody found.Nothing n t (count xs) (at + 1 + size (con t xs)) vs)
 unfolding caseParts
 caseParts-words n t xs at vs h =
     rw (
@@ -150,7 +177,7 @@ caseParts-words n t xs at vs h =
     )
 
 at-subject : {W : List ℕ} (e : Term) (bs : Branches) {at : ℕ} (vs : List ℕ) → Packable (case e bs) → From W at (words (case e bs) ++ vs) → Root W at (case e bs) (stepAt 0 (case e bs)) (parts at (words (case e bs) ++ vs))
-unfolding stepAt
+unfolding stepAt orElse
 at-subject (var i) bs vs h s = rw (other-subject (count bs) variableKind i _ _ (omega arith) (λ e. omega arith)) stuck
 at-subject (lam b) bs vs h s = rw (other-subject (count bs) abstractionKind 0 _ _ (omega arith) (λ e. omega arith)) stuck
 at-subject (app f g) bs vs h s = rw (other-subject (count bs) applicationKind 0 _ _ (omega arith) (λ e. omega arith)) stuck
@@ -158,7 +185,7 @@ at-subject (con t xs) bs {at} vs h s =
     let two : at + 1 + 1 ≡ at + 2 = omega arith in
     let s′ = rw (append-assoc (words (con t xs)) (words bs) vs) at (behind-word s) in
     rw (append-assoc (words (con t xs)) (words bs) vs, parts-constructor (count bs) (pack t (count xs)) at (words xs ++ (words bs ++ vs)), caseParts-words (count bs) t xs at (words bs ++ vs) (h .1))
-    (root-selected (selected t xs bs vs (size bs) _ (omega arith) (omega (arith, length-append (words (con t xs)) (words bs))) (h .2) (behind (words (con t xs)) s′)) (stands xs (words bs ++ vs) (rw two at (behind-word s′)) (h .1 .1)) (h .1 .0) (λ limit i. i .1 .1)
+    (root-selected (selected t xs bs vs (size bs) _ nowhere (omega arith) (omega (arith, length-append (words (con t xs)) (words bs))) (h .2) (behind (words (con t xs)) s′)) (stands xs (words bs ++ vs) (rw two at (behind-word s′)) (h .1 .1)) (h .1 .0) (λ limit i. i .1 .1)
     (omega (arith, length-append (words (con t xs)) (words bs))))
 at-subject (case e cs) bs vs h s = rw (other-subject (count bs) caseKind (count cs) _ _ (omega arith) (λ e. omega arith)) stuck
 at-subject (num n) bs vs h s = rw (other-subject (count bs) numeralKind n _ _ (omega arith) (λ e. omega arith)) stuck

@@ -9,6 +9,7 @@ ghost use Prim.Native.Nat.{_≤_, _<_};
 ghost use lib.ListN.{length};
 ghost use Rattle.calculus.specs.Words.{workspaceMost};
 ghost use Rattle.words.specs.Room.{Room};
+ghost use Rattle.redex.specs.Rules.{orDefault};
 ghost use Rattle.redex.specs.Plan.{Plans, Numbered, EndTold, Applied, Selected};
 
 // A body that arguments are put into: where it starts and the word that its rewriting stops at, the arguments up to `after` (which means nothing where
@@ -36,10 +37,25 @@ pub struct Redex {
     pub length: usize,
 }
 
-// What a search among the branches of a case finds: the body of one with the number of branches behind it, or that there is none.
+// What a search among the branches of a case finds: the body of the one that lists the tag, or that of the default, with the number of branches behind
+// it, or that there is none.
 pub enum Found {
-    At(usize, u32),
     Nothing,
+    Listed(usize, u32),
+    Default(usize, u32),
+}
+
+impl Found {
+    // The default with this body, where nothing was found before it.
+    pub fn or_default(self, start: usize, left: u32) -> Self
+        ensures { λ r. ⌜ r ≡ orDefault self start left ⌝ }
+    {
+        match self {
+            Found::Nothing => Found::Default(start, left),
+            Found::Listed(body, behind) => Found::Listed(body, behind),
+            Found::Default(body, behind) => Found::Default(body, behind),
+        }
+    }
 }
 
 // Where an argument ends, which occurs so often in the body before it, whose last word is under `last` binders. One that occurs once, as that word,
@@ -105,7 +121,8 @@ pub fn beta(ws: &[u32], n: usize, at: usize, room: &mut [u32]) -> Redex
     }
 }
 
-// The plan for a case whose branch was selected: its body, the constructor's arguments up to `after`, and the number of branches behind it.
+// The plan for a case whose branch was selected: its body, the arguments that it takes, up to `after`, and the number of branches behind it. The default
+// takes none.
 pub fn selected(
     ws: &[u32],
     n: usize,

@@ -6,11 +6,13 @@ use redex::beta;
 use redex::numbered;
 use redex::selected;
 use words::Word;
+use words::pattern::is_default;
 ghost use mathlib.Core.Path.{_≡_};
 ghost use Prim.Native.Nat.{_+_, _≤_, _<_};
 ghost use lib.Dec.{eqb};
 ghost use lib.ListN.{length, getD, drop};
 ghost use Rattle.calculus.specs.Words.{workspaceMost, kindOf};
+ghost use Rattle.redex.specs.declared.Found.the-variants.{Nothing};
 ghost use Rattle.redex.specs.Rules.{branchBody};
 ghost use Rattle.redex.specs.Plan.{At};
 ghost use Rattle.search.specs.Ends.{Ends};
@@ -23,7 +25,8 @@ pub enum Seen {
     Redex(Redex),
 }
 
-// The body of the first of the branches at a position that has the tag, if it binds so many variables. Ends of items before `known` are in the table.
+// Among the branches at a position, the body of the one that lists the tag, if it binds so many variables; where none lists it, that of the default.
+// Ends of items before `known` are in the table.
 fn branch_body(
     ws: &[u32],
     branches: u32,
@@ -34,25 +37,28 @@ fn branch_body(
     ends: &[u32],
 ) -> Found
     requires { ⌜ (length (now ws) ≤ workspaceMost) × Ends (now ws) at known (now ends) ⌝ }
-    ensures { λ r. ⌜ r ≡ branchBody branches tag count at (drop at (now (ws .entry))) ⌝ }
+    ensures { λ r. ⌜ r ≡ branchBody Nothing branches tag count at (drop at (now (ws .entry))) ⌝ }
 {
+    let mut found = Found::Nothing;
     let mut left = branches;
     let mut i = at;
     while i < ws.len() {
         if left == 0 {
-            return Found::Nothing;
+            return found;
         }
         let word = Word(ws[i]);
-        if tag == word.tag() {
+        if is_default(word.payload()) {
+            found = found.or_default(i + 1, left - 1);
+        } else if tag == word.tag() {
             if count == word.count() {
-                return Found::At(i + 1, left - 1);
+                return Found::Listed(i + 1, left - 1);
             }
             return Found::Nothing;
         }
         left -= 1;
         i = end_of(ws, i + 1, known, ends);
     }
-    Found::Nothing
+    found
 }
 
 // What is seen at a case of a constructor: `case` is its word, `constructor` the constructor's.
@@ -79,7 +85,7 @@ fn inspect(
         known,
         room,
     ) {
-        Found::At(start, left) => Seen::Redex(selected(
+        Found::Listed(start, left) => Seen::Redex(selected(
             ws,
             n,
             at,
@@ -87,6 +93,16 @@ fn inspect(
             start,
             after,
             count as usize,
+            room,
+        )),
+        Found::Default(start, left) => Seen::Redex(selected(
+            ws,
+            n,
+            at,
+            left as usize,
+            start,
+            at + 2,
+            0,
             room,
         )),
         Found::Nothing => {

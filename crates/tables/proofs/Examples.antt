@@ -92,6 +92,10 @@ abstractions i (suc k) = (1, 0, suc i, 0) ∷ abstractions (suc i) k
 abbrev branching : (value : ℕ) → List ℕ
 branching v = table ((1, 4, 1, 0) ∷ (4, 0, 2, 0) ∷ (0, 0, 0, 3) ∷ (5, v, 4, 0) ∷ (0, 0, 0, 0) ∷ [])
 
+-- The case of the variable 0 with two branches of these values.
+abbrev branching-twice : (first second : ℕ) → List ℕ
+branching-twice v w = table ((1, 6, 1, 0) ∷ (4, 0, 2, 0) ∷ (0, 0, 0, 3) ∷ (5, v, 4, 5) ∷ (0, 0, 0, 0) ∷ (5, w, 6, 0) ∷ (0, 0, 0, 0) ∷ [])
+
 record Tried : Type 0 where
   identity-loads : loading identity ≡ holding 2 14 (1 ∷ 0 ∷ [])
   identity-written : write (1 ∷ 0 ∷ replicate 14 9) 2 (replicate 12 9) ≡ record { answer = returned 2; table = table identity }
@@ -124,7 +128,10 @@ record Tried : Type 0 where
   tag-1 : loading ((1, 1, 1, 0) ∷ (3, 1, 0, 0) ∷ []) ≡ holding 1 15 (131 ∷ [])
   tag-255 : loading ((1, 1, 1, 0) ∷ (3, 255, 0, 0) ∷ []) ≡ holding 1 15 (32643 ∷ [])
   tag-256 : Refusing 3 (table ((1, 1, 1, 0) ∷ (3, 256, 0, 0) ∷ [])) fresh
-  branch-tag-0 : Refusing 3 (branching 15) fresh
+  default-loads : load (branching 0) fresh ≡ holding 4 12 (12 ∷ 0 ∷ 5 ∷ 0 ∷ [])
+  default-written : write (12 ∷ 0 ∷ 5 ∷ 0 ∷ replicate 12 9) 4 (replicate 20 9) ≡ record { answer = returned 4; table = branching 0 }
+  branch-tag-0-bound-1 : Refusing 3 (branching 1) fresh
+  branch-tag-0-bound-15 : Refusing 3 (branching 15) fresh
   branch-tag-1 : load (branching 16) fresh ≡ holding 4 12 (12 ∷ 0 ∷ 133 ∷ 0 ∷ [])
   branch-tag-255 : load (branching 4095) fresh ≡ holding 4 12 (12 ∷ 0 ∷ 32765 ∷ 0 ∷ [])
   branch-tag-256 : Refusing 3 (branching 4096) fresh
@@ -151,9 +158,10 @@ record Tried : Type 0 where
   branches-16 : numberFits caseKind 17 ≡ false
   root-with-a-next : Refusing 5 (table ((1, 2, 1, 0) ∷ (0, 0, 0, 2) ∷ (0, 0, 0, 0) ∷ [])) fresh
   root-a-branch : Refusing 5 (table ((1, 2, 1, 0) ∷ (5, 16, 2, 0) ∷ (0, 0, 0, 0) ∷ [])) fresh
-  equal-tags : Refusing 5
-      (table ((1, 6, 1, 0) ∷ (4, 0, 2, 0) ∷ (0, 0, 0, 3) ∷ (5, 16, 4, 5) ∷ (0, 0, 0, 0) ∷ (5, 16, 6, 0) ∷ (0, 0, 0, 0) ∷ []))
-      fresh
+  equal-tags : Refusing 5 (branching-twice 16 16) fresh
+  default-first : load (branching-twice 0 16) fresh ≡ holding 6 10 (20 ∷ 0 ∷ 5 ∷ 0 ∷ 133 ∷ 0 ∷ [])
+  default-second : Refusing 5 (branching-twice 16 0) fresh
+  two-defaults : Refusing 5 (branching-twice 0 0) fresh
   free-number-255 : loading ((1, 2, 1, 0) ∷ (1, 0, 2, 0) ∷ (0, 256, 0, 0) ∷ []) ≡ holding 2 14 (1 ∷ 2048 ∷ [])
   free-number-256 : Refusing 6 (table ((1, 2, 1, 0) ∷ (1, 0, 2, 0) ∷ (0, 257, 0, 0) ∷ [])) fresh
   -- Tables that meet two refusals, neighbours in the order of the checks: the earlier one is answered.
@@ -220,7 +228,10 @@ tried =
       tag-1 = refl;
       tag-255 = refl;
       tag-256 = (refl, refl);
-      branch-tag-0 = (refl, refl);
+      default-loads = refl;
+      default-written = refl;
+      branch-tag-0-bound-1 = (refl, refl);
+      branch-tag-0-bound-15 = (refl, refl);
       branch-tag-1 = refl;
       branch-tag-255 = refl;
       branch-tag-256 = (refl, refl);
@@ -248,6 +259,9 @@ tried =
       root-with-a-next = (refl, refl);
       root-a-branch = (refl, refl);
       equal-tags = (refl, refl);
+      default-first = refl;
+      default-second = (refl, refl);
+      two-defaults = (refl, refl);
       free-number-255 = refl;
       free-number-256 = (refl, refl);
       workspace-before-length = (refl, refl);

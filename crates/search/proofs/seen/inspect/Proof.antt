@@ -1,14 +1,16 @@
 -- `inspect` meets its contract: the end of the constructor is where the branches start, and the search among them tells what is seen.
-use Prim.Native.Nat.{_+_}
+use Prim.Native.Nat.{ℕ, _+_, _≤_, _<_}
 use mathlib.Core.Path.{_≡_, refl, sym, _∙_, ap}
 use native.Mathlib.Omega.{arith}
 use borrow.Author.Needs.{needs}
 use lib.ListN.{drop}
 use Rattle.calculus.specs.Words.{kindOf}
+use Rattle.calculus.proofs.SkipLaws.{span-zero}
+use Rattle.words.specs.Limits.{payloadBound}
 use Rattle.redex.specs.declared.Found.{Found}
 use Rattle.redex.specs.Rules.{withBody, parts}
 use Rattle.search.proofs.EndsLaws.{ends-later}
-use Rattle.redex.proofs.PartsTurns.{branchBody-left, parts-case, caseParts-found}
+use Rattle.redex.proofs.PartsTurns.{listed-left, default-left, parts-case, caseParts-found}
 use Rattle.search.proofs.SearchLaws.{inspected-after}
 use Rattle.search.proofs.seen.inspect.Statement.{statement}
 use Rattle.search.proofs.seen.inspect.Tie as tie
@@ -32,29 +34,41 @@ by-words c e =
     ∙ rw (← h .case-is, ← h .constructor-is)
     (caseParts-found _ _ _ _ (c .before .before .before .payload .ensures) (c .before .before .tag .ensures) (c .before .before .before .before .before .before .count .ensures) (c .before .before .before .before .end-of .ensures) (c .branch-body .ensures) e)
 
+-- So many branches are left behind the one that was found.
+few : (c : tie.After-branch-body) {k left : ℕ} → k ≡ c .before .before .before .payload .result → left < k → left ≤ payloadBound
+few c e l =
+    let s = c .before .before .before .before .before .before .before .before .before in
+    omega (arith, c .before .before .before .payload .ensures, s .pre .0 .case-is, c .before .before .before .before .before .before .before .before .shared-slice-known .given (s .args .at) .fits)
+
 selected-requires : tie.Need-selected-requires
 selected-requires c κs =
-    let s = c .before .before .before .before .before .before .before .before .before .before .before .before .before in
+    let f = c .before .before .before .before in
+    let s = f .before .before .before .before .before .before .before .before .before in
     let r = c .before .before .start .given .1 in
     record {
       place = s .pre .0 .place;
-      parts-are = by-words (c .before .before .before .before) r;
-      after-is = inspected-after (s .pre .0) (c .before .before .before .before .before .before .before .before .before .before .count .ensures) (c .before .before .before .before .before .before .before .before .end-of .ensures);
-      few =
-          omega (
-            arith,
-            branchBody-left _ _ _ _ _ (sym r ∙ c .before .before .before .before .branch-body .ensures),
-            c .before .before .before .before .before .before .before .payload .ensures,
-            s .pre .0 .case-is,
-            c .before .before .before .before .before .before .before .before .before .before .before .before .shared-slice-known .given (s .args .at) .fits,
-          );
+      parts-are = by-words f r;
+      after-is = inspected-after (s .pre .0) (f .before .before .before .before .before .before .count .ensures) (f .before .before .before .before .end-of .ensures);
+      few = few f refl (listed-left _ _ _ _ _ (sym r ∙ f .branch-body .ensures));
+    }
+
+selected-requires-2 : tie.Need-selected-requires-2
+selected-requires-2 c κs =
+    let f = c .before .before .before .before in
+    let s = f .before .before .before .before .before .before .before .before .before in
+    let r = c .before .before .start2 .given .1 in
+    record {
+      place = s .pre .0 .place;
+      parts-are = by-words f r;
+      after-is = omega (arith, span-zero (drop (s .args .at + 2) (s .args .ws .now)));
+      few = few f refl (default-left _ _ _ _ _ (sym r ∙ f .branch-body .ensures));
     }
 
 returns : tie.Need-returns
 returns c = (by-words (c .before .before .before) (c .before .enum-told .given .1), refl, λ k. c .if1 .taken)
 
-returns-3 : tie.Need-returns-3
-returns-3 c =
+returns-4 : tie.Need-returns-4
+returns-4 c =
     let h = c .before .before .before .before .before .before .before .before .before .before .before .before .pre .0 in
     (by-words (c .before .before .before) (c .before .enum-told .given .1), refl, (ap kindOf (sym (h .case-is)) ∙ h .case, ap kindOf (sym (h .constructor-is)) ∙ h .constructor), c .if1 .left)
 
@@ -74,8 +88,14 @@ inspect-spec =
     selected-requires
     (λ c. search needs)
     (λ c. search needs)
+    (λ c. search needs)
+    selected-requires-2
+    (λ c. search needs)
+    (λ c. search needs)
     returns
     (λ c. search needs)
     (λ c. search needs)
     (λ c. search needs)
-    returns-3)
+    (λ c. search needs)
+    (λ c. search needs)
+    returns-4)
