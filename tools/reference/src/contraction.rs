@@ -79,15 +79,27 @@ pub fn contractum(term: &Term) -> Option<Term> {
             scrutinee,
             branches,
         } => match scrutinee.as_ref() {
-            Term::Con { tag, args } => branches
-                .iter()
-                .find(|branch| branch.tag == *tag)
-                .filter(|branch| branch.bound as usize == args.len())
-                .map(|branch| substitute(&branch.body, args)),
+            Term::Con { tag, args } => taken(branches, *tag, args),
             _ => None,
         },
         Term::Num(numeral) => Some(church(*numeral)),
         _ => None,
+    }
+}
+
+/// What a case of a constructor becomes. A branch of the tag decides alone,
+/// taken or not; where there is none, a default's body stays as it is.
+fn taken(branches: &[Branch], tag: u32, args: &[Term]) -> Option<Term> {
+    let mut listed = branches.iter().filter(|branch| !branch.is_default());
+    match listed.find(|branch| branch.tag == tag) {
+        Some(branch) => {
+            let fits = branch.bound as usize == args.len();
+            fits.then(|| substitute(&branch.body, args))
+        }
+        None => {
+            let default = branches.iter().find(|branch| branch.is_default());
+            default.map(|branch| branch.body.clone())
+        }
     }
 }
 

@@ -6,7 +6,7 @@ use crate::term::{
     abs, app, branch, case, con, num, tags_rise, var, Branch, Term, LARGEST_INDEX, LARGEST_NUMERAL,
     MOST, TAGS, WORKSPACE,
 };
-use crate::words::{kind, tag_and_count, COUNTS};
+use crate::words::{kind, tag_and_bound, COUNTS};
 
 /// Words of a record, the header included.
 pub const RECORD: usize = 4;
@@ -83,7 +83,7 @@ fn value_fits(record: &Record) -> bool {
     match record.kind {
         kind::VARIABLE => record.value <= LARGEST_INDEX,
         kind::CONSTRUCTOR => TAGS.contains(&record.value),
-        kind::BRANCH => tag_and_count(record.value).is_some(),
+        kind::BRANCH => tag_and_bound(record.value).is_some(),
         kind::ABSTRACTION | kind::APPLICATION | kind::CASE => record.value == 0,
         kind::NUMERAL => record.value <= LARGEST_NUMERAL,
         _ => false,
@@ -146,7 +146,7 @@ impl Records {
         let record = self.0[index];
         match (record.kind, self.children(record).as_slice()) {
             (kind::BRANCH, [body]) => {
-                let (tag, bound) = tag_and_count(record.value)?;
+                let (tag, bound) = tag_and_bound(record.value)?;
                 Some(branch(tag, bound, self.term(*body)?))
             }
             _ => None,

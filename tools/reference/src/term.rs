@@ -4,7 +4,7 @@ use std::ops::RangeInclusive;
 
 /// Lengths that a workspace may have, in words.
 pub const WORKSPACE: RangeInclusive<usize> = 16..=2_048;
-/// Tags of constructors and branches.
+/// Tags of constructors, and of branches other than a default.
 pub const TAGS: RangeInclusive<u32> = 1..=255;
 /// The most arguments, branches or variables bound by a branch.
 pub const MOST: usize = 15;
@@ -33,7 +33,9 @@ pub enum Term {
     Num(u32),
 }
 
-/// A branch of a case; its body stands under `bound` binders.
+/// A branch of a case; its body stands under `bound` binders. With tag 0 and
+/// no binder it is a default, the branch for the constructors that no other
+/// branch is for.
 #[derive(Clone, Debug, PartialEq, Eq)]
 pub struct Branch {
     pub tag: u32,
@@ -71,6 +73,17 @@ pub fn num(numeral: u32) -> Term {
 
 pub fn branch(tag: u32, bound: u32, body: Term) -> Branch {
     Branch { tag, bound, body }
+}
+
+/// A default.
+pub fn default(body: Term) -> Branch {
+    branch(0, 0, body)
+}
+
+impl Branch {
+    pub fn is_default(&self) -> bool {
+        (self.tag, self.bound) == (0, 0)
+    }
 }
 
 impl Term {

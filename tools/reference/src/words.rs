@@ -114,7 +114,7 @@ impl Reader<'_> {
     fn branch(&mut self) -> Option<Branch> {
         match self.next()? {
             (kind::BRANCH, payload) => {
-                let (tag, bound) = tag_and_count(payload)?;
+                let (tag, bound) = tag_and_bound(payload)?;
                 Some(branch(tag, bound, self.term()?))
             }
             _ => None,
@@ -122,9 +122,17 @@ impl Reader<'_> {
     }
 }
 
-/// The two numbers in a constructor's or branch's payload; the count is
-/// within its limit by the division.
-pub fn tag_and_count(payload: u32) -> Option<(u32, u32)> {
+/// The two numbers in a constructor's payload; the count is within its limit
+/// by the division.
+fn tag_and_count(payload: u32) -> Option<(u32, u32)> {
     let tag = payload / COUNTS;
     TAGS.contains(&tag).then_some((tag, payload % COUNTS))
+}
+
+/// The two numbers in a branch's payload; those of a default are both 0.
+pub fn tag_and_bound(payload: u32) -> Option<(u32, u32)> {
+    match payload {
+        0 => Some((0, 0)),
+        _ => tag_and_count(payload),
+    }
 }

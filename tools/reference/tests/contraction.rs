@@ -6,7 +6,7 @@ mod common;
 use common::{answer, different, next, pressed, term};
 use reference::contraction::{church, contractum, shift, step, substitute};
 use reference::press::Verdict::{Budget, Same};
-use reference::term::{abs, app, branch, case, con, num, var};
+use reference::term::{abs, app, branch, case, con, default, num, var};
 use reference::words::words;
 
 #[test]
@@ -103,6 +103,130 @@ fn where_a_tag_is_repeated_its_first_branch_decides() {
     // With one argument it is the first that contracts.
     let redex = case(con(1, vec![var(7)]), branches);
     assert_eq!(contractum(&redex), Some(var(7)));
+}
+
+#[test]
+fn a_default_is_taken_where_no_branch_has_the_tag() {
+    // Alone and beside others: case 3() of _ -> f7, and of _ -> f7, 1/0 -> f1,
+    // 4/2 -> f2. The default's word is 5, constructor 3 without arguments is
+    // 3 x 16 x 8 + 3 = 387, the branches are 133 and (4 x 16 + 2) x 8 + 5 = 533.
+    assert_eq!(next(&[12, 387, 5, 56]), Some(vec![56]));
+    assert_eq!(next(&[28, 387, 5, 56, 133, 8, 533, 32]), Some(vec![56]));
+    // Below, between and above the listed tags, the last one included.
+    let others = |tag| branch(tag, 0, var(1));
+    let arms = vec![default(var(7)), others(3), others(200)];
+    for tag in [1, 2, 4, 199, 201, 255] {
+        assert_eq!(step(&case(con(tag, vec![]), arms.clone())), Some(var(7)));
+    }
+}
+
+#[test]
+fn a_default_drops_the_arguments_and_moves_no_index() {
+    // case 3(f8, f9) of _ -> 0 1 2: the body stands as it is, whatever the
+    // count of arguments.
+    let body = app(app(var(0), var(1)), var(2));
+    for count in [0, 1, 2, 15] {
+        let args = (0..count).map(|i| var(8 + i)).collect();
+        let redex = case(con(3, args), vec![default(body.clone())]);
+        assert_eq!(step(&redex), Some(body.clone()), "{count}");
+    }
+    // Under a binder too: \ case 3(0) of _ -> 0 1 becomes \ 0 1.
+    assert_eq!(next(&[1, 12, 395, 0, 5, 2, 0, 8]), Some(vec![1, 2, 0, 8]));
+    // An endless argument is thrown away, and so is a numeral.
+    let twice = abs(app(var(0), var(0)));
+    let args = vec![app(twice.clone(), twice), num(31)];
+    let redex = case(con(3, args), vec![default(var(0))]);
+    assert_eq!(step(&redex), Some(var(0)));
+}
+
+#[test]
+fn a_listed_tag_decides_beside_a_default() {
+    let arms = vec![default(var(7)), branch(1, 1, app(var(0), var(1)))];
+    // With its count the listed branch is taken: f5 f0.
+    let fitting = case(con(1, vec![var(5)]), arms.clone());
+    assert_eq!(step(&fitting), Some(app(var(5), var(0))));
+    // With another count the case is stuck, in both directions.
+    for args in [vec![], vec![var(5), var(6)]] {
+        let stuck = case(con(1, args), arms.clone());
+        assert_eq!(contractum(&stuck), None);
+        assert_eq!(step(&stuck), None);
+    }
+    // A listed branch that binds nothing is no default.
+    let arms = vec![default(var(7)), branch(1, 0, var(8))];
+    assert_eq!(step(&case(con(1, vec![]), arms.clone())), Some(var(8)));
+    assert_eq!(step(&case(con(1, vec![var(0)]), arms)), None);
+}
+
+#[test]
+fn a_default_waits_for_a_constructor() {
+    let of = |subject| case(subject, vec![default(var(7))]);
+    let redex = || app(abs(var(0)), con(3, vec![]));
+    for subject in [
+        var(0),
+        abs(var(0)),
+        app(var(0), var(1)),
+        app(con(3, vec![]), var(0)),
+        case(var(0), vec![]),
+        of(var(0)),
+    ] {
+        assert_eq!(step(&of(subject.clone())), None, "{subject:?}");
+    }
+    // A redex in the subject comes first, then the default is taken.
+    assert_eq!(contractum(&of(redex())), None);
+    assert_eq!(step(&of(redex())), Some(of(con(3, vec![]))));
+    assert_eq!(step(&of(of(con(3, vec![])))), Some(of(var(7))));
+    // A numeral becomes an abstraction, and the case is stuck.
+    assert_eq!(contractum(&of(num(0))), None);
+    assert_eq!(next(&[12, 6, 5, 56]), Some(vec![12, 1, 1, 0, 5, 56]));
+    assert_eq!(next(&[12, 1, 1, 0, 5, 56]), None);
+}
+
+#[test]
+fn the_body_of_a_default_comes_first_of_the_branches() {
+    // A stuck case: subject, the default's body, then the other body.
+    let redex = || app(abs(var(0)), var(0));
+    let of = |subject, first, second| case(subject, vec![default(first), branch(1, 2, second)]);
+    let stuck = of(var(0), redex(), num(0));
+    let one = of(var(0), var(0), num(0));
+    assert_eq!(step(&of(redex(), redex(), num(0))), Some(stuck.clone()));
+    assert_eq!(step(&stuck), Some(one.clone()));
+    assert_eq!(step(&one), Some(of(var(0), var(0), church(0))));
+    // Stuck by the count: case 1() of _ -> 1, 1/2 -> f0, with numeral 1.
+    assert_eq!(
+        next(&[20, 131, 5, 14, 149, 16]),
+        Some(vec![20, 131, 5, 1, 1, 2, 8, 0, 149, 16])
+    );
+    // A default that is taken is taken with its redexes.
+    let taken = case(con(3, vec![redex()]), vec![default(redex())]);
+    assert_eq!(step(&taken), Some(redex()));
+}
+
+#[test]
+fn a_default_is_shifted_and_filled_as_any_branch() {
+    // (\ case 0 of _ -> 0 1) f3: no binder is crossed, so f3 stays 3.
+    let redex = app(
+        abs(case(var(0), vec![default(app(var(0), var(1)))])),
+        var(3),
+    );
+    let result = case(var(3), vec![default(app(var(3), var(0)))]);
+    assert_eq!(step(&redex), Some(result.clone()));
+    let moved = case(var(5), vec![default(app(var(5), var(2)))]);
+    assert_eq!(shift(&result, 2), moved);
+}
+
+#[test]
+fn in_trees_of_no_workspace_the_first_default_is_taken() {
+    let arms = vec![branch(2, 0, var(1)), default(var(7)), default(var(8))];
+    assert_eq!(step(&case(con(3, vec![]), arms.clone())), Some(var(7)));
+    assert_eq!(step(&case(con(2, vec![]), arms.clone())), Some(var(1)));
+    // A constructor of tag 0 has no listed branch but one that binds.
+    assert_eq!(step(&case(con(0, vec![]), arms)), Some(var(7)));
+    let arms = vec![default(var(7)), branch(0, 1, var(0))];
+    assert_eq!(
+        step(&case(con(0, vec![var(4)]), arms.clone())),
+        Some(var(4))
+    );
+    assert_eq!(step(&case(con(0, vec![]), arms)), None);
 }
 
 #[test]
@@ -283,6 +407,21 @@ fn a_spent_budget_is_not_different() {
     // (\ 0) f0 against f1: Different only once the contraction is made.
     assert_eq!(pressed(&[2, 1, 0, 0], &[8], 16, 0), answer(Budget, 0, 4, 1));
     assert_eq!(pressed(&[2, 1, 0, 0], &[8], 16, 1), different(1, 1, 1, 0));
+}
+
+#[test]
+fn a_default_counts_as_any_contraction() {
+    // case 3(Loop) of _ -> f0 against f0: 395 is constructor 3 with one
+    // argument.
+    let left = [&[12, 395][..], &[2, 1, 2, 0, 0, 1, 2, 0, 0], &[5, 0]].concat();
+    assert_eq!(pressed(&left, &[0], 16, 0), answer(Budget, 0, 13, 1));
+    assert_eq!(pressed(&left, &[0], 16, 1), answer(Same, 1, 1, 1));
+    assert_eq!(pressed(&left, &[8], 16, 1), different(1, 1, 1, 0));
+    // Stuck by the count: case 1() of _ -> f0, 1/1 -> f0 against f0.
+    assert_eq!(
+        pressed(&[20, 131, 5, 0, 141, 8], &[0], 16, 9),
+        different(0, 6, 1, 0)
+    );
 }
 
 #[test]

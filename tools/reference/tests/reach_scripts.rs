@@ -278,12 +278,12 @@ impl Reader<'_> {
             (1, _) => return Err("an abstraction with a payload".to_string()),
             (2, _) => return Err("an application with a payload".to_string()),
             (3, _) => {
-                in_range("constructor", payload)?;
+                in_range("constructor of tag 0", "constructor", payload)?;
                 (0..payload % 16).try_for_each(|_| self.term(binders))?;
             }
             (4, 0..=15) => {
                 self.term(binders)?;
-                let mut last = 0;
+                let mut last = None;
                 (0..payload).try_for_each(|_| self.branch(binders, &mut last))?;
             }
             (4, 16) => return Err("16 branches".to_string()),
@@ -297,25 +297,29 @@ impl Reader<'_> {
         Ok(())
     }
 
-    fn branch(&mut self, binders: u32, last: &mut u32) -> Result<(), String> {
+    fn branch(&mut self, binders: u32, last: &mut Option<u32>) -> Result<(), String> {
         let (kind, payload) = self.next()?;
         if kind != 5 {
             return Err("no branch in its place".to_string());
         }
-        in_range("branch", payload)?;
-        let tag = payload / 16;
-        if tag <= *last {
-            let tags = if tag == *last { "equal" } else { "falling" };
-            return Err(format!("{tags} tags"));
+        if payload > 0 {
+            in_range("branch of tag 0 that binds", "branch", payload)?;
         }
-        *last = tag;
-        self.term(binders + payload % 16)
+        let tag = payload / 16;
+        match last.replace(tag) {
+            Some(0) if tag == 0 => Err("two defaults, side by side".to_string()),
+            Some(_) if tag == 0 => Err("a default behind another branch".to_string()),
+            Some(before) if tag == before => Err("equal tags".to_string()),
+            Some(before) if tag < before => Err("falling tags".to_string()),
+            _ => self.term(binders + payload % 16),
+        }
     }
 }
 
-fn in_range(of: &str, payload: u32) -> Result<(), String> {
+/// Tests a tag; `of_0` has it too small, `of` too large.
+fn in_range(of_0: &str, of: &str, payload: u32) -> Result<(), String> {
     match payload / 16 {
-        0 => Err(format!("a {of} of tag 0")),
+        0 => Err(format!("a {of_0}")),
         1..=255 => Ok(()),
         256 => Err(format!("a {of} of tag 256")),
         _ => Err(format!("a {of} of a larger tag")),
@@ -377,11 +381,13 @@ fn words_that_are_no_term_break_every_rule() {
         "more than 16 branches",
         "a branch in a term's place",
         "no branch in its place",
-        "a branch of tag 0",
+        "a branch of tag 0 that binds",
         "a branch of tag 256",
         "a branch of a larger tag",
         "equal tags",
         "falling tags",
+        "two defaults, side by side",
+        "a default behind another branch",
         "free number 256",
         "a larger free number",
         "the largest index",

@@ -169,7 +169,7 @@ fn refusal_8() {
 }
 
 /// Ways in which a kind or value is wrong.
-const VALUES: [&str; 19] = [
+const VALUES: [&str; 20] = [
     "kind 7",
     "far kind",
     "index just above",
@@ -177,8 +177,9 @@ const VALUES: [&str; 19] = [
     "tag 0",
     "tag just above",
     "tag far above",
-    "branch's tag 0",
-    "branch's tag 0 of none bound",
+    "branch's tag 0 of one bound",
+    "branch's tag 0 of several bound",
+    "branch's tag 0 of fifteen bound",
     "branch's tag just above",
     "branch's tag far above",
     "abstraction's value",
@@ -197,7 +198,8 @@ fn wrong_value(record: &Record) -> Option<String> {
     let (name, wrong) = match record.kind {
         VARIABLE => ("index", record.value > 32_767),
         CONSTRUCTOR => ("tag", !(1..=255).contains(&record.value)),
-        BRANCH => ("branch's tag", !(1..=255).contains(&tag)),
+        // Value 0 is a default's.
+        BRANCH => ("branch's tag", !matches!(record.value, 0 | 16..=4_095)),
         ABSTRACTION => ("abstraction's value", record.value != 0),
         APPLICATION => ("application's value", record.value != 0),
         CASE => ("case's value", record.value != 0),
@@ -210,8 +212,9 @@ fn wrong_value(record: &Record) -> Option<String> {
         (VARIABLE, 32_768) | (CONSTRUCTOR, 256) | (NUMERAL, 32) => format!("{name} just above"),
         (BRANCH, _) if tag == 256 => format!("{name} just above"),
         (CONSTRUCTOR, 0) => format!("{name} 0"),
-        (BRANCH, 0) => format!("{name} 0 of none bound"),
-        (BRANCH, _) if tag == 0 => format!("{name} 0"),
+        (BRANCH, 1) => format!("{name} 0 of one bound"),
+        (BRANCH, 15) => format!("{name} 0 of fifteen bound"),
+        (BRANCH, _) if tag == 0 => format!("{name} 0 of several bound"),
         (VARIABLE | CONSTRUCTOR | BRANCH | NUMERAL, _) => format!("{name} far above"),
         _ => name.to_string(),
     })
@@ -319,7 +322,11 @@ fn wrong_children(of: &Record, children: &[&Record]) -> Option<String> {
     }
     if count > most {
         let by = if count == most + 1 { "one" } else { "some" };
-        return Some(format!("{name} of {by} too many"));
+        let with = match of.kind == CASE && is_default(children[1]) {
+            true => ", a default among them",
+            false => "",
+        };
+        return Some(format!("{name} of {by} too many{with}"));
     }
     if first_is_branch {
         return Some(format!("{name} of a branch first"));
@@ -338,9 +345,19 @@ fn wrong_children(of: &Record, children: &[&Record]) -> Option<String> {
     wrong_tags(&children[1..]).map(str::to_string)
 }
 
+fn is_default(record: &Record) -> bool {
+    (record.kind, record.value) == (BRANCH, 0)
+}
+
 /// What is wrong with the tags of branches, if anything.
 fn wrong_tags(branches: &[&Record]) -> Option<&'static str> {
     branches.windows(2).find_map(|pair| {
+        if is_default(pair[1]) {
+            return Some(match is_default(pair[0]) {
+                true => "case of two defaults, side by side",
+                false => "case of a default behind another branch",
+            });
+        }
         let tags = [pair[0].value / 16, pair[1].value / 16];
         let rise = pair[0].value % 16 < pair[1].value % 16;
         match (tags[0].cmp(&tags[1]), rise) {
@@ -354,7 +371,7 @@ fn wrong_tags(branches: &[&Record]) -> Option<&'static str> {
 }
 
 /// Ways in which records are not a term's.
-const STRUCTURES: [&str; 39] = [
+const STRUCTURES: [&str; 42] = [
     "root a branch",
     "root with a next",
     "root with a next that is a branch",
@@ -375,6 +392,7 @@ const STRUCTURES: [&str; 39] = [
     "constructor of a branch later",
     "case of 0",
     "case of one too many",
+    "case of one too many, a default among them",
     "case of some too many",
     "case of a branch first",
     "case of a term later",
@@ -383,6 +401,8 @@ const STRUCTURES: [&str; 39] = [
     "case of equal tags, the bound counts rise",
     "case of falling tags",
     "case of falling tags, the bound counts rise",
+    "case of two defaults, side by side",
+    "case of a default behind another branch",
     "branch of 0",
     "branch of one too many",
     "branch of a branch first",

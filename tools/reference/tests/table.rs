@@ -157,7 +157,8 @@ fn refusal_3_by_the_value() {
             &[[1, 1, 2, 0], VARIABLE],
             &[[2, 1, 2, 0], [0, 0, 0, 3], VARIABLE],
             &[[4, 1, 2, 0], VARIABLE],
-            // Branches with tag 0 or 256.
+            // Branches with tag 0 that bind, or with tag 256.
+            &[[4, 0, 2, 0], [0, 0, 0, 3], [5, 1, 4, 0], VARIABLE],
             &[[4, 0, 2, 0], [0, 0, 0, 3], [5, 15, 4, 0], VARIABLE],
             &[[4, 0, 2, 0], [0, 0, 0, 3], [5, 4_096, 4, 0], VARIABLE],
             &[[6, 32, 0, 0]],
@@ -170,6 +171,7 @@ fn refusal_3_by_the_value() {
     assert_accepted(&[
         &[[3, 1, 0, 0]],
         &[[3, 255, 0, 0]],
+        &[[4, 0, 2, 0], [0, 0, 0, 3], [5, 0, 4, 0], VARIABLE],
         &[[4, 0, 2, 0], [0, 0, 0, 3], [5, 16, 4, 0], VARIABLE],
         // Tag 255 binding 15 is 255 x 16 + 15.
         &[[4, 0, 2, 0], [0, 0, 0, 3], [5, 4_095, 4, 0], VARIABLE],
@@ -314,6 +316,51 @@ fn refusal_5_by_the_branches() {
 }
 
 #[test]
+fn refusal_5_by_the_place_of_a_default() {
+    // A default is counted: fourteen others beside it are the most.
+    let with_default = |others: u32| (0..=others).map(|tag| 16 * tag).collect::<Vec<_>>();
+    for others in [0, 1, 14] {
+        let table = case_with(&with_default(others));
+        assert_eq!(loaded(&table, 64).0, Ok(2 * others + 4));
+    }
+    let table = case_with(&with_default(15));
+    assert_eq!(loaded(&table, 64).0, Err(Refusal::Structure));
+    for values in [
+        &[0, 0][..],
+        &[16, 0],
+        &[255 * 16, 0],
+        &[16, 0, 32],
+        &[16, 32, 0],
+        &[0, 0, 16],
+        &[0, 16, 0],
+    ] {
+        let answer = load(&case_with(values));
+        assert_eq!(answer, Err(Refusal::Structure), "{values:?}");
+    }
+    // Where tag 0 binds something it is 3 before 5, first or not.
+    for values in [&[1][..], &[0, 1], &[16, 15], &[15, 16], &[16, 0, 1]] {
+        let answer = load(&case_with(values));
+        assert_eq!(answer, Err(Refusal::Value), "{values:?}");
+    }
+    // A default as the root, as a scrutinee, without a body and with two.
+    assert_refused(
+        Refusal::Structure,
+        &[
+            &[[5, 0, 2, 0], VARIABLE],
+            &[[4, 0, 2, 0], [5, 0, 3, 0], VARIABLE],
+            &[[4, 0, 2, 0], [0, 0, 0, 3], [5, 0, 0, 0]],
+            &[
+                [4, 0, 2, 0],
+                [0, 0, 0, 3],
+                [5, 0, 4, 0],
+                [0, 0, 0, 5],
+                VARIABLE,
+            ],
+        ],
+    );
+}
+
+#[test]
 fn refusal_5_by_the_kind_of_children() {
     assert_refused(
         Refusal::Structure,
@@ -385,7 +432,7 @@ fn refusal_5_over_the_whole_table_before_6() {
 fn refusal_6_by_the_place() {
     type WithIndex = fn(u32) -> Vec<u32>;
     // Tables with an index as a variable under so many binders.
-    let places: [(u32, WithIndex); 6] = [
+    let places: [(u32, WithIndex); 7] = [
         (0, |i| table(&[[0, i, 0, 0]])),
         (1, |i| table(&[[1, 0, 2, 0], [0, i, 0, 0]])),
         (0, |i| table(&[[3, 9, 2, 0], [0, 0, 0, 3], [0, i, 0, 0]])),
@@ -394,6 +441,10 @@ fn refusal_6_by_the_place() {
         }),
         (0, |i| {
             table(&[[4, 0, 2, 0], [0, i, 0, 3], [5, 31, 4, 0], VARIABLE])
+        }),
+        // The body of a default.
+        (0, |i| {
+            table(&[[4, 0, 2, 0], [0, 0, 0, 3], [5, 0, 4, 0], [0, i, 0, 0]])
         }),
         (3, |i| {
             table(&[
@@ -463,6 +514,31 @@ fn numerals_are_carried_as_records_of_kind_6() {
     let wrong = workspace(&[262], 16);
     assert_eq!(write(&wrong, 1, &mut out), Err(Refusal::NotATerm));
     assert_eq!(out, [7; 8]);
+}
+
+#[test]
+fn a_default_is_carried_as_a_branch_of_value_0() {
+    // case f2 of _ -> f0, 1/2 -> 1: words 20,16,5,0,149,8.
+    let records = [
+        [4, 0, 2, 0],
+        [0, 2, 0, 3],
+        [5, 0, 4, 5],
+        [0, 0, 0, 0],
+        [5, 18, 6, 0],
+        [0, 1, 0, 0],
+    ];
+    let stored = table(&records);
+    let (length, words) = loaded(&stored, 16);
+    assert_eq!(length, Ok(6));
+    assert_eq!(words[..6], [20, 16, 5, 0, 149, 8]);
+    let mut written = vec![7; 28];
+    assert_eq!(write(&words, 6, &mut written), Ok(6));
+    assert_eq!(written, stored);
+    // Behind the other branch it is no term to be written.
+    let mut out = [7; 28];
+    let wrong = workspace(&[20, 16, 149, 8, 5, 0], 16);
+    assert_eq!(write(&wrong, 6, &mut out), Err(Refusal::NotATerm));
+    assert_eq!(out, [7; 28]);
 }
 
 #[test]

@@ -1,6 +1,6 @@
 //! Which words are one whole term; a word is payload x 8 + kind.
 
-use reference::term::{abs, app, branch, case, con, num, var, Term};
+use reference::term::{abs, app, branch, case, con, default, num, var, Term};
 use reference::words::{read, words};
 
 const BRANCH_1_0: u32 = 16 * 8 + 5;
@@ -78,8 +78,11 @@ fn payloads_of_abstraction_and_application() {
 
 #[test]
 fn tags_of_constructors() {
-    assert_no_term(&[3]);
-    assert_no_term(&[8 + 3, 0]);
+    // Tag 0 is none, with 0 to 15 arguments.
+    for count in 0..=15 {
+        let list = [&[8 * count + 3][..], &vec![0; count as usize]].concat();
+        assert_no_term(&list);
+    }
     assert_term(&[16 * 8 + 3], con(1, vec![]));
     assert_term(&[255 * 16 * 8 + 3], con(255, vec![]));
     assert_no_term(&[256 * 16 * 8 + 3]);
@@ -100,6 +103,15 @@ fn fifteen_branches() {
     };
     assert!(read(&list(15)).is_some());
     assert_no_term(&list(16));
+    // A default is counted: fourteen others beside it are the most.
+    let with_default = |others: u32| {
+        let mut words = list(others);
+        words[0] += 8;
+        words.splice(2..2, [5, 0]);
+        words
+    };
+    assert!(read(&with_default(14)).is_some());
+    assert_no_term(&with_default(15));
 }
 
 #[test]
@@ -115,12 +127,49 @@ fn branches_stand_only_in_a_case() {
 #[test]
 fn tags_of_branches() {
     let two = |first: u32, second: u32| [20, 0, first * 128 + 5, 0, second * 128 + 5, 0];
+    assert!(read(&two(0, 1)).is_some());
+    assert!(read(&two(0, 255)).is_some());
     assert!(read(&two(1, 2)).is_some());
     assert!(read(&two(254, 255)).is_some());
     assert_no_term(&two(2, 2));
     assert_no_term(&two(3, 2));
-    assert_no_term(&two(0, 1));
+    assert_no_term(&two(0, 0));
+    assert_no_term(&two(1, 0));
+    assert_no_term(&two(255, 0));
     assert_no_term(&two(255, 256));
+}
+
+#[test]
+fn a_default_binds_nothing_and_stands_first() {
+    assert_term(&[12, 0, 5, 8], case(var(0), vec![default(var(1))]));
+    let arms = vec![default(num(2)), branch(1, 2, var(1))];
+    assert_term(&[20, 131, 5, 22, 149, 8], case(con(1, vec![]), arms));
+    // Tag 0 with 1 to 15 bound is none, first, later or alone.
+    for bound in 1..=15 {
+        let word = 8 * bound + 5;
+        assert_no_term(&[12, 0, word, 0]);
+        assert_no_term(&[20, 0, word, 0, BRANCH_1_0, 0]);
+        assert_no_term(&[20, 0, BRANCH_1_0, 0, word, 0]);
+        assert_no_term(&[20, 0, 5, 0, word, 0]);
+    }
+    // Between others and last; twice, side by side or not.
+    let (one, two) = (BRANCH_1_0, 2 * 128 + 5);
+    assert_no_term(&[28, 0, one, 0, 5, 0, two, 0]);
+    assert_no_term(&[28, 0, one, 0, two, 0, 5, 0]);
+    assert_no_term(&[28, 0, 5, 0, 5, 0, one, 0]);
+    assert_no_term(&[28, 0, 5, 0, one, 0, 5, 0]);
+    assert!(read(&[28, 0, 5, 0, one, 0, two, 0]).is_some());
+    // Each case has its own: case (case 0 of _ -> 0) of _ -> case 0 of _ -> 0.
+    assert!(read(&[12, 12, 0, 5, 0, 5, 12, 0, 5, 0]).is_some());
+    // It stands only in a case, and only with a body.
+    assert_no_term(&[5, 0]);
+    assert_no_term(&[1, 5, 0]);
+    assert_no_term(&[12, 5, 0, 5, 0]);
+    assert_no_term(&[12, 0, 5]);
+    // Its body is under no binder of its own.
+    assert!(read(&[12, 0, 5, 255 * 8]).is_some());
+    assert_no_term(&[12, 0, 5, 256 * 8]);
+    assert!(read(&[1, 12, 0, 5, 256 * 8]).is_some());
 }
 
 #[test]

@@ -167,7 +167,7 @@ fn case_with(children: Vec<Node>) -> Node {
 fn malformed(random: &mut Random) -> Node {
     let many = random.pick(&[MOST + 1, MOST + 1, MOST + 2]);
     let inner = |children| node(kind::BRANCH, COUNTS, children);
-    match random.below(32) {
+    match random.below(36) {
         0 => node(kind::VARIABLE, 0, vec![leaf()]),
         1 => node(kind::ABSTRACTION, 0, Vec::new()),
         2 => node(kind::ABSTRACTION, 0, vec![leaf(), leaf()]),
@@ -194,8 +194,28 @@ fn malformed(random: &mut Random) -> Node {
         27 | 28 => numeral_with_children(random),
         29 => node(kind::NUMERAL, 0, arms(&[1])),
         30 => case_with(vec![node(kind::NUMERAL, COUNTS, Vec::new())]),
+        31 | 32 => misplaced_default(random),
+        // A default and as many others as a case has branches.
+        33 | 34 => case_with(arms(&RISING)),
         _ => arm(1, 0),
     }
+}
+
+/// Tags of sixteen branches, a default's first.
+const RISING: [u32; MOST + 1] = [0, 1, 2, 3, 4, 5, 6, 7, 8, 9, 10, 11, 12, 13, 14, 15];
+
+/// A case with a default that is not first, or with a second one.
+fn misplaced_default(random: &mut Random) -> Node {
+    let tags: [&[u32]; 7] = [
+        &[1, 0],
+        &[255, 0],
+        &[0, 0],
+        &[1, 0, 2],
+        &[1, 2, 0],
+        &[0, 1, 0],
+        &[0, 0, 1],
+    ];
+    case_with(arms(random.pick(&tags)))
 }
 
 /// Replaces the node at `place`, counting those that are not branches.
@@ -287,7 +307,7 @@ fn break_value(random: &mut Random, words: &mut [u32]) {
     words[own + 1] = match words[own] {
         kind::VARIABLE => random.pick(&[LARGEST_INDEX + 1, LARGEST_INDEX + 2, large]),
         kind::CONSTRUCTOR => random.pick(&[0, 256, 257, large]),
-        kind::BRANCH => random.pick(&[0, 1, 15, 256 * COUNTS, 256 * COUNTS + 1, large]),
+        kind::BRANCH => random.pick(&[1, 2, 15, 256 * COUNTS, 256 * COUNTS + 1, large]),
         kind::NUMERAL if random.percent(70) => large_numeral(random),
         kind::NUMERAL => large,
         _ => random.pick(&[1, COUNTS, large]),
