@@ -618,6 +618,9 @@ fn text_errors_name_the_term_and_the_place() {
         ("%32", 2, "a numeral, at most 31", "32"),
         ("%01", 2, "a numeral without leading zeros", "01"),
         ("0 %", 4, "a numeral", "the end"),
+        ("?0{_.1:0}", 5, "`:` and the branch's body", "`.`"),
+        ("?0{_0:0}", 5, "`:` and the branch's body", "`0`"),
+        ("?0{1.0:0,*:0}", 10, "a branch's tag or `_`", "`*`"),
     ] {
         let caret = " ".repeat(column + 3);
         assert_eq!(
@@ -729,6 +732,21 @@ fn tables_words_and_text_need_no_program() {
         printed("2,70,22")
     );
     assert_eq!(judge_in(root, &["--text", "2,70,22"]), printed("%8 %2"));
+    // Records: case 1, constructor 2, branch 3, variable 4, branch 5, variable 6.
+    for text in ["?#3{_:0,1.2:1}", "?#3{0.0:0,1.2:1}"] {
+        assert_eq!(
+            judge_in(root, &["--table", text]),
+            printed("1,6,1,0, 4,0,2,0, 3,3,0,3, 5,0,4,5, 0,0,0,0, 5,18,6,0, 0,1,0,0")
+        );
+        assert_eq!(
+            judge_in(root, &["--show-words", text]),
+            printed("20,387,5,0,149,8")
+        );
+    }
+    assert_eq!(
+        judge_in(root, &["--text", "20,387,5,0,149,8"]),
+        printed("?#3{_:0,1.2:1}")
+    );
     for words in [
         &["2,2,1,1,8,0,8"][..],
         &["2", "2", "1", "1", "8", "0", "8"],

@@ -8,7 +8,7 @@ pub const WORKSPACE: RangeInclusive<usize> = 16..=2_048;
 /// The largest free number.
 pub const MAX_FREE: u32 = 255;
 
-/// Tags of constructors and branches.
+/// Tags of constructors, and of branches other than a default, which has tag 0 and binds nothing.
 pub const TAGS: RangeInclusive<u32> = 1..=255;
 
 /// The most arguments, branches, or variables bound by a branch.

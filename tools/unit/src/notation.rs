@@ -6,7 +6,7 @@
 //!             | "\" term                                as the last item only
 //! constructor = "#" tag [ "[" term { "," term } "]" ]
 //! case        = "?" term "{" [ branch { "," branch } ] "}"
-//! branch      = tag "." bound ":" term
+//! branch      = ( tag "." bound | "_" ) ":" term        `_` is the default, as 0.0
 //! numeral     = "%" number
 //! ```
 //!
@@ -204,9 +204,9 @@ impl Reader<'_> {
         self.after_term('{', &["`{`"])?;
         self.blanks();
         match self.rest.peek() {
-            Some('0'..='9') => self.branch(of),
+            Some('0'..='9' | '_') => self.branch(of),
             _ => {
-                self.expect('}', "a branch's tag or `}`")?;
+                self.expect('}', "a branch's tag, `_` or `}`")?;
                 Ok(Next::AfterItem)
             }
         }
@@ -223,9 +223,10 @@ impl Reader<'_> {
 
     /// Reads a branch up to its body, which is then under way.
     fn branch(&mut self, of: usize) -> Result<Next, TextError> {
-        let tag = self.number("a branch's tag", u32::MAX / COUNTS)?;
-        self.expect('.', "`.` and a bound count")?;
-        let bound = self.number("a bound count", MAX_COUNT)?;
+        let (tag, bound) = match self.accept('_') {
+            true => (0, 0),
+            false => self.tag_and_bound()?,
+        };
         self.blanks();
         self.expect(':', "`:` and the branch's body")?;
         if let Node::Case { branches } = &mut self.nodes[of] {
@@ -234,6 +235,15 @@ impl Reader<'_> {
         self.push(Node::Branch { tag, bound });
         self.open(Within::Branch { of });
         Ok(Next::Item)
+    }
+
+    fn tag_and_bound(&mut self) -> Result<(u32, u32), TextError> {
+        if !matches!(self.rest.peek(), Some('0'..='9')) {
+            return Err(self.expected("a branch's tag or `_`"));
+        }
+        let tag = self.number("a branch's tag", u32::MAX / COUNTS)?;
+        self.expect('.', "`.` and a bound count")?;
+        Ok((tag, self.number("a bound count", MAX_COUNT)?))
     }
 
     fn push(&mut self, node: Node) {

@@ -65,6 +65,7 @@ fn write_head(f: &mut fmt::Formatter, node: Node) -> fmt::Result {
         Node::Constructor { tag, arguments: 0 } => write!(f, "#{tag}"),
         Node::Constructor { tag, .. } => write!(f, "#{tag}["),
         Node::Case { .. } => write!(f, "?"),
+        Node::Branch { tag: 0, bound: 0 } => write!(f, "_:"),
         Node::Branch { tag, bound } => write!(f, "{tag}.{bound}:"),
         Node::Numeral { value } => write!(f, "%{value}"),
     }

@@ -68,6 +68,23 @@ fn numerals_are_items() {
 }
 
 #[test]
+fn a_default_is_a_branch_of_tag_0_that_binds_nothing() {
+    assert_eq!(words("?0{_:1}"), [12, 0, 5, 8]);
+    assert_eq!(words("?0{0.0:1}"), [12, 0, 5, 8]);
+    assert_eq!(words("?#1{_:0 1,1.2:2}"), [20, 131, 5, 2, 0, 8, 149, 16]);
+    assert_eq!(words(r"?0{_:\1} 2"), [2, 12, 0, 5, 1, 8, 16]);
+    assert_eq!(
+        words("??0{_:1}{_:?2{_:3}}"),
+        [12, 12, 0, 5, 8, 5, 12, 16, 5, 24]
+    );
+    // What the unit refuses is read as it stands: a default behind another branch, two of them, and
+    // tag 0 that binds.
+    assert_eq!(words("?0{1.0:0,_:1}"), [20, 0, 133, 0, 5, 8]);
+    assert_eq!(words("?0{_:0,_:1}"), [20, 0, 5, 0, 5, 8]);
+    assert_eq!(words("?0{0.2:0}"), [12, 0, 21, 0]);
+}
+
+#[test]
 fn bench_pairs_read_as_their_words() {
     assert_eq!(words(r"(\0) 3"), [2, 1, 0, 24]);
     assert_eq!(words(r"(\\1) 0 1"), [2, 2, 1, 1, 8, 0, 8]);
@@ -117,6 +134,11 @@ fn text_with_the_fewest_parentheses_is_printed_as_it_was_read() {
         "%31",
         r"%1 %2 (\%3) (%4 0) \%5",
         "#1[%6,0 %7] ?%8{1.0:%9}",
+        "?0{_:1}",
+        "?#1[0]{_:0 1,1.2:2}",
+        "?0{1.0:0,_:1 2,_:%3}",
+        "?0{0.1:0,0.15:1}",
+        r"\?0{_:?1{_:\2} 3}",
     ] {
         assert_eq!(read(text).to_string(), text);
     }
@@ -136,6 +158,16 @@ fn further_parentheses_change_nothing() {
     ] {
         assert_eq!(read(text).to_string(), printed);
     }
+}
+
+#[test]
+fn a_default_is_printed_in_one_way() {
+    assert_eq!(read("?0{0.0:1}").to_string(), "?0{_:1}");
+    assert_eq!(
+        read("?0{0.0:1,0.1:2,0.0:3}").to_string(),
+        "?0{_:1,0.1:2,_:3}"
+    );
+    assert_eq!(read("?0{0.0:1}"), read("?0{_:1}"));
 }
 
 #[test]
@@ -167,6 +199,7 @@ fn blanks_stand_around_every_part() {
         (" %1\t%2 ", "%1 %2"),
         ("? 0 { }", "?0{}"),
         ("? 0 1 { 1.0 : 0 , 2.1 : 1 } 2", "?0 1{1.0:0,2.1:1} 2"),
+        ("? 0 { _ : 0 , 2.1 : 1 , _\t:2}", "?0{_:0,2.1:1,_:2}"),
     ] {
         assert_eq!(read(text).to_string(), printed);
     }
@@ -245,15 +278,40 @@ fn a_constructor_or_branch_is_not_as_it_must_be() {
             format!("{column}: an argument (without arguments there are no brackets), `]`")
         );
     }
-    assert_eq!(error("?0{"), "4: a branch's tag or `}`, the end");
+    assert_eq!(error("?0{"), "4: a branch's tag, `_` or `}`, the end");
+    assert_eq!(error("?0{#"), "4: a branch's tag, `_` or `}`, `#`");
     assert_eq!(error("?0{1}"), "5: `.` and a bound count, `}`");
     assert_eq!(error("?0{1 .0:0}"), "5: `.` and a bound count, a space");
     assert_eq!(error("?0{1:0}"), "5: `.` and a bound count, `:`");
     assert_eq!(error("?0{1.:0}"), "6: a bound count, `:`");
     assert_eq!(error("?0{1. 0:0}"), "6: a bound count, a space");
     assert_eq!(error("?0{1.0}"), "7: `:` and the branch's body, `}`");
-    assert_eq!(error("?0{1.0:0,}"), "10: a branch's tag, `}`");
-    assert_eq!(error("?0{1.0:0, }"), "11: a branch's tag, `}`");
+    assert_eq!(error("?0{1.0:0,}"), "10: a branch's tag or `_`, `}`");
+    assert_eq!(error("?0{1.0:0, }"), "11: a branch's tag or `_`, `}`");
+}
+
+#[test]
+fn a_default_is_not_as_it_must_be() {
+    const BODY: &str = "`:` and the branch's body";
+    assert_eq!(error("?0{_}"), format!("5: {BODY}, `}}`"));
+    assert_eq!(error("?0{_.1:0}"), format!("5: {BODY}, `.`"));
+    assert_eq!(error("?0{_.0:0}"), format!("5: {BODY}, `.`"));
+    assert_eq!(error("?0{_0:0}"), format!("5: {BODY}, `0`"));
+    assert_eq!(error("?0{_ 0:0}"), format!("6: {BODY}, `0`"));
+    assert_eq!(error("?0{__:0}"), format!("5: {BODY}, `_`"));
+    assert_eq!(error("?0{_"), format!("5: {BODY}, the end"));
+    assert_eq!(error("?0{0._:0}"), "6: a bound count, `_`");
+    assert_eq!(error("?0{0_:0}"), "5: `.` and a bound count, `_`");
+    misses_item("?0{_:}", 6, "`}`");
+    misses_item("?0{_:_}", 6, "`_`");
+    // Elsewhere than in a branch's place.
+    misses_item("_", 1, "`_`");
+    misses_item("(_)", 2, "`_`");
+    misses_item("?_{}", 2, "`_`");
+    misses_item("#1[_]", 4, "`_`");
+    assert_eq!(error("0_"), "2: a space or the end, `_`");
+    assert_eq!(error("#_"), "2: a constructor's tag, `_`");
+    assert_eq!(error("%_"), "2: a numeral, `_`");
 }
 
 #[test]

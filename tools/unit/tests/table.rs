@@ -49,6 +49,16 @@ fn a_numeral_has_its_value_and_no_children() {
 }
 
 #[test]
+fn a_default_is_a_branch_of_value_0() {
+    // Records: case 1, its subject 2, branch 3, variable 4, branch 5, variable 6.
+    assert_eq!(
+        records("?2{_:0,1.2:1}"),
+        "1,6,1,0, 4,0,2,0, 0,2,0,3, 5,0,4,5, 0,0,0,0, 5,18,6,0, 0,1,0,0"
+    );
+    assert_eq!(records("?2{0.0:0}"), records("?2{_:0}"));
+}
+
+#[test]
 fn a_case_ends_before_its_right_sibling() {
     // Records: application 1, case 2, its subject 3, the argument 4.
     assert_eq!(
@@ -69,6 +79,10 @@ fn what_the_unit_refuses_is_stored_all_the_same() {
     assert_eq!(
         records("?0{2.0:0,1.15:0}"),
         "1,6,1,0, 4,0,2,0, 0,0,0,3, 5,32,4,5, 0,0,0,0, 5,31,6,0, 0,0,0,0"
+    );
+    assert_eq!(
+        records("?0{2.0:0,_:0}"),
+        "1,6,1,0, 4,0,2,0, 0,0,0,3, 5,32,4,5, 0,0,0,0, 5,0,6,0, 0,0,0,0"
     );
     let many = table(&term(&format!("#1[{}0]", "0,".repeat(16))));
     assert_eq!(many[..8], [1, 18, 1, 0, 3, 1, 2, 0]);

@@ -19,6 +19,7 @@ fn bench_pairs_print_as_text() {
     assert_eq!(text(&[12, 147, 0, 8, 149, 0]), "?#1[0,1]{1.2:0}");
     assert_eq!(text(&[4, 0]), "?0{}");
     assert_eq!(text(&[2, 70, 22]), "%8 %2");
+    assert_eq!(text(&[20, 131, 5, 22, 149, 8]), "?#1{_:%2,1.2:1}");
 }
 
 #[test]
