@@ -136,7 +136,7 @@ fn the_examples_of_the_help() {
         (!command.starts_with("--")).then_some((command, line.trim()))
     });
     let examples: Vec<_> = examples.collect();
-    assert_eq!(examples.len(), 5);
+    assert_eq!(examples.len(), 6);
     for (command, line) in examples {
         assert_eq!(judged(command), line, "{command}");
     }

@@ -87,6 +87,46 @@ fn numerals() {
 }
 
 #[test]
+fn defaults() {
+    // Taken alone and beside others, with its body as it is, whatever the arguments.
+    assert_eq!(line(1, 16, "?#3{_:7}", "7"), "Same 1 1 1");
+    assert_eq!(line(0, 16, "?#3{_:7}", "7"), "Budget 0 4 1");
+    assert_eq!(line(1, 16, "?#3[8,9]{_:0 1,1.2:0}", "0 1"), "Same 1 3 3");
+    assert_eq!(line(2, 16, r"(\?0{_:0 1}) #3[5]", "#3[5] 0"), "Same 2 4 4");
+    assert_eq!(line(1, 20, r"?#3[(\0 0) \0 0,%31]{_:2}", "2"), "Same 1 1 1");
+    // Not beside a branch of the tag, which decides alone.
+    assert_eq!(line(9, 16, "?#1[5]{_:7,1.1:0}", "5"), "Same 1 1 1");
+    assert_eq!(line(9, 16, "?#1{_:7,1.1:0}", "7"), "Different 0 6 1 0");
+    assert_eq!(line(9, 16, "?#1[5]{_:7,1.0:0}", "7"), "Different 0 7 1 0");
+    // Not on anything but a constructor; what is stuck is contracted in its parts, in their order.
+    assert_eq!(line(9, 16, "?0{_:7}", "7"), "Different 0 4 1 0");
+    assert_eq!(line(9, 16, r"?\0{_:7}", "7"), "Different 0 5 1 0");
+    assert_eq!(line(9, 16, "?%0{_:7}", r"?\\0{_:7}"), "Same 1 6 6");
+    assert_eq!(
+        line(1, 16, r"?0{_:(\0) 1,1.0:%0}", "?0{_:1,1.0:%0}"),
+        "Budget 0 9 6"
+    );
+    assert_eq!(
+        line(1, 16, r"?0{_:(\0) 1,1.0:%0}", "?0{_:1,1.0:2}"),
+        "Budget 1 6 6"
+    );
+    // Fourteen others are the most, it stands first, and only once.
+    let others = |count| {
+        let others: String = (1..=count).map(|tag| format!(",{tag}.0:0")).collect();
+        format!("?#99{{_:0{others}}}")
+    };
+    assert_eq!(line(1, 64, &others(14), "0"), "Same 1 1 1");
+    assert_eq!(line(1, 64, &others(15), "0"), "Refused 5");
+    assert_eq!(line(1, 16, "?0{1.0:0,_:0}", "0"), "Refused 5");
+    assert_eq!(line(1, 16, "?0{_:0,_:0}", "0"), "Refused 5");
+    for wrong in ["?0{0.1:0}", "?0{0.15:0}", "#0", "?#0{_:0}"] {
+        assert_eq!(line(1, 16, wrong, "0"), "Refused 3", "{wrong}");
+    }
+    assert_eq!(line(1, 16, "?0{_:255}", "0"), "Different 0 4 1 0");
+    assert_eq!(line(1, 16, "?0{_:256}", "0"), "Refused 6");
+}
+
+#[test]
 fn free_indices_of_arguments_rise() {
     // (\x. \y. x) z is \y. z, and so is a branch that takes z under a binder.
     assert_eq!(line(9, 16, r"(\\1) 3", r"\4"), "Same 1 2 2");

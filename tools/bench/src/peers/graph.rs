@@ -180,15 +180,25 @@ impl Node {
                 _ => None,
             },
             Head::Case(subject, branches) => match &subject.head {
-                Head::Constructor(tag, arguments) => {
-                    let branch = branches.iter().find(|branch| branch.tag == *tag)?;
-                    let fits = branch.bound as usize == arguments.len();
-                    fits.then_some(Redex::Substitution(&branch.body, arguments))
-                }
+                Head::Constructor(tag, arguments) => taken(branches, *tag, arguments),
                 _ => None,
             },
             Head::Numeral(value) => Some(Redex::Numeral(*value)),
             _ => None,
+        }
+    }
+}
+
+/// The branch of a constructor's tag, if its count fits; the default if no branch has the tag.
+fn taken<'a>(branches: &'a [Branch], tag: u32, arguments: &'a [Term]) -> Option<Redex<'a>> {
+    match branches.iter().find(|branch| branch.tag == tag) {
+        Some(branch) => {
+            let fits = branch.bound as usize == arguments.len();
+            fits.then_some(Redex::Substitution(&branch.body, arguments))
+        }
+        None => {
+            let default = branches.first().filter(|branch| branch.tag == 0)?;
+            Some(Redex::Substitution(&default.body, &[]))
         }
     }
 }

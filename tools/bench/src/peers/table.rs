@@ -88,7 +88,7 @@ fn value_fits(record: Record) -> bool {
     match record.kind {
         VARIABLE => record.value <= MAX_INDEX,
         CONSTRUCTOR => TAGS.contains(&record.value),
-        BRANCH => TAGS.contains(&tag(record.value)),
+        BRANCH => record.value == 0 || TAGS.contains(&tag(record.value)),
         ABSTRACTION | APPLICATION | CASE => record.value == 0,
         NUMERAL => record.value <= MAX_NUMERAL,
         _ => false,
@@ -118,16 +118,16 @@ fn links_fit(table: &Table) -> bool {
 /// Whether the children are as many and of the kind that the record asks for.
 fn children_fit(table: &Table, record: Record) -> bool {
     let mut children = 0;
-    let mut last_tag = 0;
+    let mut least_tag = 0;
     let mut next = record.first;
     while next != 0 {
         let child = table.record(next);
         let branch_due = record.kind == CASE && children > 0;
-        if (child.kind == BRANCH) != branch_due || (branch_due && tag(child.value) <= last_tag) {
+        if (child.kind == BRANCH) != branch_due || (branch_due && tag(child.value) < least_tag) {
             return false;
         }
         if branch_due {
-            last_tag = tag(child.value);
+            least_tag = tag(child.value) + 1;
         }
         children += 1;
         next = child.next;

@@ -56,7 +56,8 @@ fn beta(words: &[u32], at: usize) -> Substitution {
     }
 }
 
-/// A case on a constructor, if a branch has its tag and count.
+/// A case on a constructor, if a branch has its tag and count, or there is a default and no branch
+/// of the tag. A default takes no argument.
 fn case(words: &[u32], at: usize) -> Option<Substitution> {
     let subject = payload(words[at + 1]);
     let bound = count(subject) as usize;
@@ -67,18 +68,27 @@ fn case(words: &[u32], at: usize) -> Option<Substitution> {
         end = skip(words, end);
         *next = end as u16;
     }
-    let mut body = None;
+    let (mut body, mut default) = (None, None);
+    let mut listed = false;
     for _ in 0..payload(words[at]) {
         let branch = end;
         end = skip(words, branch);
-        if payload(words[branch]) == subject {
-            body = Some(branch + 1..end);
+        match payload(words[branch]) {
+            0 => default = Some(branch + 1..end),
+            own => {
+                listed |= tag(own) == tag(subject);
+                body = body.or((own == subject).then_some(branch + 1..end));
+            }
         }
     }
+    let (body, bound) = match listed {
+        true => (body?, bound),
+        false => (default?, 0),
+    };
     Some(Substitution {
         at,
         end,
-        body: body?,
+        body,
         bound,
         arguments,
     })

@@ -107,7 +107,8 @@ pub fn whole(words: &[u32], binders: &mut Binders) -> bool {
 struct Due {
     count: u8,
     branches: bool,
-    last_tag: u8,
+    /// The least tag that the next branch may have.
+    least_tag: u16,
 }
 
 /// Whether kinds, ranges and structure are those of one term.
@@ -138,7 +139,7 @@ impl Due {
         Due {
             count: count as u8,
             branches: false,
-            last_tag: 0,
+            least_tag: 0,
         }
     }
 
@@ -150,7 +151,7 @@ impl Due {
                 let branches = Due {
                     count: below.count - 1,
                     branches: true,
-                    last_tag: 0,
+                    least_tag: 0,
                 };
                 [branches, Due::terms(1)]
             }
@@ -161,11 +162,11 @@ impl Due {
     /// Takes the word as the next one, if it may be.
     fn take(&mut self, word: u32) -> bool {
         let is_branch = kind(word) == BRANCH;
-        let tag = tag(payload(word)) as u8;
-        if is_branch != self.branches || (is_branch && tag <= self.last_tag) {
+        let tag = tag(payload(word)) as u16;
+        if is_branch != self.branches || (is_branch && tag < self.least_tag) {
             return false;
         }
-        self.last_tag = tag;
+        self.least_tag = tag + 1;
         self.count -= 1;
         true
     }
@@ -176,7 +177,8 @@ fn in_range(word: u32) -> bool {
     match kind(word) {
         VARIABLE => true,
         ABSTRACTION | APPLICATION => payload == 0,
-        CONSTRUCTOR | BRANCH => TAGS.contains(&tag(payload)),
+        CONSTRUCTOR => TAGS.contains(&tag(payload)),
+        BRANCH => payload == 0 || TAGS.contains(&tag(payload)),
         CASE => payload <= MAX_COUNT,
         NUMERAL => payload <= MAX_NUMERAL,
         _ => false,
@@ -241,6 +243,8 @@ mod tests {
             &[12, 0, 133, 2_040],
             &[12, 0, 253, 2_160],
             &[20, 0, 133, 0, 261, 0],
+            &[12, 0, 5, 2_040],
+            &[28, 0, 5, 0, 133, 0, 32_765, 0],
             &[2, 6, 254],
         ] {
             assert!(is_whole(words), "{words:?}");
@@ -263,8 +267,11 @@ mod tests {
             &[9, 0],
             &[10, 0, 0],
             &[3],
+            &[11, 0],
             &[32_771],
-            &[12, 0, 5, 0],
+            &[12, 0, 13, 0],
+            &[12, 0, 125, 0],
+            &[12, 0, 32_773, 0],
             // Branches in the place of terms, terms in that of branches, tags that do not rise.
             &[133, 0],
             &[12, 133, 0],
@@ -272,10 +279,14 @@ mod tests {
             &[12, 0, 134],
             &[20, 0, 133, 0, 133, 0],
             &[20, 0, 261, 0, 133, 0],
+            &[20, 0, 133, 0, 5, 0],
+            &[20, 0, 5, 0, 5, 0],
+            &[5, 0],
             // Free numbers 256.
             &[2_048],
             &[1, 2_056],
             &[12, 0, 133, 2_048],
+            &[12, 0, 5, 2_048],
             &[12, 0, 253, 2_168],
             &[2, 1, 0, 2_048],
         ] {
@@ -285,12 +296,15 @@ mod tests {
 
     #[test]
     fn a_case_has_up_to_fifteen_branches() {
-        let case = |branches: u32| {
-            let all = (1..=branches).flat_map(|tag| [tag * 128 + 5, 0]);
-            let words: Vec<u32> = [branches * 8 + 4, 0].into_iter().chain(all).collect();
-            is_whole(&words)
-        };
-        assert!(case(15));
-        assert!(!case(16));
+        // From tag 0, a default's, and from tag 1.
+        for first in 0..2 {
+            let case = |branches: u32| {
+                let all = (first..first + branches).flat_map(|tag| [tag * 128 + 5, 0]);
+                let words: Vec<u32> = [branches * 8 + 4, 0].into_iter().chain(all).collect();
+                is_whole(&words)
+            };
+            assert!(case(15));
+            assert!(!case(16));
+        }
     }
 }
