@@ -111,11 +111,12 @@ fn of_load(
     (mended != Event::Load(answer)).then_some(part)
 }
 
-fn made(before: &Machine, operation: &Operation) -> Event {
+/// What comes of a call.
+pub fn made(before: &Machine, operation: &Operation) -> Event {
     before.clone().apply(operation, &mut String::new())
 }
 
-fn workspace(machine: &Machine, side: Side) -> &[u32] {
+pub fn workspace(machine: &Machine, side: Side) -> &[u32] {
     match side {
         Side::Left => &machine.left,
         Side::Right => &machine.right,
@@ -172,22 +173,9 @@ fn mended_payloads(before: &Machine, operation: &Operation) -> Event {
 
 /// The parts of numerals in the rounds that an answer tells of.
 fn of_rounds(before: &Machine, lengths: (u32, u32), answer: Answer) -> Vec<Part> {
-    let left = term_in(&before.left, lengths.0);
-    let right = term_in(&before.right, lengths.1);
-    let (Ok(left), Ok(right)) = (left, right) else {
+    let Some((sides, contracted)) = rounds_again(before, lengths, answer, contracts_numeral) else {
         return Vec::new();
     };
-    let mut sides = [left, right];
-    let (mut made, mut contracted) = (0, false);
-    while made < answer.spent {
-        for side in &mut sides {
-            if let Some(next) = step(side) {
-                contracted = contracted || contracts_numeral(side);
-                *side = next;
-                made += 1;
-            }
-        }
-    }
     let is_long = |side: &&Term| step(side).is_some_and(|next| next.size() > before.left.len());
     let full =
         answer.verdict == Verdict::Full && sides.iter().filter(is_long).all(contracts_numeral);
@@ -196,9 +184,37 @@ fn of_rounds(before: &Machine, lengths: (u32, u32), answer: Answer) -> Vec<Part>
     parts.map(|(_, part)| part).collect()
 }
 
+/// The forms after the rounds that an answer tells of, and whether one of the
+/// terms that are contracted in them meets a condition.
+pub fn rounds_again(
+    before: &Machine,
+    lengths: (u32, u32),
+    answer: Answer,
+    meets: fn(&Term) -> bool,
+) -> Option<([Term; 2], bool)> {
+    let left = term_in(&before.left, lengths.0).ok()?;
+    let right = term_in(&before.right, lengths.1).ok()?;
+    let mut sides = [left, right];
+    let (mut made, mut met) = (0, false);
+    while made < answer.spent {
+        for side in &mut sides {
+            if let Some(next) = step(side) {
+                met = met || meets(side);
+                *side = next;
+                made += 1;
+            }
+        }
+    }
+    Some((sides, met))
+}
+
+/// The leftmost outermost redex.
+pub fn first_redex(term: &Term) -> Option<&Term> {
+    let mut parts = subterms(term).into_iter().map(|(part, _)| part);
+    parts.find(|part| contractum(part).is_some())
+}
+
 /// Whether the leftmost outermost redex is a numeral.
 pub fn contracts_numeral(term: &Term) -> bool {
-    let mut parts = subterms(term).into_iter().map(|(part, _)| part);
-    let redex = parts.find(|part| contractum(part).is_some());
-    matches!(redex, Some(Term::Num(_)))
+    matches!(first_redex(term), Some(Term::Num(_)))
 }

@@ -1,5 +1,6 @@
 //! Counts of what a run saw, and the least it has to see.
 
+use crate::default;
 use crate::line::{term_of, Fault};
 use crate::part;
 use crate::refusal::Refusal;
@@ -10,8 +11,8 @@ use std::collections::BTreeMap;
 use std::fmt;
 
 /// Verdicts and refusals that the verdict program can give, and the parts that
-/// numerals have in them.
-const VERDICT_KINDS: [&str; 19] = [
+/// numerals and defaults have in them.
+const VERDICT_KINDS: [&str; 29] = [
     "verdict: Same",
     "verdict: Different",
     "verdict: Budget",
@@ -31,11 +32,21 @@ const VERDICT_KINDS: [&str; 19] = [
     "verdict, load refused 5 by a numeral",
     "verdict, press contracts a numeral",
     "verdict, press Full by a numeral",
+    "verdict, load of a default",
+    "verdict, load refused 3 by a branch of tag 0 that binds",
+    "verdict, load refused 3 by a constructor of tag 0",
+    "verdict, load refused 5 by the place of a default",
+    "verdict, press Same with a default taken",
+    "verdict, press Different with a default taken",
+    "verdict, press Budget with a default taken",
+    "verdict, press Full with a default taken",
+    "verdict, press Different with a default and another count",
+    "verdict, press Different with a default and no constructor",
 ];
 
-/// Answers that the calls of a script can give, the parts that numerals have
-/// in them, and the faults of lines.
-const REPLAY_KINDS: [&str; 48] = [
+/// Answers that the calls of a script can give, the parts that numerals and
+/// defaults have in them, and the faults of lines.
+const REPLAY_KINDS: [&str; 63] = [
     "replay: load",
     "replay: load refused 1",
     "replay: load refused 2",
@@ -78,6 +89,21 @@ const REPLAY_KINDS: [&str; 48] = [
     "replay, show refused by a numeral",
     "replay, write of a numeral",
     "replay, write refused 10 by a numeral",
+    "replay, load of a default",
+    "replay, load refused 3 by a branch of tag 0 that binds",
+    "replay, load refused 3 by a constructor of tag 0",
+    "replay, load refused 5 by the place of a default",
+    "replay, press Same with a default taken",
+    "replay, press Different with a default taken",
+    "replay, press Budget with a default taken",
+    "replay, press Full with a default taken",
+    "replay, press Different with a default and another count",
+    "replay, press Different with a default and no constructor",
+    "replay, press refused 10 by a branch of tag 0 that binds",
+    "replay, press refused 10 by a constructor of tag 0",
+    "replay, press refused 10 by the place of a default",
+    "replay, show of a default",
+    "replay, write of a default",
     "replay, line refused 11 by its length",
     "replay, line refused 11 by a byte",
     "replay, line refused 11 by a number",
@@ -129,11 +155,14 @@ impl Tally {
         self.count(format!("replay: {kind}"), 1);
     }
 
-    /// What a call of the program has to do with numerals and positions, and
-    /// what is wrong with a line.
+    /// What a call of the program has to do with numerals, defaults and
+    /// positions, and what is wrong with a line.
     pub fn call(&mut self, program: &str, before: &Machine, operation: &Operation) {
         for part in part::of_call(before, operation) {
             self.count(format!("{program}, {part}"), 1);
+        }
+        for role in default::of_call(before, operation) {
+            self.count(format!("{program}, {role}"), 1);
         }
         for shape in shape::of_call(before, operation) {
             self.count(format!("{program}, {shape}"), 1);

@@ -62,6 +62,8 @@ fn the_report_counts_every_case() {
     assert!(report.contains("replay: press refused 10\n"));
     assert!(report.contains("replay, press refused 10 by a numeral\n"));
     assert!(report.contains("verdict, press Full by a numeral\n"));
+    assert!(report.contains("verdict, press Same with a default taken\n"));
+    assert!(report.contains("replay, press refused 10 by the place of a default\n"));
     assert!(report.contains("verdict, press Different behind equal words\n"));
     assert!(report.contains("replay, press Budget behind equal words\n"));
     assert!(report.contains("replay: line refused 6\n"));
@@ -160,21 +162,22 @@ fn a_run_that_sees_too_little_fails() {
 #[test]
 fn kinds_that_are_not_seen_are_named() {
     let none = Tally::default();
-    // Four verdicts, refusals 1 to 9, Input and five parts of numerals; in
-    // scripts nine answers of load, seven of press, three of show, four of
-    // write, five of lines, four others, ten parts of numerals and six faults
-    // of lines. In both, nine shapes of forms, which may be less frequent.
-    assert_eq!(none.too_few(80, BOTH).len(), 19 + 48);
+    // Four verdicts, refusals 1 to 9, Input, five parts of numerals and ten of
+    // defaults; in scripts nine answers of load, seven of press, three of show,
+    // four of write, five of lines, four others, ten parts of numerals, fifteen
+    // of defaults and six faults of lines. In both, nine shapes of forms, which
+    // may be less frequent.
+    assert_eq!(none.too_few(80, BOTH).len(), 29 + 63);
     assert_eq!(none.too_few(79, BOTH).len(), 0);
-    assert_eq!(none.too_few(120, BOTH).len(), 19 + 48 + 2 * 9);
-    assert_eq!(none.too_few(119, BOTH).len(), 19 + 48);
+    assert_eq!(none.too_few(120, BOTH).len(), 29 + 63 + 2 * 9);
+    assert_eq!(none.too_few(119, BOTH).len(), 29 + 63);
     let verdict = Halves {
         replay: false,
         ..BOTH
     };
     let least = |cases, kind: &str| {
         let few = none.too_few(cases, verdict);
-        assert_eq!(few.len(), 19 + 9);
+        assert_eq!(few.len(), 29 + 9);
         few.iter().find(|few| few.0 == kind).map(|few| few.1)
     };
     let (kind, shape) = (

@@ -4,9 +4,14 @@ mod common;
 
 use common::loaded;
 use reference::contraction::{church, step};
-use reference::generate::damage::{faulty_numeral, faulty_table, FAULTS};
+use reference::default::{self, Fault, Role};
+use reference::generate::damage::{
+    faulty_default, faulty_default_words, faulty_numeral, faulty_table, FAULTS,
+};
 use reference::generate::inputs::{self, Aim};
-use reference::generate::pairs::{named, near_trial, numeral_trial, pair, trial, Trial};
+use reference::generate::pairs::{
+    default_trial, named, near_trial, numeral_trial, pair, trial, Trial,
+};
 use reference::generate::tables::{term_table, Order};
 use reference::generate::terms::{replace, subterms, term, Style};
 use reference::generate::{families, near, scripts};
@@ -72,6 +77,7 @@ fn families_are_accepted() {
         for (left, right) in [
             families::pair(random),
             families::numerals(random),
+            families::defaults(random),
             near::pair(random),
         ] {
             for term in [left, right] {
@@ -165,6 +171,24 @@ fn a_faulty_numeral_is_refused_by_its_fault() {
 }
 
 #[test]
+fn a_faulty_default_is_refused_by_its_fault() {
+    for_cases(1_000, |random| {
+        for fault in default::FAULTS {
+            let refusal = match fault {
+                Fault::Place => Refusal::Structure,
+                _ => Refusal::Value,
+            };
+            let capacity = random.pick(&[16, 17, 40]);
+            let table = faulty_default(random, fault, capacity);
+            assert_eq!(loaded(&table, capacity).0, Err(refusal), "{table:?}");
+            let words = faulty_default_words(random, fault, capacity);
+            assert!(words.len() <= capacity);
+            assert_eq!(read(&words), None, "{words:?}");
+        }
+    });
+}
+
+#[test]
 fn of_two_faults_the_first_is_met() {
     for_cases(200, |random| {
         for (first, fault) in FAULTS.iter().enumerate() {
@@ -196,6 +220,10 @@ fn every_outcome_has_its_share_of_the_aims() {
         Aim::Numeral(Part::Full) => Verdict::Full.to_string(),
         Aim::Numeral(Part::Value) => Refusal::Value.to_string(),
         Aim::Numeral(_) => Refusal::Structure.to_string(),
+        Aim::Default(Role::Taken(verdict)) => verdict.to_string(),
+        Aim::Default(Role::Load(Fault::Place)) => Refusal::Structure.to_string(),
+        Aim::Default(Role::Load(_)) => Refusal::Value.to_string(),
+        Aim::Default(_) => Verdict::Different.to_string(),
         Aim::Input => "Input".to_string(),
         Aim::Mixed => "Mixed".to_string(),
     };
@@ -248,7 +276,7 @@ fn near_trials_give_different_behind_equal_words() {
 
 #[test]
 fn trials_reach_every_verdict_after_some_rounds() {
-    for trial_of in [trial, numeral_trial] {
+    for trial_of in [trial, numeral_trial, default_trial] {
         let counts = on_large_stack(|| wishes_met(trial_of));
         for (verdict, count) in VERDICTS.iter().zip(counts) {
             assert!(count >= 20, "{verdict} {count}");
@@ -296,6 +324,7 @@ const PLAIN: Style = Style {
     data: 0,
     free: 0,
     numerals: 0,
+    defaults: 0,
     aim: None,
 };
 

@@ -4,6 +4,7 @@
 mod common;
 
 use common::flat_position;
+use reference::default::takes_default;
 use reference::generate::inputs::{self, Aim};
 use reference::on_large_stack;
 use reference::part::contracts_numeral;
@@ -48,9 +49,19 @@ enum Mistake {
     NumeralIsFree,
     NumeralIsItsExpansion,
     NumeralAlwaysFits,
+    // Of defaults.
+    DefaultForAnotherCount,
+    DefaultPreferred,
+    DefaultLowered,
+    DefaultFilled,
+    DefaultForAnySubject,
+    DefaultOnlyAlone,
+    DefaultNotTaken,
+    DefaultIsFree,
+    DefaultBodySkipped,
 }
 
-const MISTAKES: [Mistake; 27] = [
+const MISTAKES: [Mistake; 36] = [
     Mistake::ArgumentNotRaised,
     Mistake::ArgumentsFirst,
     Mistake::StopsAtAbstraction,
@@ -78,6 +89,15 @@ const MISTAKES: [Mistake; 27] = [
     Mistake::NumeralIsFree,
     Mistake::NumeralIsItsExpansion,
     Mistake::NumeralAlwaysFits,
+    Mistake::DefaultForAnotherCount,
+    Mistake::DefaultPreferred,
+    Mistake::DefaultLowered,
+    Mistake::DefaultFilled,
+    Mistake::DefaultForAnySubject,
+    Mistake::DefaultOnlyAlone,
+    Mistake::DefaultNotTaken,
+    Mistake::DefaultIsFree,
+    Mistake::DefaultBodySkipped,
 ];
 
 /// Steps and rounds written apart from the reference's, with room for one
@@ -115,9 +135,11 @@ impl Judge {
                 };
                 match (self.0, &args[place]) {
                     (Mistake::ArgumentNotRaised, argument) => argument.clone(),
-                    (Mistake::BoundIndicesRaised, argument) => raise(argument, 0, 0, crossed),
+                    (Mistake::BoundIndicesRaised, argument) => {
+                        moved(argument, 0, 0, crossed as i32)
+                    }
                     (Mistake::NumeralRises, Term::Num(numeral)) => num(numeral + crossed),
-                    (_, argument) => raise(argument, 0, 1, crossed),
+                    (_, argument) => moved(argument, 0, 1, crossed as i32),
                 }
             }
             Term::Var(index) if self.is(Mistake::IndicesNotLowered) => var(*index),
@@ -168,15 +190,43 @@ impl Judge {
                 scrutinee,
                 branches,
             } => match scrutinee.as_ref() {
-                Term::Con { tag, args } => {
-                    let arm = branches.iter().find(|arm| arm.tag == *tag)?;
-                    let fits = arm.bound as usize == args.len();
-                    let any = self.is(Mistake::AnyCountContracts);
-                    (fits || any).then(|| self.fill(&arm.body, 0, 0, args))
+                Term::Con { tag, args } => self.arm_taken(branches, *tag, args),
+                Term::Var(_) | Term::Abs(_) | Term::Num(_)
+                    if self.is(Mistake::DefaultForAnySubject) =>
+                {
+                    self.default_taken(branches, &[])
                 }
                 _ => None,
             },
             _ => None,
+        }
+    }
+
+    /// What a case of a constructor becomes.
+    fn arm_taken(&self, branches: &[Branch], tag: u32, args: &[Term]) -> Option<Term> {
+        let default = || self.default_taken(branches, args);
+        let Some(arm) = branches.iter().find(|arm| arm.tag == tag) else {
+            return default();
+        };
+        let fits = arm.bound as usize == args.len();
+        let any = self.is(Mistake::AnyCountContracts);
+        let own = (fits || any).then(|| self.fill(&arm.body, 0, 0, args));
+        match self.0 {
+            Mistake::DefaultForAnotherCount => own.or_else(default),
+            Mistake::DefaultPreferred => default().or(own),
+            _ => own,
+        }
+    }
+
+    /// The body of the default, if there is one.
+    fn default_taken(&self, branches: &[Branch], args: &[Term]) -> Option<Term> {
+        let first = branches.first().filter(|branch| branch.is_default())?;
+        match self.0 {
+            Mistake::DefaultNotTaken => None,
+            Mistake::DefaultOnlyAlone if branches.len() > 1 => None,
+            Mistake::DefaultFilled => Some(self.fill(&first.body, 0, 0, args)),
+            Mistake::DefaultLowered => Some(moved(&first.body, 0, 1, -(args.len() as i32))),
+            _ => Some(first.body.clone()),
         }
     }
 
@@ -203,6 +253,9 @@ impl Judge {
         match term {
             Term::Abs(_) if self.is(Mistake::StopsAtAbstraction) => return None,
             Term::Case { .. } if self.is(Mistake::BranchesNotReduced) => places.truncate(1),
+            Term::Case { branches, .. } if self.is(Mistake::DefaultBodySkipped) => {
+                places.retain(|place| *place == 0 || !branches[place - 1].is_default());
+            }
             Term::Con { .. } if self.is(Mistake::ArgumentsNotReduced) => return None,
             _ => {}
         }
@@ -263,6 +316,10 @@ impl Judge {
             let numerals = sides.iter().filter(|side| contracts_numeral(side));
             return moving - numerals.count() as u32;
         }
+        if self.is(Mistake::DefaultIsFree) {
+            let defaults = sides.iter().filter(|side| takes_default(side));
+            return moving - defaults.count() as u32;
+        }
         let one = self.is(Mistake::CountedByRounds) || self.is(Mistake::OneSideAtATime);
         if one {
             moving.min(1)
@@ -321,11 +378,13 @@ fn answer(verdict: Verdict, spent: u32, forms: [Term; 2]) -> Answer {
     }
 }
 
-/// Indices from `depth` on raised; each binder adds `binder` to the depth.
-fn raise(term: &Term, depth: u32, binder: u32, by: u32) -> Term {
-    let inside = |part: &Term, binders| raise(part, depth + binder * binders, binder, by);
+/// Indices from `depth` on moved, down to 0; each binder adds `binder` to the
+/// depth.
+fn moved(term: &Term, depth: u32, binder: u32, by: i32) -> Term {
+    let inside = |part: &Term, binders| moved(part, depth + binder * binders, binder, by);
     match term {
-        Term::Var(index) => var(index + if *index < depth { 0 } else { by }),
+        Term::Var(index) if *index < depth => var(*index),
+        Term::Var(index) => var(index.saturating_add_signed(by)),
         Term::Abs(body) => abs(inside(body, 1)),
         Term::App(f, a) => app(inside(f, 0), inside(a, 0)),
         Term::Con { tag, args } => con(*tag, args.iter().map(|a| inside(a, 0)).collect()),

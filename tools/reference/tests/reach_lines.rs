@@ -186,7 +186,7 @@ const FAULTY: [&str; 18] = [
 fn lines_reach_every_clause() {
     let census = on_large_stack(|| {
         let mut census = Census::default();
-        of_scripts(62, 1_650, |Typed { line, workspace }| {
+        of_scripts(62, 1_800, |Typed { line, workspace }| {
             let capacity = workspace.len();
             let refusal = lines::refusal(line, capacity);
             if !(16..=2_048).contains(&capacity) {
@@ -221,7 +221,7 @@ fn lines_reach_every_clause() {
 fn lines_of_every_length() {
     let lengths = on_large_stack(|| {
         let mut lengths = vec![0; 1_025];
-        of_scripts(63, 4_400, |Typed { line, .. }| {
+        of_scripts(63, 4_800, |Typed { line, .. }| {
             if let (Ok(_), Some(count)) = (term_of(line), lengths.get_mut(line.len())) {
                 *count += 1;
             }

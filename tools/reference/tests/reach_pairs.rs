@@ -5,9 +5,11 @@ mod common;
 
 use common::census::Census;
 use reference::contraction::{contractum, step};
+use reference::default::takes_default;
 use reference::generate::families;
 use reference::generate::inputs::{self, Aim};
 use reference::generate::pairs::{pair, trial};
+use reference::generate::terms::subterms;
 use reference::on_large_stack;
 use reference::part::contracts_numeral;
 use reference::press::{rounds, Rounds, Verdict};
@@ -15,6 +17,7 @@ use reference::random::Random;
 use reference::replay::VERDICTS;
 use reference::term::{num, Branch, Term};
 use reference::verdict::{outcome, Outcome, Request};
+use std::cmp::Ordering;
 
 /// Where a part stands in its term.
 #[derive(Clone, Copy)]
@@ -100,11 +103,16 @@ fn look_at_case(scrutinee: &Term, branches: &[Branch], place: Place, census: &mu
         let bound = few_or_many(branch.bound as usize);
         census.meet(format!("branch that binds {bound}"));
     }
+    let default = branches.iter().find(|branch| branch.is_default());
+    if let Some(default) = default {
+        look_at_default(scrutinee, branches, &default.body, place, census);
+    }
     let Term::Con { tag, args } = scrutinee else {
         return;
     };
     let found = branches.iter().position(|branch| branch.tag == *tag);
     match found {
+        None if default.is_some() => {}
         None => census.meet("stuck by the tag"),
         Some(at) if branches[at].bound as usize == args.len() => {
             let count = few_or_many(args.len());
@@ -117,6 +125,69 @@ fn look_at_case(scrutinee: &Term, branches: &[Branch], place: Place, census: &mu
             census.meet("stuck by too few bound");
         }
         Some(_) => census.meet("stuck by too many bound"),
+    }
+}
+
+/// A default: what it is taken or stuck by, and what its body is.
+fn look_at_default(
+    scrutinee: &Term,
+    branches: &[Branch],
+    body: &Term,
+    place: Place,
+    census: &mut Census,
+) {
+    let others = branches.len() - 1;
+    census.meet(match others {
+        14 => "default beside fourteen".to_string(),
+        _ => format!("default beside {}", few_or_many(others)),
+    });
+    let Term::Con { tag, args } = scrutinee else {
+        census.meet(format!("default on {}", name(scrutinee)));
+        census.meet_if(step(body).is_some(), "redex in the body of a stuck default");
+        census.meet_if(has_numeral(body), "numeral in the body of a stuck default");
+        return;
+    };
+    let bound = |branch: &Branch| branch.bound as usize;
+    match branches.iter().find(|branch| branch.tag == *tag).map(bound) {
+        Some(bound) => census.meet(match bound.cmp(&args.len()) {
+            Ordering::Less => "default beside the tag and too few bound",
+            Ordering::Equal => "default beside the branch taken",
+            Ordering::Greater => "default beside the tag and too many bound",
+        }),
+        None => {
+            census.meet(format!("default taken within {}", place.within));
+            census.meet(format!(
+                "default taken, {} dropped",
+                few_or_many(args.len())
+            ));
+            census.meet_if(others == 0, "default taken alone");
+            census.meet_if(others == 14, "default taken beside fourteen");
+            census.meet_if(args.contains(&families::omega()), "loop dropped");
+            census.meet_if(has_numeral(scrutinee), "numeral dropped");
+            let around = place.binders;
+            let outer = |(part, inside): &(&Term, u32)| match part {
+                Term::Var(index) => *index >= *inside && *index < inside + around,
+                _ => false,
+            };
+            let parts = subterms(body);
+            census.meet_if(parts.iter().any(outer), "bound variable in a default taken");
+            census.meet_if(
+                body.largest_free() > Some(around),
+                "free variable in a default taken",
+            );
+        }
+    }
+}
+
+/// What a term is by its first word.
+fn name(term: &Term) -> &'static str {
+    match term {
+        Term::Var(_) => "a variable",
+        Term::Abs(_) => "an abstraction",
+        Term::App(..) => "an application",
+        Term::Con { .. } => "a constructor",
+        Term::Case { .. } => "a case",
+        Term::Num(_) => "a numeral",
     }
 }
 
@@ -166,7 +237,7 @@ fn look_at(term: &Term, census: &mut Census) {
 }
 
 /// Sizes, nodes, variables and places of redexes.
-const SHAPES: [&str; 70] = [
+const SHAPES: [&str; 101] = [
     "one word",
     "few words",
     "some words",
@@ -237,6 +308,37 @@ const SHAPES: [&str; 70] = [
     "numeral within a constructor",
     "numeral within a subject",
     "numeral within a branch",
+    "default beside no",
+    "default beside one",
+    "default beside several",
+    "default beside fourteen",
+    "default beside the branch taken",
+    "default beside the tag and too few bound",
+    "default beside the tag and too many bound",
+    "default on a variable",
+    "default on an abstraction",
+    "default on an application",
+    "default on a case",
+    "default on a numeral",
+    "redex in the body of a stuck default",
+    "numeral in the body of a stuck default",
+    "default taken within nothing",
+    "default taken within an abstraction",
+    "default taken within a function",
+    "default taken within an argument",
+    "default taken within a constructor",
+    "default taken within a subject",
+    "default taken within a branch",
+    "default taken, no dropped",
+    "default taken, one dropped",
+    "default taken, several dropped",
+    "default taken, fifteen dropped",
+    "default taken alone",
+    "default taken beside fourteen",
+    "loop dropped",
+    "numeral dropped",
+    "bound variable in a default taken",
+    "free variable in a default taken",
 ];
 
 #[test]
@@ -276,9 +378,9 @@ fn look_at_relation(left: &Term, right: &Term, census: &mut Census) {
     for (term, next) in [(left, next.0), (right, next.1)] {
         if let Some(next) = next {
             census.meet(match next.size().cmp(&term.size()) {
-                std::cmp::Ordering::Less => "a step shortens",
-                std::cmp::Ordering::Equal => "a step keeps the length",
-                std::cmp::Ordering::Greater => "a step lengthens",
+                Ordering::Less => "a step shortens",
+                Ordering::Equal => "a step keeps the length",
+                Ordering::Greater => "a step lengthens",
             });
             look_at_order(term, census);
         }
@@ -463,26 +565,40 @@ fn look_at_end(end: Rounds, capacity: usize, budget: u32, census: &mut Census) {
     }
 }
 
-/// The longest term that so many contractions of a pair's rounds give, and
-/// whether a numeral's gives it; and whether any is a numeral's.
-fn longest_given(mut sides: [Term; 2], contractions: u32) -> ((usize, bool), bool) {
-    let (mut made, mut longest, mut any) = (0, (0, false), false);
+/// What contractions of a pair's rounds give.
+#[derive(Default)]
+struct Given {
+    /// The longest term, and whether a numeral's contraction gives it.
+    longest: (usize, bool),
+    /// Whether any is a numeral's, or takes a default.
+    numeral: bool,
+    default: bool,
+}
+
+/// What so many contractions of a pair's rounds give.
+fn given(mut sides: [Term; 2], contractions: u32) -> Given {
+    let (mut made, mut given) = (0, Given::default());
     while made < contractions {
         for side in &mut sides {
             if let Some(next) = step(side) {
                 let by_numeral = contracts_numeral(side);
+                given.numeral |= by_numeral;
+                given.default |= takes_default(side);
                 *side = next;
                 made += 1;
-                longest = longest.max((side.size(), by_numeral));
-                any = any || by_numeral;
+                given.longest = given.longest.max((side.size(), by_numeral));
             }
         }
     }
-    (longest, any)
+    given
 }
 
 /// Ends of rounds beside how many contractions they come after.
-const ENDS: [&str; 31] = [
+const ENDS: [&str; 35] = [
+    "Same, a default taken",
+    "Different, a default taken",
+    "Budget, a default taken",
+    "Full, a default taken",
     "Same, C words on the way",
     "Different, C words on the way",
     "Same, C words by a numeral",
@@ -528,7 +644,11 @@ fn trials_reach_every_edge() {
             let end = rounds(trial.left, trial.right, capacity, budget);
             let decides = matches!(end.verdict, Verdict::Same | Verdict::Different);
             if end.spent <= 50 {
-                let ((longest, by_numeral), any) = longest_given(sides, end.spent);
+                let Given {
+                    longest: (longest, by_numeral),
+                    numeral,
+                    default,
+                } = given(sides, end.spent);
                 let at_limit = decides && longest == capacity;
                 let verdict = end.verdict;
                 census.meet_if(at_limit, format!("{verdict}, C words on the way"));
@@ -536,7 +656,8 @@ fn trials_reach_every_edge() {
                     at_limit && by_numeral,
                     format!("{verdict}, C words by a numeral"),
                 );
-                census.meet_if(any, format!("{verdict}, a numeral contracted"));
+                census.meet_if(numeral, format!("{verdict}, a numeral contracted"));
+                census.meet_if(default, format!("{verdict}, a default taken"));
             }
             look_at_end(end, capacity, budget, &mut census);
         }

@@ -162,7 +162,7 @@ fn inputs_reach_every_difference() {
 fn scripts_reach_every_difference() {
     let met = on_large_stack(|| {
         let mut met = Met::default();
-        of_scripts(53, 1_100, |press, last| look_at(press, last, &mut met));
+        of_scripts(53, 1_200, |press, last| look_at(press, last, &mut met));
         met
     });
     met.places.assert_reaches(10, &PLACES);
@@ -176,8 +176,8 @@ fn scripts_reach_every_difference() {
 fn scripts_about_forms_apart() {
     let met = on_large_stack(|| {
         let mut met = Census::default();
-        // The ninth of eleven subjects.
-        for case in (8..1_650).step_by(11) {
+        // The ninth of twelve subjects.
+        for case in (8..1_800).step_by(12) {
             let mut sides = Vec::new();
             let transcript = run_watched(&scripts::script(53, case), |_, operation| {
                 if let Operation::Load { side, .. } | Operation::Line { side, .. } = operation {

@@ -348,8 +348,8 @@ fn broken_rule(words: &[u32]) -> Option<String> {
 fn words_that_are_no_term_break_every_rule() {
     let census = on_large_stack(|| {
         let mut census = Census::default();
-        // Of eleven scripts the third is about such words.
-        for case in (2..5_500).step_by(11) {
+        // Of twelve scripts the third is about such words.
+        for case in (2..6_000).step_by(12) {
             each_call(&scripts::script(46, case), |before, operation, event| {
                 let Operation::Press { lengths, .. } = operation else {
                     return;

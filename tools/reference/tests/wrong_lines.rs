@@ -462,7 +462,7 @@ fn read(mistake: Mistake, typed: &Typed) -> (Result<u32, u32>, Vec<u32>) {
 fn scripts_tell_wrong_readers() {
     let counts = on_large_stack(|| {
         let mut counts = vec![0; MISTAKES.len()];
-        of_scripts(61, 1_100, |typed| {
+        of_scripts(61, 1_200, |typed| {
             let mut workspace = typed.workspace.clone();
             let answer = read_line(&typed.line, &mut workspace);
             let expected = (answer.map_err(|refusal| refusal.number()), workspace);

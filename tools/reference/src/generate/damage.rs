@@ -1,6 +1,7 @@
 //! Tables with chosen faults, one clause of a refusal at a time, and words
 //! that are no whole term.
 
+use crate::default::{self, Fault};
 use crate::generate::families::deep;
 use crate::generate::tables::{node, table, Node, Order};
 use crate::generate::terms::{replace, subterms, term, Style};
@@ -64,6 +65,45 @@ pub fn faulty_numeral(random: &mut Random, fault: Refusal, capacity: usize) -> V
             return table(random, &[host], order);
         }
     }
+}
+
+/// A table that is wrong by tag 0 alone.
+pub fn faulty_default(random: &mut Random, fault: Fault, capacity: usize) -> Vec<u32> {
+    let host = planted_default(random, fault, capacity);
+    let order = Order::random(random);
+    table(random, &[host], order)
+}
+
+/// Words that are no term by tag 0 alone, at most `most` of them.
+pub fn faulty_default_words(random: &mut Random, fault: Fault, most: usize) -> Vec<u32> {
+    node_words(&planted_default(random, fault, most))
+}
+
+/// Any term of at most `most` records, at least 16, with the fault put in.
+fn planted_default(random: &mut Random, fault: Fault, most: usize) -> Node {
+    loop {
+        let part = match fault {
+            Fault::Binds => binding_tag_0(random),
+            Fault::Constructor => {
+                let count = random.pick(&[0, 1, 2, MOST]);
+                node(kind::CONSTRUCTOR, 0, vec![leaf(); count])
+            }
+            Fault::Place => misplaced_default(random),
+        };
+        let host = planted(random, &part, most.min(30));
+        if host.size() <= most {
+            return host;
+        }
+    }
+}
+
+/// A case with a branch of tag 0 that binds something.
+fn binding_tag_0(random: &mut Random) -> Node {
+    let any = random.between(1, MOST) as u32;
+    let bound = random.pick(&[1, any, MOST as u32]);
+    let mut branches = vec![arm(0, bound)];
+    branches.extend(random.percent(50).then(|| arm(2, bound)));
+    case_with(branches)
 }
 
 /// Any term with the part put in somewhere.
@@ -371,12 +411,16 @@ fn elsewhere(random: &mut Random, own: usize, old: usize, count: usize) -> u32 {
 /// most `most` of them.
 pub fn faulty_words(random: &mut Random, most: usize) -> Vec<u32> {
     loop {
-        let forest = match random.below(8) {
+        let forest = match random.below(9) {
             0 => {
                 let numeral = node(kind::NUMERAL, large_numeral(random), Vec::new());
                 vec![planted(random, &numeral, most.min(20))]
             }
             1 | 2 => faulty_forest(random, &[Refusal::FreeNumber], most.min(20)),
+            8 => {
+                let fault = random.pick(&default::FAULTS);
+                vec![planted_default(random, fault, most)]
+            }
             _ => faulty_forest(random, &[Refusal::Structure], most.min(20)),
         };
         let words: Vec<u32> = forest.iter().flat_map(node_words).collect();

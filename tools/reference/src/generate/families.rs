@@ -1,10 +1,11 @@
 //! Known families of pairs: arithmetic, loops, thrown-away loops, growing
-//! terms, stuck terms, numerals and deep terms.
+//! terms, stuck terms, numerals, defaults and deep terms.
 
 use crate::contraction::church;
 use crate::random::Random;
 use crate::term::{
-    abs, app, branch, case, con, num, var, Term, LARGEST_FREE, LARGEST_NUMERAL, MOST, WORKSPACE,
+    abs, app, branch, case, con, default, num, var, Branch, Term, LARGEST_FREE, LARGEST_NUMERAL,
+    MOST, TAGS, WORKSPACE,
 };
 
 /// A function applied to arguments one after the other.
@@ -48,24 +49,30 @@ fn recursive(function: Term, args: impl IntoIterator<Item = Term>) -> Term {
     apply(app(function, again), args)
 }
 
-fn peano_sum(m: Term, n: Term) -> Term {
+/// The branch for zero, or a default in its place.
+fn zero(random: &mut Random, body: Term) -> Branch {
+    match random.percent(30) {
+        true => default(body),
+        false => branch(1, 0, body),
+    }
+}
+
+fn peano_sum(random: &mut Random, m: Term, n: Term) -> Term {
     let rest = apply(var(3), [var(3), var(0), var(1)]);
-    let arms = vec![branch(1, 0, var(0)), branch(2, 1, con(2, vec![rest]))];
+    let arms = vec![zero(random, var(0)), branch(2, 1, con(2, vec![rest]))];
     recursive(lambdas(3, case(var(1), arms)), [m, n])
 }
 
-fn peano_predecessor(n: Term) -> Term {
-    case(n, vec![branch(1, 0, peano(0)), branch(2, 1, var(0))])
+fn peano_predecessor(random: &mut Random, n: Term) -> Term {
+    case(n, vec![zero(random, peano(0)), branch(2, 1, var(0))])
 }
 
 /// Constructor 3 for even numbers and 4 for odd ones.
-fn peano_parity(n: Term) -> Term {
+fn peano_parity(random: &mut Random, n: Term) -> Term {
     let again = apply(var(3), [var(3), var(0)]);
-    let odd = case(
-        var(0),
-        vec![branch(1, 0, con(4, Vec::new())), branch(2, 1, again)],
-    );
-    let arms = vec![branch(1, 0, con(3, Vec::new())), branch(2, 1, odd)];
+    let arms = vec![zero(random, con(4, Vec::new())), branch(2, 1, again)];
+    let odd = case(var(0), arms);
+    let arms = vec![zero(random, con(3, Vec::new())), branch(2, 1, odd)];
     recursive(lambdas(2, case(var(0), arms)), [n])
 }
 
@@ -102,13 +109,21 @@ pub fn identities(count: usize, term: Term) -> Term {
 
 /// A pair of one of the families.
 pub fn pair(random: &mut Random) -> (Term, Term) {
-    match random.below(7) {
+    match random.below(8) {
+        0..=4 => other(random),
+        5 | 6 => numerals(random),
+        _ => defaults(random),
+    }
+}
+
+/// A pair in which neither numerals nor defaults have the main part.
+fn other(random: &mut Random) -> (Term, Term) {
+    match random.below(5) {
         0 => arithmetic(random),
         1 => data(random),
         2 => loops(random),
         3 => thrown_away(random),
-        4 => places(random),
-        _ => numerals(random),
+        _ => places(random),
     }
 }
 
@@ -139,18 +154,24 @@ fn data(random: &mut Random) -> (Term, Term) {
     let most = random.pick(&[6, 6, 30]);
     let (m, n) = (random.below(most), random.below(most));
     let off = usize::from(random.percent(40));
-    match random.below(5) {
-        0 => (peano_sum(peano(m), peano(n)), peano(m + n + off)),
-        1 => (peano_sum(peano(m), peano(n)), peano_sum(peano(n), peano(m))),
-        2 => (peano_predecessor(peano(m)), peano(m.saturating_sub(1))),
-        3 => (
-            peano_parity(peano_sum(peano(m), peano(n))),
-            con(3 + ((m + n + off) % 2) as u32, Vec::new()),
-        ),
-        _ => (
-            peano_sum(peano(m), var(0)),
-            peano_sum(var(random.below(2) as u32), peano(n)),
-        ),
+    let (choice, free) = (random.below(5), random.below(2) as u32);
+    let mut sum = |m, n| peano_sum(random, m, n);
+    match choice {
+        0 => (sum(peano(m), peano(n)), peano(m + n + off)),
+        1 => (sum(peano(m), peano(n)), sum(peano(n), peano(m))),
+        2 => {
+            let left = peano_predecessor(random, peano(m));
+            (left, peano(m.saturating_sub(1)))
+        }
+        3 => {
+            let sum = sum(peano(m), peano(n));
+            let parity = con(3 + ((m + n + off) % 2) as u32, Vec::new());
+            (peano_parity(random, sum), parity)
+        }
+        _ => {
+            let left = sum(peano(m), var(0));
+            (left, sum(var(free), peano(n)))
+        }
     }
 }
 
@@ -255,9 +276,9 @@ pub fn numerals(random: &mut Random) -> (Term, Term) {
     let any = random.below(LARGEST_NUMERAL as usize + 1) as u32;
     let n = random.pick(&[0, 1, any, any, LARGEST_NUMERAL]);
     let other = n + u32::from(random.percent(50));
-    match random.below(11) {
+    match random.below(12) {
         0 => (num(n), church(other)),
-        1 | 2 => (num(n), num(other % (LARGEST_NUMERAL + 1))),
+        1 | 2 | 11 => (num(n), num(other % (LARGEST_NUMERAL + 1))),
         3..=5 => numerals_applied(random, n, other),
         6 => {
             let count = random.pick(&[2, 3, MOST]);
@@ -294,6 +315,101 @@ fn numerals_applied(random: &mut Random, n: u32, other: u32) -> (Term, Term) {
         }
         1 => (app(num(m), num(2)), natural(random, 1 << (other % 4))),
         _ => (church_sum(num(m), num(n)), natural(random, m + other)),
+    }
+}
+
+/// Cases with a default, taken or stuck.
+pub fn defaults(random: &mut Random) -> (Term, Term) {
+    match random.below(3) {
+        0 => stuck_default(random),
+        _ => taken_default(random),
+    }
+}
+
+/// Defaults that are taken, in front of other pairs and again and again, with
+/// outer variables in their bodies.
+pub fn taken_default(random: &mut Random) -> (Term, Term) {
+    match random.below(7) {
+        // The body has the subject in it, and a free variable.
+        0 => {
+            let body = app(var(0), var(1));
+            let function = abs(case(var(0), vec![default(body), branch(2, 1, var(0))]));
+            let subject = con(3, spares(random));
+            let free = var(random.below(2) as u32);
+            (app(function, subject.clone()), app(subject, free))
+        }
+        1 => {
+            let again = con(2, vec![doubled(var(0))]);
+            let left = doubled(abs(default_around(random, again)));
+            (left, random.pick(&[var, num])(0))
+        }
+        _ => {
+            let (left, right) = other(random);
+            let right = match random.percent(30) {
+                true => default_around(random, right),
+                false => right,
+            };
+            (default_around(random, left), right)
+        }
+    }
+}
+
+/// What may be dropped; some of it is endless.
+fn spare(random: &mut Random) -> Term {
+    match random.below(5) {
+        0 => omega(),
+        1 => growing(),
+        2 => num(LARGEST_NUMERAL),
+        free => var(free as u32),
+    }
+}
+
+/// Up to fifteen terms that may be dropped.
+fn spares(random: &mut Random) -> Vec<Term> {
+    let count = random.pick(&[0, 0, 1, 2, MOST]);
+    (0..count).map(|_| spare(random)).collect()
+}
+
+/// A case that takes its default, which has the term as its body; beside it are
+/// up to as many other branches as there can be.
+fn default_around(random: &mut Random, body: Term) -> Term {
+    let any = random.between(1, *TAGS.end() as usize) as u32;
+    let tag = random.pick(&[1, 2, 3, any, *TAGS.end()]);
+    let others = random.pick(&[0, 0, 1, 2, MOST - 1]);
+    let subject = con(tag, spares(random));
+    let tags = TAGS.filter(|other| *other != tag).take(others);
+    let mut arms = vec![default(body)];
+    arms.extend(tags.map(|tag| branch(tag, random.below(3) as u32, spare(random))));
+    case(subject, arms)
+}
+
+/// A case with a default that is stuck, by the count of a listed tag or by its
+/// subject, against what the default would give or what the case comes to.
+pub fn stuck_default(random: &mut Random) -> (Term, Term) {
+    let free = random.below(3) as u32;
+    let n = random.below(3) as u32;
+    let bodies = [app(abs(var(0)), var(free)), num(n), var(free)];
+    let body = random.pick(&bodies.each_ref());
+    let normal = match body {
+        Term::Num(_) => church(n),
+        _ => var(free),
+    };
+    let count = random.pick(&[0, 1, 2, MOST]);
+    let bound = (count + random.between(1, 3)) % (MOST + 1);
+    let subject = match random.below(8) {
+        0 => var(free),
+        1 => abs(var(0)),
+        2 => num(n),
+        3 => app(var(0), con(3, Vec::new())),
+        _ => con(2, vec![var(free); count]),
+    };
+    let of = |body: &Term| {
+        let arms = vec![default(body.clone()), branch(2, bound as u32, num(0))];
+        case(subject.clone(), arms)
+    };
+    match random.percent(50) {
+        true => (of(body), normal),
+        false => (of(body), of(&normal)),
     }
 }
 

@@ -1,7 +1,8 @@
 //! Inputs for the verdict program.
 
-use crate::generate::damage::{faulty_numeral, faulty_table, FAULTS};
-use crate::generate::pairs::{long_run, numeral_trial, trial, Trial};
+use crate::default::{self, Fault, Role};
+use crate::generate::damage::{faulty_default, faulty_numeral, faulty_table, FAULTS};
+use crate::generate::pairs::{default_trial, long_run, numeral_trial, stuck_trial, trial, Trial};
 use crate::generate::tables::{term_table, Order};
 use crate::input::bytes;
 use crate::part::{self, Part};
@@ -19,31 +20,41 @@ pub enum Aim {
     Refused(Refusal),
     /// A part that a numeral has in the outcome.
     Numeral(Part),
+    /// A part that a default or tag 0 has in the outcome.
+    Default(Role),
     Input,
     /// Several faults at once, or none.
     Mixed,
 }
 
-/// The aims of a run, each with its share of [`CYCLE`] cases.
-const AIMS: [(Aim, u64); 18] = [
-    (Aim::Verdict(Verdict::Same), 6),
-    (Aim::Verdict(Verdict::Different), 11),
-    (Aim::Verdict(Verdict::Budget), 6),
+/// The aims of a run, each with its share of [`CYCLE`] cases; those with one
+/// outcome stand together.
+const AIMS: [(Aim, u64); 25] = [
+    (Aim::Verdict(Verdict::Same), 1),
+    (Aim::Default(Role::Taken(Verdict::Same)), 4),
+    (Aim::Verdict(Verdict::Different), 10),
+    (Aim::Default(Role::AnotherCount), 2),
+    (Aim::Verdict(Verdict::Budget), 2),
+    (Aim::Default(Role::Taken(Verdict::Budget)), 4),
     (Aim::Verdict(Verdict::Full), 2),
+    (Aim::Numeral(Part::Full), 4),
+    (Aim::Default(Role::Taken(Verdict::Full)), 4),
     (Aim::Refused(Refusal::TableLength), 5),
     (Aim::Refused(Refusal::Header), 5),
     (Aim::Refused(Refusal::Value), 1),
-    (Aim::Refused(Refusal::Link), 6),
-    (Aim::Refused(Refusal::Structure), 2),
-    (Aim::Refused(Refusal::FreeNumber), 6),
-    (Aim::Refused(Refusal::Workspace), 6),
-    (Aim::Refused(Refusal::TooLong), 6),
-    (Aim::Refused(Refusal::Budget), 6),
-    (Aim::Numeral(Part::Full), 5),
-    (Aim::Numeral(Part::Value), 6),
-    (Aim::Numeral(Part::Children), 6),
-    (Aim::Input, 6),
-    (Aim::Mixed, 9),
+    (Aim::Numeral(Part::Value), 4),
+    (Aim::Default(Role::Load(Fault::Binds)), 4),
+    (Aim::Default(Role::Load(Fault::Constructor)), 4),
+    (Aim::Refused(Refusal::Link), 5),
+    (Aim::Refused(Refusal::Structure), 1),
+    (Aim::Numeral(Part::Children), 4),
+    (Aim::Default(Role::Load(Fault::Place)), 4),
+    (Aim::Refused(Refusal::FreeNumber), 5),
+    (Aim::Refused(Refusal::Workspace), 5),
+    (Aim::Refused(Refusal::TooLong), 5),
+    (Aim::Refused(Refusal::Budget), 5),
+    (Aim::Input, 5),
+    (Aim::Mixed, 5),
 ];
 
 /// The sum of the shares.
@@ -92,6 +103,7 @@ impl Aim {
             (Aim::Verdict(verdict), Outcome::Answered(answer)) => answer.verdict == verdict,
             (Aim::Refused(refusal), Outcome::Refused(number)) => refusal == number,
             (Aim::Numeral(part), _) => part::of_input(input).contains(&part),
+            (Aim::Default(role), _) => default::of_input(input).contains(&role),
             (Aim::Input, outcome) => outcome == Outcome::Input,
             (Aim::Mixed, _) => true,
             _ => false,
@@ -100,18 +112,14 @@ impl Aim {
 }
 
 fn attempt(random: &mut Random, aim: Aim) -> Vec<u8> {
-    let wish = match aim {
-        Aim::Verdict(verdict) => Some(verdict),
-        _ => None,
-    };
-    let trial = match wish {
-        _ if aim == Aim::Numeral(Part::Full) => numeral_trial(random, Some(Verdict::Full)),
-        Some(Verdict::Budget) if random.below(LONG_RUNS) == 0 => long_run(random),
-        _ => trial(random, wish),
-    };
+    let trial = trial_for(random, aim);
     let mut request = request(random, &trial);
     match aim {
-        Aim::Verdict(_) | Aim::Numeral(Part::Full) => {}
+        Aim::Default(Role::Load(fault)) => {
+            let table = faulty_default(random, fault, request.capacity as usize);
+            *side(random, &mut request) = table;
+        }
+        Aim::Verdict(_) | Aim::Numeral(Part::Full) | Aim::Default(_) => {}
         Aim::Refused(Refusal::Workspace) => request.capacity = wrong_capacity(random),
         Aim::Refused(Refusal::Budget) => request.budget = wrong_budget(random),
         Aim::Refused(refusal) => {
@@ -131,6 +139,18 @@ fn attempt(random: &mut Random, aim: Aim) -> Vec<u8> {
         Aim::Mixed => mix(random, &mut request),
     }
     encoded(&request)
+}
+
+/// A trial that is likely to meet the aim, if its verdict can.
+fn trial_for(random: &mut Random, aim: Aim) -> Trial {
+    match aim {
+        Aim::Verdict(Verdict::Budget) if random.below(LONG_RUNS) == 0 => long_run(random),
+        Aim::Verdict(verdict) => trial(random, Some(verdict)),
+        Aim::Numeral(Part::Full) => numeral_trial(random, Some(Verdict::Full)),
+        Aim::Default(Role::Taken(verdict)) => default_trial(random, Some(verdict)),
+        Aim::Default(Role::AnotherCount) => stuck_trial(random),
+        _ => trial(random, None),
+    }
 }
 
 /// A workspace length for which every fault of the refusal is possible.

@@ -57,7 +57,7 @@ pub fn with_fault(random: &mut Random, fault: Fault, line: Vec<u8>) -> Vec<u8> {
 /// A change of a line that has a byte at least.
 type Change = fn(&mut Random, Vec<u8>) -> Vec<u8>;
 
-const CHANGES: [Change; 18] = [
+const CHANGES: [Change; 19] = [
     byte_away,
     byte_twice,
     other_byte,
@@ -65,6 +65,7 @@ const CHANGES: [Change; 18] = [
     strange_in_place,
     strange_between,
     strange_space,
+    strange_end,
     strange_end,
     strange_bit,
     space_at_edge,
@@ -137,6 +138,9 @@ fn strange_end(random: &mut Random, mut line: Vec<u8>) -> Vec<u8> {
     let end: &[u8] = random.pick(&[
         b"\n".as_slice(),
         b"\n",
+        b"\n",
+        b"\n",
+        b"\r\n",
         b"\r\n",
         b"\0",
         b"\0",

@@ -123,6 +123,7 @@ fn plain(random: &mut Random, size: usize) -> Term {
         data: 0,
         free: random.pick(&[0, 20, 60]),
         numerals: 0,
+        defaults: 0,
         aim: None,
     };
     term(random, size, 0, style)

@@ -6,7 +6,7 @@ use crate::generate::families::identities;
 use crate::generate::pairs::{expanded, named};
 use crate::generate::terms::{replace, subterms, term, variable, Style};
 use crate::random::Random;
-use crate::term::{abs, app, branch, case, con, var, Branch, Term, MOST, TAGS};
+use crate::term::{abs, app, branch, case, con, default, var, Branch, Term, MOST, TAGS};
 
 /// A pair of accepted terms whose normal forms most often differ, and late.
 pub fn pair(random: &mut Random) -> (Term, Term) {
@@ -15,6 +15,7 @@ pub fn pair(random: &mut Random) -> (Term, Term) {
         data: random.pick(&[20, 50, 80]),
         free: 20,
         numerals: random.pick(&[0, 0, 2, 10]),
+        defaults: random.pick(&[0, 40, 70]),
         aim: None,
     };
     let most = random.pick(&[20, 40, 300, 400, 500, 700]);
@@ -69,8 +70,20 @@ fn stuck(term: &Term) -> Term {
     };
     match (contractum(&inside).is_some(), inside) {
         (true, Term::App(function, argument)) => con(1, vec![*function, *argument]),
-        (true, Term::Case { branches, .. }) => case(var(0), branches),
+        (true, Term::Case { branches, .. }) => case(stuck_subject(&branches), branches),
         (_, inside) => inside,
+    }
+}
+
+/// A subject with which a case of these branches is stuck: beside a default a
+/// constructor of the last tag with another count, or else a variable.
+fn stuck_subject(branches: &[Branch]) -> Term {
+    match branches {
+        [first, .., last] if first.is_default() => {
+            let count = (last.bound as usize + 1) % (MOST + 1);
+            con(last.tag, vec![var(0); count])
+        }
+        _ => var(0),
     }
 }
 
@@ -100,16 +113,20 @@ pub fn changed(random: &mut Random, whole: &Term, style: Style) -> Term {
     replace(whole, place, &new)
 }
 
-/// The place of a part; the last one and cases inside are taken more often.
+/// The place of a part; the last one, cases and constructors inside are taken
+/// more often.
 fn place(random: &mut Random, parts: &[(&Term, u32)]) -> usize {
     let branches = |place: &usize| match parts[*place].0 {
         Term::Case { branches, .. } => !branches.is_empty(),
         _ => false,
     };
     let cases: Vec<usize> = (1..parts.len()).filter(branches).collect();
-    match random.below(10) {
-        0..=2 if !cases.is_empty() => random.pick(&cases),
-        3..=8 => parts.len() - 1,
+    let is_constructor = |place: &usize| matches!(parts[*place].0, Term::Con { .. });
+    let constructors: Vec<usize> = (1..parts.len()).filter(is_constructor).collect();
+    match random.below(13) {
+        0..=3 if !cases.is_empty() => random.pick(&cases),
+        4 if !constructors.is_empty() => random.pick(&constructors),
+        5..=11 => parts.len() - 1,
         _ => random.below(parts.len()),
     }
 }
@@ -125,18 +142,26 @@ fn other_constructor(random: &mut Random, tag: u32, args: &[Term]) -> Term {
     con(tag, args)
 }
 
-/// Branches with another last one, or with a branch more or less.
+/// Branches with another last one, or with a branch more or less, which may be
+/// a default.
 fn other_branches(random: &mut Random, branches: &[Branch]) -> Vec<Branch> {
     let mut branches = branches.to_vec();
     let Some(last) = branches.pop() else {
         return vec![branch(1, 0, var(0))];
     };
     let Branch { tag, bound, .. } = last;
-    match random.below(6) {
-        0 | 1 if tag < *TAGS.end() => branches.push(branch(tag + 1, bound, last.body)),
-        2 | 3 if bound < MOST as u32 => branches.push(branch(tag, bound + 1, last.body)),
-        4 if tag < *TAGS.end() && branches.len() + 1 < MOST => {
+    let has_default = branches.iter().any(Branch::is_default) || last.is_default();
+    match random.below(9) {
+        0..=2 if tag < *TAGS.end() => branches.push(branch(tag + 1, bound, last.body)),
+        3..=5 if bound < MOST as u32 && !last.is_default() => {
+            branches.push(branch(tag, bound + 1, last.body));
+        }
+        6 if tag < *TAGS.end() && branches.len() + 1 < MOST => {
             branches.extend([last, branch(tag + 1, 0, var(0))]);
+        }
+        7 if !has_default && branches.len() + 1 < MOST => {
+            branches.insert(0, default(var(0)));
+            branches.push(last);
         }
         _ => {}
     }

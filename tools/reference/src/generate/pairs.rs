@@ -8,7 +8,7 @@ use crate::generate::near;
 use crate::generate::terms::{numeral, replace, size, subterms, term, variable, Style};
 use crate::press::{Verdict, LARGEST_BUDGET};
 use crate::random::Random;
-use crate::term::{abs, app, branch, case, con, var, Term, MOST, WORKSPACE};
+use crate::term::{abs, app, branch, case, con, default, var, Term, MOST, WORKSPACE};
 
 /// Two terms, a budget and a workspace length that holds both.
 #[derive(Clone, Debug)]
@@ -35,6 +35,16 @@ pub fn near_trial(random: &mut Random) -> Trial {
 /// A trial for any wish on a pair in which numerals have the main part.
 pub fn numeral_trial(random: &mut Random, wish: Option<Verdict>) -> Trial {
     trial_of(random, wish, families::numerals)
+}
+
+/// A trial for any wish on a pair in which defaults are taken.
+pub fn default_trial(random: &mut Random, wish: Option<Verdict>) -> Trial {
+    trial_of(random, wish, families::taken_default)
+}
+
+/// A trial that gives Different on a pair with a default that is stuck.
+pub fn stuck_trial(random: &mut Random) -> Trial {
+    trial_of(random, Some(Verdict::Different), families::stuck_default)
 }
 
 /// A trial for any wish on a pair of variables, abstractions and applications.
@@ -211,11 +221,12 @@ impl Survey {
 
 /// A pair of accepted terms that fit the longest workspace.
 pub fn pair(random: &mut Random) -> (Term, Term) {
-    let (left, right) = match random.below(26) {
+    let (left, right) = match random.below(29) {
         0..=5 => families::pair(random),
         6 => families::deep_pair(random),
         7..=12 => substitution(random),
         13..=18 => near::pair(random),
+        19..=21 => families::defaults(random),
         _ => {
             let style = Style::random(random);
             let size = size(random);
@@ -240,11 +251,13 @@ pub fn pair(random: &mut Random) -> (Term, Term) {
 fn substitution(random: &mut Random) -> (Term, Term) {
     let data = random.pick(&[20, 50, 80]);
     let numerals = random.pick(&[0, 0, 0, 20]);
+    let defaults = random.pick(&[0, 0, 20, 50]);
     let style = |free| Style {
         redexes: 0,
         data,
         free,
         numerals,
+        defaults,
         aim: None,
     };
     let size = random.between(1, 20);
@@ -276,6 +289,9 @@ fn redex(random: &mut Random, binders: u32, style: Style) -> Term {
             term(random, size, binders, style)
         })
         .collect();
+    if !beta && random.percent(style.defaults) {
+        return default_redex(random, args, binders, style);
+    }
     let aim = (count > 0).then_some((binders, count));
     let body = redex_body(random, binders + count, Style { aim, ..style });
     if beta {
@@ -284,6 +300,16 @@ fn redex(random: &mut Random, binders: u32, style: Style) -> Term {
     // Now and then the branch binds another number, which makes it stuck.
     let bound = (count + u32::from(random.percent(10))).min(MOST as u32);
     case(con(2, args), vec![branch(2, bound, body)])
+}
+
+/// A case that takes its default, whose body stands under no further binder.
+/// Now and then a branch of the tag binds another number, which makes it stuck.
+fn default_redex(random: &mut Random, args: Vec<Term>, binders: u32, style: Style) -> Term {
+    let body = redex_body(random, binders, style);
+    let count = args.len() as u32;
+    let tag = random.pick(&[1, 2, 2, 2]);
+    let other = branch(1, (count + 1) % (MOST as u32 + 1), var(0));
+    case(con(tag, args), vec![default(body), other])
 }
 
 /// Any term, or a case of one whose branch binds several variables.
@@ -327,11 +353,15 @@ pub fn expanded(random: &mut Random, term: &Term, style: Style) -> Term {
     let (part, binders) = parts[place];
     let spare = self::term(random, 1, binders, style);
     let part = part.clone();
-    let redex = match random.below(5) {
+    let redex = match random.below(7) {
         0 => identities(random.between(1, 3), part),
-        1 => app(abs(shift(&part, 1)), spare),
-        2 => case(con(2, vec![spare, part]), vec![branch(2, 2, var(0))]),
-        3 => case(
+        1 | 2 => case(
+            con(3, vec![spare]),
+            vec![default(part), branch(2, 1, var(0))],
+        ),
+        3 => app(abs(shift(&part, 1)), spare),
+        4 => case(con(2, vec![spare, part]), vec![branch(2, 2, var(0))]),
+        5 => case(
             con(1, Vec::new()),
             vec![branch(1, 0, part), branch(4, 0, spare)],
         ),

@@ -1,16 +1,20 @@
 //! Scripts for the replaying program.
 
+use crate::default;
 use crate::generate::damage::{
-    changed_word, faulty_numeral, faulty_table, faulty_words, wrong_numeral, FAULTS,
+    changed_word, faulty_default, faulty_default_words, faulty_numeral, faulty_table, faulty_words,
+    wrong_numeral, FAULTS,
 };
 use crate::generate::inputs::{wrong_budget, wrong_capacity};
-use crate::generate::pairs::{near_trial, numeral_trial, plain_trial, trial, Trial};
+use crate::generate::pairs::{
+    default_trial, near_trial, numeral_trial, plain_trial, stuck_trial, trial, Trial,
+};
 use crate::generate::tables::{term_table, Order};
 use crate::generate::terms::{replace, subterms, term, Style};
 use crate::generate::{lines, near};
 use crate::input::bytes;
 use crate::line::LINE;
-use crate::press::{Session, Side, Verdict, LARGEST_BUDGET, LARGEST_TOTAL};
+use crate::press::{rounds, Session, Side, Verdict, LARGEST_BUDGET, LARGEST_TOTAL};
 use crate::random::Random;
 use crate::refusal::Refusal;
 use crate::replay::{Event, Machine, Operation, VERDICTS};
@@ -19,7 +23,7 @@ use crate::term::{num, var, Term, LARGEST_NUMERAL, WORKSPACE};
 use crate::words::{kind, kind_of};
 
 /// What a script is about; the cases of a run go through these in turn.
-const SUBJECTS: [fn(&mut Random) -> Composer; 11] = [
+const SUBJECTS: [fn(&mut Random) -> Composer; 12] = [
     press_list,
     refused_loads,
     wrong_words,
@@ -31,6 +35,7 @@ const SUBJECTS: [fn(&mut Random) -> Composer; 11] = [
     forms_apart,
     typed_pairs,
     every_line,
+    defaults,
 ];
 
 /// The script of one case of a run.
@@ -424,6 +429,11 @@ fn store_changed(random: &mut Random, composer: &mut Composer, side: Side) {
 /// Stores words that are no whole term from the start of a side.
 fn store_faulty(random: &mut Random, composer: &mut Composer, side: Side) {
     let words = faulty_words(random, composer.machine.left.len().min(60));
+    store_all(composer, side, words);
+}
+
+/// Stores words from the start of a side, as its term.
+fn store_all(composer: &mut Composer, side: Side, words: Vec<u32>) {
     let length = words.len() as u32;
     for (at, word) in (0..).zip(words) {
         composer.add(Operation::Store { side, at, word });
@@ -476,6 +486,69 @@ fn store_numeral(random: &mut Random, composer: &mut Composer, side: Side) {
         let at = random.pick(&places) as u32;
         let word = wrong_numeral(random);
         composer.add(Operation::Store { side, at, word });
+    }
+}
+
+/// Defaults in every call and with every verdict, and all that tag 0 can be
+/// refused by.
+fn defaults(random: &mut Random) -> Composer {
+    let trial = moving(random, Verdict::Full);
+    let capacity = trial.capacity;
+    let mut composer = Composer::new(capacity as u32, capacity as u32);
+    composer.load_trial(random, &trial);
+    composer.show();
+    composer.write(random, Side::Left);
+    composer.press(random.pick(&[1, trial.budget, trial.budget, trial.budget]));
+    composer.press(trial.budget);
+    for fault in default::FAULTS {
+        let side = any_side(random);
+        let table = faulty_default(random, fault, capacity);
+        composer.add(Operation::Load { side, table });
+    }
+    composer.print();
+    for trial in [
+        fitting(random, capacity, |random| moving(random, Verdict::Same)),
+        fitting(random, capacity, |random| {
+            moving(random, Verdict::Different)
+        }),
+        fitting(random, capacity, |random| moving(random, Verdict::Budget)),
+        fitting(random, capacity, stuck_trial),
+    ] {
+        composer.load_trial(random, &trial);
+        composer.show();
+        composer.press(trial.budget);
+        composer.write(random, Side::Right);
+    }
+    let side = any_side(random);
+    for fault in default::FAULTS {
+        let words = faulty_default_words(random, fault, capacity.min(60));
+        store_all(&mut composer, side, words);
+        composer.show();
+        composer.write(random, side);
+        composer.press(FEW_ROUNDS);
+    }
+    composer.print();
+    composer
+}
+
+/// A trial with a default in front of a pair, and a contraction at least.
+fn moving(random: &mut Random, verdict: Verdict) -> Trial {
+    loop {
+        let trial = default_trial(random, Some(verdict));
+        let (left, right) = (trial.left.clone(), trial.right.clone());
+        if rounds(left, right, trial.capacity, trial.budget).spent > 0 {
+            return trial;
+        }
+    }
+}
+
+/// A trial that needs no longer workspaces.
+fn fitting(random: &mut Random, capacity: usize, trial: impl Fn(&mut Random) -> Trial) -> Trial {
+    loop {
+        let trial = trial(random);
+        if trial.capacity <= capacity {
+            return trial;
+        }
     }
 }
 

@@ -17,6 +17,8 @@ pub struct Style {
     pub free: usize,
     /// Places of one word that become a numeral.
     pub numerals: usize,
+    /// Cases whose first branch is a default.
+    pub defaults: usize,
     /// Binders to which half of the variables point: how many binders stand
     /// around them, and their number.
     pub aim: Option<(u32, u32)>,
@@ -29,6 +31,7 @@ impl Style {
             data: random.pick(&[0, 30, 50, 90]),
             free: random.pick(&[0, 20, 60]),
             numerals: random.pick(&[0, 0, 10, 40]),
+            defaults: random.pick(&[0, 20, 50]),
             aim: None,
         }
     }
@@ -140,6 +143,29 @@ fn rising_tags(random: &mut Random, count: usize) -> Vec<u32> {
     tags
 }
 
+/// Strictly rising tags for `count` branches, a default's among them or not.
+fn branch_tags(random: &mut Random, count: usize, style: Style) -> Vec<u32> {
+    if count > 0 && random.percent(style.defaults) {
+        let others = rising_tags(random, count - 1);
+        return std::iter::once(0).chain(others).collect();
+    }
+    rising_tags(random, count)
+}
+
+/// The tag of a constructor for which a branch is: itself, or for a default
+/// one that no branch has.
+fn tag_for(random: &mut Random, branch: u32, tags: &[u32]) -> u32 {
+    if branch > 0 {
+        return branch;
+    }
+    loop {
+        let tag = tag(random);
+        if !tags.contains(&tag) {
+            return tag;
+        }
+    }
+}
+
 fn constructor(random: &mut Random, size: usize, binders: u32, style: Style) -> Term {
     let args = count(random, MOST.min(size - 2)) + 1;
     let sizes = split(random, size - 1, args.min(MOST));
@@ -162,13 +188,14 @@ fn any_case(random: &mut Random, size: usize, binders: u32, style: Style) -> Ter
     let bounds: Vec<u32> = (0..count)
         .map(|_| random.pick(&[0, 0, 1, 1, 2, 3, MOST as u32]))
         .collect();
-    let tags = rising_tags(random, count);
+    let tags = branch_tags(random, count, style);
     case(
         scrutinee,
         arms(random, &tags, &bounds, &sizes[1..], binders, style),
     )
 }
 
+/// Branches with these heads, of which a default has no use for its bound.
 fn arms(
     random: &mut Random,
     tags: &[u32],
@@ -181,7 +208,8 @@ fn arms(
     heads
         .zip(sizes)
         .map(|((tag, bound), size)| {
-            branch(*tag, *bound, term(random, *size, binders + bound, style))
+            let bound = if *tag == 0 { 0 } else { *bound };
+            branch(*tag, bound, term(random, *size, binders + bound, style))
         })
         .collect()
 }
@@ -198,19 +226,20 @@ fn redex(random: &mut Random, size: usize, binders: u32, style: Style, data: boo
     )
 }
 
-/// A case of a constructor with a branch of its tag, whose bound count is
-/// now and then another than the constructor's, which makes the case stuck.
+/// A case of a constructor with a default for it or a branch of its tag, whose
+/// bound count is now and then another, which makes the case stuck.
 fn case_redex(random: &mut Random, size: usize, binders: u32, style: Style) -> Term {
     let args = count(random, MOST.min(size - 4));
     let branches = 1 + count(random, 2.min((size - 4 - args) / 2));
     let sizes = split(random, size - 2 - branches, args + branches);
-    let tags = rising_tags(random, branches);
+    let tags = branch_tags(random, branches, style);
     let taken = random.below(branches);
     let mut bounds: Vec<u32> = (0..branches).map(|_| random.below(4) as u32).collect();
     if random.percent(90) {
         bounds[taken] = args as u32;
     }
-    let scrutinee = con(tags[taken], terms(random, &sizes[..args], binders, style));
+    let tag = tag_for(random, tags[taken], &tags);
+    let scrutinee = con(tag, terms(random, &sizes[..args], binders, style));
     case(
         scrutinee,
         arms(random, &tags, &bounds, &sizes[args..], binders, style),

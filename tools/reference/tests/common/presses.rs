@@ -1,5 +1,6 @@
 //! The unrefused presses of generated inputs and scripts.
 
+use reference::default::Role;
 use reference::generate::inputs::{self, Aim};
 use reference::generate::scripts;
 use reference::press::Answer;
@@ -46,8 +47,12 @@ fn forms(machine: &Machine, lengths: (u32, u32)) -> [Vec<u32>; 2] {
 /// The presses of so many cases of the verdict program, which are made for
 /// verdicts, each with the line that is printed.
 pub fn of_inputs(seed: u64, cases: u64, mut look: impl FnMut(&Press, String)) {
-    let cases = (0..cases).filter(|case| matches!(inputs::aim(*case), Aim::Verdict(_)));
-    for case in cases {
+    let is_made_for_one = |case: &u64| match inputs::aim(*case) {
+        Aim::Verdict(_) => true,
+        Aim::Default(role) => !matches!(role, Role::Load(_)),
+        _ => false,
+    };
+    for case in (0..cases).filter(is_made_for_one) {
         let input = inputs::input(seed, case);
         verdict::watch(&input, |before, operation| {
             if let Some(press) = Press::of(before, operation) {
