@@ -73,10 +73,15 @@ fn of_call(number: &str, question: &Question) -> Option<String> {
 /// What a refusal says of a term.
 fn of_term(number: &str, term: &Term, question: &Question) -> String {
     match number {
-        "3" => format!("a tag is outside {} to {}", TAGS.start(), TAGS.end()),
-        "5" => {
-            format!("more than {MAX_COUNT} arguments or branches, or branch tags that do not rise")
-        }
+        "3" => format!(
+            "a tag is outside {} to {}; only a default, `_:BODY`, has tag 0, and it binds nothing",
+            TAGS.start(),
+            TAGS.end()
+        ),
+        "5" => format!(
+            "more than {MAX_COUNT} arguments or branches, or branch tags that do not rise; a default \
+             stands first"
+        ),
         "6" => format!("a free number, an index less the binders around it, is above {MAX_FREE}"),
         "8" => format!(
             "{} words are more than C, which is {}",

@@ -534,10 +534,13 @@ fn a_refusal_names_side_and_reason() {
     // Three words make a table of 16.
     let (wrong, right) = ("0 0", "0");
     for (number, reason) in [
-        ("3", "a tag is outside 1 to 255"),
+        (
+            "3",
+            "a tag is outside 1 to 255; only a default, `_:BODY`, has tag 0, and it binds nothing",
+        ),
         (
             "5",
-            "more than 15 arguments or branches, or branch tags that do not rise",
+            "more than 15 arguments or branches, or branch tags that do not rise; a default stands first",
         ),
         (
             "6",
