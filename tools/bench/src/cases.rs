@@ -52,7 +52,7 @@ impl Case {
 
 /// Pairs with contractions, each family growing.
 pub fn contracting() -> Vec<Case> {
-    let mut cases = vec![looping()];
+    let mut cases = vec![looping(), looping_by_last(), looping_by_default()];
     cases.extend([10, 13, 16].map(fold));
     cases.extend([5, 7, 9].map(power));
     cases.push(power_of_numerals(8));
@@ -139,6 +139,29 @@ fn endless(name: String, left: &str, length: usize, budget: u32) -> Case {
         budget,
         ..Case::new(name, left, "0", line)
     }
+}
+
+/// f f where f is an abstraction of a case of the constructor with the tag, one of whose 15 branches
+/// applies the argument to itself. Beta leads from 71 words to 102, and the case back.
+fn looping_by(name: &str, tag: usize, branches: &str) -> Case {
+    let f = format!(r"(\?#{tag}{{{branches}}})");
+    endless(name.to_string(), &format!("{f} {f}"), 71, FOLLOWED)
+}
+
+/// Branches of the tags 1 to 14, with a constructor as body.
+fn fourteen_branches() -> String {
+    let branches: Vec<String> = (1..=14).map(|tag| format!("{tag}.0:#1")).collect();
+    branches.join(",")
+}
+
+fn looping_by_last() -> Case {
+    let branches = format!("{},15.0:0 0", fourteen_branches());
+    looping_by("Loop by the last of 15 branches", 15, &branches)
+}
+
+fn looping_by_default() -> Case {
+    let branches = format!("_:0 0,{}", fourteen_branches());
+    looping_by("Loop by the default of 15 branches", 15, &branches)
 }
 
 /// Contractions followed where a program searches or moves long terms.
