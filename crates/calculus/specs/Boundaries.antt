@@ -3,9 +3,10 @@ use mathlib.Core.Path.{_≡_}
 use Prim.Native.Nat.{ℕ}
 use mathlib.Core.List.{List, [], _∷_, _++_}
 use mathlib.Core.Option.{some, none, Option·map}
-use Rattle.calculus.specs.Term.{var, lam}
+use Rattle.calculus.specs.Term.{var, lam, nil, cons, end, branch}
 use Rattle.calculus.specs.Words.{words}
 use Rattle.calculus.specs.Read.{read}
+use Rattle.calculus.specs.Contraction.{select}
 use Rattle.calculus.specs.Comparison.{equal, differ, compareWords}
 use Rattle.calculus.specs.Rounds.{Same, Different, Budget, Full}
 use Rattle.calculus.specs.Theorems.{Closed}
@@ -50,9 +51,11 @@ pub record Boundaries : Type 0 where
   pub branches-15 : Option·map words (read (124 ∷ 0 ∷ 133 ∷ 0 ∷ 261 ∷ 0 ∷ 389 ∷ 0 ∷ 517 ∷ 0 ∷ 645 ∷ 0 ∷ 773 ∷ 0 ∷ 901 ∷ 0 ∷ 1029 ∷ 0 ∷ 1157 ∷ 0 ∷ 1285 ∷ 0 ∷ 1413 ∷ 0 ∷ 1541 ∷ 0 ∷ 1669 ∷ 0 ∷ 1797 ∷ 0 ∷ 1925 ∷ 0 ∷ [])) ≡ some (124 ∷ 0 ∷ 133 ∷ 0 ∷ 261 ∷ 0 ∷ 389 ∷ 0 ∷ 517 ∷ 0 ∷ 645 ∷ 0 ∷ 773 ∷ 0 ∷ 901 ∷ 0 ∷ 1029 ∷ 0 ∷ 1157 ∷ 0 ∷ 1285 ∷ 0 ∷ 1413 ∷ 0 ∷ 1541 ∷ 0 ∷ 1669 ∷ 0 ∷ 1797 ∷ 0 ∷ 1925 ∷ 0 ∷ [])
   pub branches-16 : read (132 ∷ 0 ∷ 133 ∷ 0 ∷ 261 ∷ 0 ∷ 389 ∷ 0 ∷ 517 ∷ 0 ∷ 645 ∷ 0 ∷ 773 ∷ 0 ∷ 901 ∷ 0 ∷ 1029 ∷ 0 ∷ 1157 ∷ 0 ∷ 1285 ∷ 0 ∷ 1413 ∷ 0 ∷ 1541 ∷ 0 ∷ 1669 ∷ 0 ∷ 1797 ∷ 0 ∷ 1925 ∷ 0 ∷ 2053 ∷ 0 ∷ []) ≡ none
   pub default-read : Option·map words (read (12 ∷ 0 ∷ 5 ∷ 0 ∷ [])) ≡ some (12 ∷ 0 ∷ 5 ∷ 0 ∷ [])
-  pub tag-0-bound-1 : read (12 ∷ 0 ∷ 13 ∷ 0 ∷ []) ≡ none
-  pub tag-0-bound-15 : read (12 ∷ 0 ∷ 125 ∷ 0 ∷ []) ≡ none
+  pub branch-tag-0-bound-1 : read (12 ∷ 0 ∷ 13 ∷ 0 ∷ []) ≡ none
+  pub branch-tag-0-bound-15 : read (12 ∷ 0 ∷ 125 ∷ 0 ∷ []) ≡ none
   pub tag-0-with-an-argument : read (11 ∷ 0 ∷ []) ≡ none
+  pub tag-0-with-15-arguments : read (123 ∷ 0 ∷ 0 ∷ 0 ∷ 0 ∷ 0 ∷ 0 ∷ 0 ∷ 0 ∷ 0 ∷ 0 ∷ 0 ∷ 0 ∷ 0 ∷ 0 ∷ 0 ∷ []) ≡ none
+  pub tag-0-before-a-default : read (12 ∷ 3 ∷ 5 ∷ 0 ∷ []) ≡ none
   pub default-first : Option·map words (read (20 ∷ 0 ∷ 5 ∷ 0 ∷ 133 ∷ 0 ∷ [])) ≡ some (20 ∷ 0 ∷ 5 ∷ 0 ∷ 133 ∷ 0 ∷ [])
   pub default-second : read (20 ∷ 0 ∷ 133 ∷ 0 ∷ 5 ∷ 0 ∷ []) ≡ none
   pub two-defaults : read (20 ∷ 0 ∷ 5 ∷ 0 ∷ 5 ∷ 0 ∷ []) ≡ none
@@ -77,9 +80,10 @@ pub record Boundaries : Type 0 where
   pub redex-in-later-branch : contracted (20 ∷ 0 ∷ 133 ∷ 8 ∷ 261 ∷ 2 ∷ 1 ∷ 0 ∷ 0 ∷ []) ≡ some (some (20 ∷ 0 ∷ 133 ∷ 8 ∷ 261 ∷ 0 ∷ []))
   pub default-taken : contracted (12 ∷ 131 ∷ 5 ∷ 0 ∷ []) ≡ some (some (0 ∷ []))
   pub default-for-another-tag : contracted (20 ∷ 259 ∷ 5 ∷ 0 ∷ 133 ∷ 8 ∷ []) ≡ some (some (0 ∷ []))
-  pub default-left-for-a-listed-tag : contracted (20 ∷ 131 ∷ 5 ∷ 0 ∷ 133 ∷ 8 ∷ []) ≡ some (some (8 ∷ []))
-  pub default-left-for-a-listed-tag-with-fewer : contracted (20 ∷ 131 ∷ 5 ∷ 0 ∷ 141 ∷ 8 ∷ []) ≡ some none
-  pub default-left-for-a-listed-tag-with-more : contracted (20 ∷ 139 ∷ 0 ∷ 5 ∷ 0 ∷ 133 ∷ 8 ∷ []) ≡ some none
+  pub default-for-a-lower-tag : contracted (20 ∷ 131 ∷ 5 ∷ 0 ∷ 261 ∷ 8 ∷ []) ≡ some (some (0 ∷ []))
+  pub listed-tag-beside-a-default : contracted (20 ∷ 131 ∷ 5 ∷ 0 ∷ 133 ∷ 8 ∷ []) ≡ some (some (8 ∷ []))
+  pub fewer-arguments-beside-a-default : contracted (20 ∷ 131 ∷ 5 ∷ 0 ∷ 141 ∷ 8 ∷ []) ≡ some none
+  pub more-arguments-beside-a-default : contracted (20 ∷ 139 ∷ 0 ∷ 5 ∷ 0 ∷ 133 ∷ 8 ∷ []) ≡ some none
   pub default-drops-arguments : contracted (12 ∷ 147 ∷ 8 ∷ 16 ∷ 5 ∷ 24 ∷ []) ≡ some (some (24 ∷ []))
   pub default-lowers-nothing : contracted (1 ∷ 12 ∷ 139 ∷ 0 ∷ 5 ∷ 8 ∷ []) ≡ some (some (1 ∷ 8 ∷ []))
   pub default-before-an-endless-argument : contracted (12 ∷ 139 ∷ (loop ++ (5 ∷ 0 ∷ []))) ≡ some (some (0 ∷ []))
@@ -89,8 +93,19 @@ pub record Boundaries : Type 0 where
   pub no-default-for-a-case : contracted (12 ∷ 4 ∷ 131 ∷ 5 ∷ 0 ∷ []) ≡ some none
   pub no-default-for-a-numeral : contracted (12 ∷ 6 ∷ 5 ∷ 0 ∷ []) ≡ some (some (12 ∷ 1 ∷ 1 ∷ 0 ∷ 5 ∷ 0 ∷ []))
   pub redex-in-default-first : contracted (20 ∷ 0 ∷ 5 ∷ 2 ∷ 1 ∷ 0 ∷ 8 ∷ 133 ∷ 2 ∷ 1 ∷ 0 ∷ 16 ∷ []) ≡ some (some (20 ∷ 0 ∷ 5 ∷ 8 ∷ 133 ∷ 2 ∷ 1 ∷ 0 ∷ 16 ∷ []))
+  pub argument-put-into-a-default : contracted (2 ∷ 1 ∷ 12 ∷ 8 ∷ 5 ∷ 0 ∷ 40 ∷ []) ≡ some (some (12 ∷ 0 ∷ 5 ∷ 40 ∷ []))
   pub default-against-its-body : judged (12 ∷ 139 ∷ 0 ∷ 5 ∷ 8 ∷ []) (8 ∷ []) 16 1 ≡ some (shown Same 1 1 1 0)
   pub stuck-beside-a-default : judged (20 ∷ 139 ∷ 0 ∷ 5 ∷ 8 ∷ 133 ∷ 0 ∷ []) (8 ∷ []) 16 1 ≡ some (shown Different 0 7 1 0)
+  -- Branches that no workspace holds.
+  pub default-in-second-place : select 2 nil (branch 1 0 (var 0) (branch 0 0 (var 1) end)) ≡ some (var 1)
+  pub listed-before-a-later-default : select 1 nil (branch 1 0 (var 0) (branch 0 0 (var 1) end)) ≡ some (var 0)
+  pub first-of-two-defaults : select 1 nil (branch 0 0 (var 0) (branch 0 0 (var 1) end)) ≡ some (var 0)
+  pub first-of-equal-tags : select 1 nil (branch 1 0 (var 0) (branch 1 0 (var 1) end)) ≡ some (var 0)
+  pub first-of-equal-tags-is-stuck : select 1 nil (branch 0 0 (var 2) (branch 1 1 (var 0) (branch 1 0 (var 1) end))) ≡ none
+  pub tag-0-that-binds : select 0 (cons (var 3) nil) (branch 0 0 (var 1) (branch 0 1 (var 0) end)) ≡ some (var 3)
+  pub tag-0-that-binds-is-no-default : select 1 nil (branch 0 1 (var 0) end) ≡ none
+  pub tag-0-takes-the-default : select 0 (cons (var 3) nil) (branch 0 0 (var 1) end) ≡ some (var 1)
+  -- Numerals.
   pub numeral-0 : contracted (6 ∷ []) ≡ some (some (1 ∷ 1 ∷ 0 ∷ []))
   pub numeral-2 : contracted (22 ∷ []) ≡ some (some (1 ∷ 1 ∷ 2 ∷ 8 ∷ 2 ∷ 8 ∷ 0 ∷ []))
   pub numeral-31 : Option·map words (read (254 ∷ [])) ≡ some (254 ∷ [])

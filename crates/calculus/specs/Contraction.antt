@@ -1,8 +1,9 @@
 -- Contraction at a place ("Contraction"): the beta, the case and the numeral rule, legal at every redex, under binders, in arguments and in branches.
 --
 -- `Contracts s p r e g` says that e, of sort s, becomes g by one contraction with rule r of the redex whose first word stands at position p of
--- e's words. A case whose branch of the tag binds another number than the constructor's arguments is stuck, with a default beside it too, and so is an
--- application of a constructor: no rule applies to them. Where branches repeat a tag, which no accepted term does, the first of them decides.
+-- e's words. A case whose branch of the tag binds another number than the constructor's arguments is stuck, even beside a default, and so is an
+-- application of a constructor: no rule applies to them. Where branches repeat a tag, which no accepted term does, the first of them other than a default
+-- decides, and of several defaults the first is taken.
 use Prim.Native.Nat.{ℕ, suc, _+_}
 use mathlib.Core.Path.{_≡_}
 use mathlib.Core.Bool.{cond}
@@ -16,7 +17,7 @@ use Rattle.calculus.specs.Substitution.{subst}
 pub data Rule : Type 0 where
   by-beta by-case by-numeral : Rule
 
--- The body of the default, if there is one.
+-- The body of the default, if there is one: it binds nothing.
 abbrev pub default : Branches → Option Term
 default end = none
 default (branch u n b bs) = cond (isDefault u n) (some b) (default bs)
@@ -30,7 +31,8 @@ listed rest t xs (branch u n b bs) =
     (cond (eqb t u) (cond (eqb (count xs) n) (some (subst xs 0 b)) none)
     (listed rest t xs bs))
 
--- What the case rule makes of them: a tag that another branch has is left to that branch, any other takes the default, which binds nothing.
+-- What the case rule makes of a constructor's tag and arguments and the branches: a branch other than the default that has the tag decides alone; where none
+-- has it, the default's body as it stands, if there is one.
 abbrev pub select : ℕ → Terms → Branches → Option Term
 select t xs bs = listed (default bs) t xs bs
 

@@ -23,7 +23,7 @@ constant-applied = app (lam (var 2)) (var 0)
 abbrev pub second-branch : Term
 second-branch = case (con 2 nil) (branch 1 0 (var 0) (branch 2 0 (var 1) end))
 
--- A case of constructor 3 with the argument f0; no other branch than the default, f1, has its tag.
+-- A default, f1, and a branch of tag 2; a case of constructor 3 with the argument f0 on them takes the default.
 abbrev pub with-default : Branches
 with-default = branch 0 0 (var 1) (branch 2 0 (var 0) end)
 

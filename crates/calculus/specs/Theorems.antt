@@ -9,7 +9,7 @@ use lib.ListN.{length, take, getD}
 use Rattle.calculus.specs.Term.{Sort, term, Exp, end, branch, Term, Terms, Branches, count}
 use Rattle.calculus.specs.Words.{applicationKind, caseKind, numeralKind, kindOf, countBase, words, size, workspaceMost}
 use Rattle.calculus.specs.Everywhere.{binders, anywhere, Asked, variables, Everywhere}
-use Rattle.calculus.specs.Accepted.{Rising, Accepted, indexLimit}
+use Rattle.calculus.specs.Accepted.{tagLimit, argumentLimit, Rising, acceptance, Accepted, indexLimit}
 use Rattle.calculus.specs.Read.{read}
 use Rattle.calculus.specs.Shift.{move}
 use Rattle.calculus.specs.Substitution.{subst}
@@ -23,6 +23,12 @@ use Rattle.calculus.specs.Comparison.{equal, differ, compareWords, compa
 -- `read` gives t exactly for the words of t where t is accepted.
 abbrev pub Read-exact : Type 0
 Read-exact = (ws : List ℕ) (t : Term) → (read ws ≡ some t) ↔ ((words t ≡ ws) × Accepted 0 t)
+
+-- Which tags and counts an accepted term may have, in the words of "Terms and words": a constructor a tag from 1 on, a branch such a tag or tag 0 with nothing bound.
+abbrev pub Tags-exact : Type 0
+Tags-exact =
+    (t n : ℕ) → (acceptance .of-constructor t n ↔ ((1 ≤ t) × (t ≤ tagLimit) × (n ≤ argumentLimit)))
+    × (acceptance .of-branch t n ↔ (((t ≡ 0) × (n ≡ 0)) ⊎ ((1 ≤ t) × (t ≤ tagLimit) × (n ≤ argumentLimit))))
 
 -- Argument and bound counts are below 16, so that a payload holds them beside the tag.
 abbrev pub counted : Asked (Unit {0})
@@ -97,8 +103,9 @@ abbrev pub Has : (tag bound : ℕ) → Term → Branches → Type 0
 Has t n b end = ⊥
 Has t n b (branch u m c bs) = ((t ≡ u) × (n ≡ m) × (b ≡ c)) ⊎ Has t n b bs
 
--- The case rule in the words of "Contraction": a constructor takes the branch of its tag, other than the default, that binds as many variables as
--- it has arguments; where no other branch than the default has its tag, it takes the default, whose body stays as it is; and nothing else.
+-- The case rule in the words of "Contraction", among branches whose tags rise: a constructor takes the branch of its tag, other than the default, that binds
+-- as many variables as it has arguments; where no other branch than the default has its tag, it takes the default, whose body stays as it is; and nothing
+-- else. Where tags do not rise, `Boundaries` computes which branch decides.
 abbrev pub Select-exact : Type 0
 Select-exact =
     (t : ℕ) (xs : Terms) (bs : Branches) (u : Term) → Rising bs → (select t xs bs ≡ some u)

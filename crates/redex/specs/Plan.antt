@@ -92,7 +92,8 @@ pub data EndTold (ws : List ℕ) (args times last after : ℕ) : Type 0 where
   walked : after ≡ args + span 1 (drop args ws) → EndTold ws args times last after
   stays : times ≡ 1 → last ≡ 0 → getD ws (args - 1) 0 ≡ 0 → after ≡ args → EndTold ws args times last after
 
--- A case of a constructor stands there, and one of its branches was selected: its body, the arguments' end, and how many branches are left behind that one.
+-- A case of a constructor stands there, and one of its branches was selected: its body, the end and the number of the arguments that it takes (the
+-- default takes none), and how many branches are left behind that one.
 pub record Selected (ws : List ℕ) (n at left body after count : ℕ) (room : List ℕ) : Type 0 where
   pub place : At ws n at room
   pub parts-are : parts at (drop at ws) ≡ parted by-case body (at + 2) count left

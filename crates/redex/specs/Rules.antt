@@ -33,8 +33,8 @@ orDefault found.Nothing body left = found.Default body left
 orDefault (found.Listed b l) body left = found.Listed b l
 orDefault (found.Default b l) body left = found.Default b l
 
--- Among k branches, the body of the first that lists the tag, if it binds n variables, and the number of branches behind it; where none lists it, the
--- default that was found before them or is the first among them.
+-- Among k branches, the body of the first that lists the tag, if it binds n variables, and the number of branches behind it; where none lists it, what
+-- was found before them, or else the first default among them.
 unfoldable pub branchBody : (before : Found) (k tag n at : ℕ) → List ℕ → Found
 branchBody before zero t n at ws = before
 branchBody before (suc k) t n at [] = before
