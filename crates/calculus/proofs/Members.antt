@@ -1,9 +1,8 @@
 -- A relation of terms, member by member: related arguments, and related branches of the same tags and bound counts. Then what stands for an index and
 -- what the case rule selects are related too, or there is nothing on either side. Parallel reduction is such a relation.
-use Prim.Native.Nat.{ℕ, suc, _-_, _≤_, _<_}
+use Prim.Native.Nat.{ℕ, suc, _-_}
 use mathlib.Core.Path.{_≡_, refl, ap}
-use mathlib.Core.Bool.{cond}
-use mathlib.Core.Option.{Option, some}
+use mathlib.Core.Option.{Option}
 use lib.Dec.{eqb}
 use lib.IntN.{pos}
 use Rattle.calculus.specs.Term.{Sort, terms, branches, Exp, var, nil, cons, end, branch, Term, Terms, Branches, count, isDefault}

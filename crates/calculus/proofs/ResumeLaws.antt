@@ -5,18 +5,17 @@ use mathlib.Core.Path.{_≡_, refl}
 use mathlib.Core.Logic.{_↔_}
 use mathlib.Core.Bool.{Bool, true, false, cond}
 use mathlib.Core.Option.{Option, some, none, Option·map}
-use lib.Dec.{ltb, eqb}
+use lib.Dec.{ltb}
 use borrow.Author.Tests.{lt-ltb, ltb-false}
 use native.Mathlib.Omega.{arith}
-use Rattle.calculus.specs.Term.{Sort, term, branches, Exp, var, lam, app, con, case, num, nil, cons, end, branch, Term, Terms, Branches, count}
+use Rattle.calculus.specs.Term.{Sort, term, branches, Exp, var, lam, app, con, case, num, cons, branch, Term, Branches}
 use Rattle.calculus.specs.Words.{size}
-use Rattle.calculus.specs.Substitution.{subst}
-use Rattle.calculus.specs.Contraction.{Rule, select, Contracts, at-beta, at-case, at-numeral, in-body, in-function, in-argument}
+use Rattle.calculus.specs.Contraction.{Rule, Contracts, at-beta, at-case, at-numeral, in-body, in-function, in-argument}
 use Rattle.calculus.specs.Contraction.{in-arguments, in-subject, in-branches, in-first, in-later, in-branch, in-later-branch}
 use Rattle.calculus.specs.Step.{contractum}
 use Rattle.calculus.specs.Position.{through, stepAt, contractAt, redexAt}
 use Rattle.calculus.specs.Theorems.{Redexes-before-kept}
-use Rattle.calculus.proofs.All.{Both, neither, each, both-map, both-cond, both-sym, both-none}
+use Rattle.calculus.proofs.All.{Both, neither, each, both-map, both-sym, both-none}
 use Rattle.calculus.proofs.Site.{contraction-within, contraction-leaves}
 use Rattle.calculus.proofs.PositionLaws.{contract-at-position, contractAt-none, redex-none}
 use Rattle.calculus.proofs.Parallel.{par-refl, par-select}

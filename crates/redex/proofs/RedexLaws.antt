@@ -16,7 +16,7 @@ use Rattle.calculus.specs.Words.{variableKind, abstractionKind, applicationKind
 use Rattle.calculus.specs.Skip.{skip, span}
 use Rattle.calculus.specs.Substitution.{subst as substitution}
 use Rattle.calculus.specs.Numeral.{numeral}
-use Rattle.calculus.specs.Contraction.{Rule, by-case, by-numeral, default, listed, select}
+use Rattle.calculus.specs.Contraction.{Rule, by-case, by-numeral, default, listed}
 use Rattle.calculus.specs.Position.{stepAt}
 use Rattle.calculus.specs.Theorems.{Packable, IndicesWithin}
 use Rattle.calculus.proofs.WordLaws.{kindOf-word, payloadOf-word, tagOf-pack, countOf-pack}

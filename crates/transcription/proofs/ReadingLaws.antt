@@ -1,7 +1,7 @@
 -- The readers' turns: what is read at a link that is not 0, and how many records are ahead after it.
 use Prim.Native.Nat.{ℕ, suc, _+_, _-_, _≤_, _<_}
 use mathlib.Core.Path.{_≡_, refl, ap, _∙_}
-use mathlib.Core.Bool.{Bool, true, false, cond, _&&_, and-eq-true-iff}
+use mathlib.Core.Bool.{Bool, true, false, cond, and-eq-true-iff}
 use mathlib.Core.List.{List, [], _∷_, _++_}
 use mathlib.Core.Logic.{inl, inr}
 use native.Mathlib.Omega.{arith}
@@ -9,7 +9,7 @@ use lib.Dec.{leb, eqb}
 use lib.ListN.{length, length-append}
 use borrow.Author.Tests.{leb-true, eqb-true, eq-eqb, ne-eqb}
 use Rattle.calculus.specs.Words.{variableKind, constructorKind, caseKind, branchKind, numeralKind, tagOf, countOf, word, pack, workspaceMost}
-use Rattle.calculus.specs.Accepted.{argumentLimit, branchLimit, numeralLimit, indexLimit}
+use Rattle.calculus.specs.Accepted.{branchLimit, numeralLimit, indexLimit}
 use Rattle.calculus.proofs.DefaultLaws.{pattern-limits}
 use Rattle.words.specs.Limits.{payloadBound}
 use Rattle.words.specs.Pattern.{isTag, isPattern}

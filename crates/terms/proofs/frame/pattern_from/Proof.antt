@@ -1,5 +1,4 @@
 -- `pattern_from` meets its contract.
-use mathlib.Core.Path.{_∙_}
 use borrow.Author.Tests.{le-leb, lt-leb}
 use borrow.Author.Needs.{needs}
 use Rattle.terms.proofs.frame.pattern_from.Statement.{statement}
