@@ -1,6 +1,6 @@
--- Which terms a workspace may hold ("Terms and words"): tags run from 1 to 255, or a branch is the default, which stands first since tags rise; arguments,
--- branches and bound counts run from 0 to 15, branch tags rise strictly within a case, free numbers (indices of free variables) run from 0 to 255, and
--- numerals from 0 to 31. Each limit stands once.
+-- Which terms a workspace may hold ("Terms and words"): tags run from 1 to 255, and a branch may be the default, of tag 0, which binds nothing; arguments,
+-- branches and bound counts run from 0 to 15; branch tags rise strictly within a case, so a default stands first; free numbers (indices of free variables)
+-- run from 0 to 255, and numerals from 0 to 31. Each limit stands once.
 --
 -- `Accepted d e` says it of e under d binders: an index below d is bound; any other has the free number index minus d.
 use Prim.Native.Nat.{ℕ, _+_, _≤_, _<_}

@@ -1,4 +1,5 @@
--- The edges of the rounds, of the position that is shown, of the word rules, of the case rule and of closed terms, each with the neighbour that just passes: what the starred bench pairs do not touch.
+-- The edges of the rounds, of the position that is shown, of the word rules, of the case rule and of closed terms, each with the neighbour that just
+-- passes: what the starred bench pairs do not touch.
 use mathlib.Core.Path.{_≡_}
 use Prim.Native.Nat.{ℕ}
 use mathlib.Core.List.{List, [], _∷_, _++_}

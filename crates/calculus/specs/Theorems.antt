@@ -24,7 +24,8 @@ use Rattle.calculus.specs.Comparison.{equal, differ, compareWords, compa
 abbrev pub Read-exact : Type 0
 Read-exact = (ws : List ℕ) (t : Term) → (read ws ≡ some t) ↔ ((words t ≡ ws) × Accepted 0 t)
 
--- Which tags and counts an accepted term may have, in the words of "Terms and words": a constructor a tag from 1 on, a branch such a tag or tag 0 with nothing bound.
+-- Which tags and counts an accepted term may have ("Terms and words"): a constructor a tag from 1 to 255 and up to 15 arguments; a branch such a tag and up to
+-- 15 bound, or tag 0 and none.
 abbrev pub Tags-exact : Type 0
 Tags-exact =
     (t n : ℕ) → (acceptance .of-constructor t n ↔ ((1 ≤ t) × (t ≤ tagLimit) × (n ≤ argumentLimit)))
@@ -105,7 +106,7 @@ Has t n b (branch u m c bs) = ((t ≡ u) × (n ≡ m) × (b ≡ c)) ⊎ Has t n 
 
 -- The case rule in the words of "Contraction", among branches whose tags rise: a constructor takes the branch of its tag, other than the default, that binds
 -- as many variables as it has arguments; where no other branch than the default has its tag, it takes the default, whose body stays as it is; and nothing
--- else. Where tags do not rise, `Boundaries` computes which branch decides.
+-- else. `Boundaries` has examples where tags do not rise.
 abbrev pub Select-exact : Type 0
 Select-exact =
     (t : ℕ) (xs : Terms) (bs : Branches) (u : Term) → Rising bs → (select t xs bs ≡ some u)

@@ -78,7 +78,7 @@ by-tests others false true true d s o = s
 by-tests others false true false d s o = nowhere
 by-tests others false false fits d s o = o
 
--- The default among the branches is behind the one that was found before them.
+-- A default among the branches yields to what was found before them.
 earlier : {W : List ℕ} {xs : Terms} {most last : ℕ} {rest : Option Term} {before : Found} {p : ℕ} {b : Term} (left : ℕ) (o : Option Term) → Selected W xs most last rest before
     → Stands W p b → size b ≤ most → Ending W p left last
     → Selected W xs most last (orElse rest (some b)) (orDefault before p left) × (orElse (orElse rest (some b)) o ≡ orElse rest (some b))

@@ -27,7 +27,7 @@ ruleOfParts nothing = none
 ruleOfParts (parted rule body args count left) = some rule
 ruleOfParts (numbered n) = some by-numeral
 
--- The default with this body, where nothing was found before it.
+-- What was found, or else the default with this body.
 abbrev pub orDefault : Found → (body left : ℕ) → Found
 orDefault found.Nothing body left = found.Default body left
 orDefault (found.Listed b l) body left = found.Listed b l

@@ -46,7 +46,7 @@ pub enum Found {
 }
 
 impl Found {
-    // The default with this body, where nothing was found before it.
+    // What was found, or else the default with this body.
     pub fn or_default(self, start: usize, left: u32) -> Self
         ensures { λ r. ⌜ r ≡ orDefault self start left ⌝ }
     {

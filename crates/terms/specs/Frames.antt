@@ -1,7 +1,7 @@
 -- Frames, for a scan of words from the left: what is still to come at one level of a term, which words it allows next, and what is to come after
 -- such a word.
 --
--- A frame stands for a number of terms, then a number of branches whose tags rise from its least one on, all under its number of binders.
+-- A frame stands for a number of terms, then a number of branches whose tags rise, the first one at least `least`, all under its number of binders.
 use Prim.Native.Nat.{ℕ, zero, suc, _+_, _*_}
 use mathlib.Core.Bool.{Bool, false, cond, _&&_}
 use mathlib.Core.Option.{Option, some, none}

@@ -12,7 +12,8 @@ ghost use Rattle.words.specs.Pattern.{isPattern};
 ghost use Rattle.terms.specs.Frames.{depthLimit, frame, isFilled, allowed, rest, enteredBy, entered, startsTerm, startsBranch};
 ghost use Rattle.terms.specs.Packed.{unpacked, Packs, enteredOf};
 
-// So many terms, then so many branches with tags rising from a least one on, all under so many binders: four numbers in one word, the terms lowest.
+// So many terms, then so many branches whose tags rise, the first one at least `least`, all under so many binders: four numbers in one word, the terms
+// lowest.
 pub struct Frame(pub u32);
 
 // What a word comes to at a frame: it may not stand there, or it leads to the frame of what follows it.
