@@ -11,7 +11,7 @@ use Rattle.calculus.specs.Everywhere.{Asked}
 use Rattle.calculus.specs.Contraction.{Rule, Contracts}
 use Rattle.calculus.specs.Position.{contractAt}
 use Rattle.calculus.specs.Theorems.{counted, Packable, within, IndicesWithin}
-use Rattle.calculus.proofs.WordLaws.{listed, Listed}
+use Rattle.calculus.proofs.WordLaws.{inLibrary, InLibrary}
 use Rattle.calculus.proofs.Site.{site}
 use Rattle.calculus.proofs.PositionLaws.{contracts-contractAt}
 
@@ -26,7 +26,7 @@ pub record Focus (limit : ℕ) (ws vs : List ℕ) (p : ℕ) : Type 0 where
   pub contracts : contractAt 0 redex ≡ some contractum
   pub packable : Packable redex
   pub indices : IndicesWithin limit redex
-  pub numerals : Listed redex
+  pub numerals : InLibrary redex
 
 data Question : Type 0 where
   of-counts of-indices of-numerals : Question
@@ -34,9 +34,9 @@ data Question : Type 0 where
 abbrev asks : ℕ → Question → Asked (Unit {0})
 asks limit of-counts = counted
 asks limit of-indices = within limit
-asks limit of-numerals = listed
+asks limit of-numerals = inLibrary
 
-pub focus : {s : Sort} {p : ℕ} {r : Rule} {e g : Exp s} (limit : ℕ) → Contracts s p r e g → Packable e → IndicesWithin limit e → Listed e
+pub focus : {s : Sort} {p : ℕ} {r : Rule} {e g : Exp s} (limit : ℕ) → Contracts s p r e g → Packable e → IndicesWithin limit e → InLibrary e
     → Focus limit (words e) (words g) p
 focus limit c h i l =
     let f = site (asks limit) c in

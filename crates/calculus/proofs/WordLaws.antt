@@ -46,8 +46,8 @@ accepted-scoped d e h =
     d d refl e h
 
 -- Every numeral has an entry.
-abbrev pub listed : Asked (Unit {0})
-listed =
+abbrev pub inLibrary : Asked (Unit {0})
+inLibrary =
     record {
       places = anywhere;
       of-variable = λ d i. Unit {0};
@@ -57,12 +57,12 @@ listed =
       of-numeral = λ n. n ≤ numeralLimit;
     }
 
-abbrev pub Listed : {s : Sort} → Exp s → Type 0
-Listed e = Everywhere listed tt e
+abbrev pub InLibrary : {s : Sort} → Exp s → Type 0
+InLibrary e = Everywhere inLibrary tt e
 
-pub accepted-listed : {s : Sort} (d : ℕ) (e : Exp s) → Accepted d e → Listed e
-accepted-listed d e h =
-    everywhere-implies {P = acceptance} {Q = listed} {R = λ d p c. Unit {0}}
+pub accepted-in-library : {s : Sort} (d : ℕ) (e : Exp s) → Accepted d e → InLibrary e
+accepted-in-library d e h =
+    everywhere-implies {P = acceptance} {Q = inLibrary} {R = λ d p c. Unit {0}}
     (record { constructors = λ t n h. tt; cases = λ bs cs same h. tt; branches = λ t n h. tt; numerals = λ n h. h })
     (record { abstractions = λ d p c r. tt; bodies = λ d p c n r. tt })
     (λ d p c i r h. tt)

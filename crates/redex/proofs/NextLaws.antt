@@ -16,7 +16,7 @@ use Rattle.calculus.specs.Numeral.{numeral}
 use Rattle.calculus.specs.Contraction.{Rule}
 use Rattle.calculus.specs.Position.{contractAt}
 use Rattle.calculus.specs.Theorems.{Packable, IndicesWithin}
-use Rattle.calculus.proofs.WordLaws.{Listed, accepted-listed, accepted-packable}
+use Rattle.calculus.proofs.WordLaws.{InLibrary, accepted-in-library, accepted-packable}
 use Rattle.calculus.proofs.SizeLaws.{size-subst}
 use Rattle.calculus.proofs.FirstLaws.{span-items}
 use Rattle.calculus.proofs.Indices.{indices-bounded}
@@ -107,7 +107,7 @@ module _ {ws : List ℕ} {n at : ℕ} (here : HoldsRedex ws n at) where
   indices = indices-bounded (held ws n) (start .accepted) (omega (arith, start .long, start .within, here .holds .limit))
 
   focused : Focus indexLimit (words (held ws n)) (words (next ws n at)) at
-  focused = focus indexLimit (contract-at-position at (held ws n) (next ws n at) .0 (here .redex) .1) packable indices (accepted-listed 0 (held ws n) (start .accepted))
+  focused = focus indexLimit (contract-at-position at (held ws n) (next ws n at) .0 (here .redex) .1) packable indices (accepted-in-library 0 (held ws n) (start .accepted))
 
   -- The redex stands at its position.
   workspace-is : ws ≡ focused .before ++ (words (focused .redex) ++ (focused .after ++ drop n ws))
@@ -213,8 +213,8 @@ module _ {ws : List ℕ} {n at : ℕ} (here : HoldsRedex ws n at) where
     unfolding contractAt
     at-numeral = expanded (rw found at (root redex-stands)) (focused .contracts)
 
-    pub numeral-listed : k ≤ numeralLimit
-    numeral-listed = subst Listed (at-numeral .0) (focused .numerals)
+    pub numeral-in-library : k ≤ numeralLimit
+    numeral-in-library = subst InLibrary (at-numeral .0) (focused .numerals)
 
     numeral-ends : endAt ws at ≡ at + 1
     numeral-ends = omega (arith, redex-span, ap size (at-numeral .0))

@@ -61,43 +61,34 @@ module _ (before : Found) (k t n i : ℕ) (ws : List ℕ) (within : i < length w
       → branchBody before k t n i (drop i ws) ≡ branchBody before (k - 1) t n j (drop j ws)
   branchBody-later d p q = branchBody-step before k t n i ws within left ∙ rw (← told, d, ne-eqb _ _ p, q)
 
--- Fewer branches than all are behind the one that was found.
-data Behind (k : ℕ) : Found → Type 0 where
-  absent : Behind k found.Nothing
-  by-listed : {body left : ℕ} → left < k → Behind k (found.Listed body left)
-  by-default : {body left : ℕ} → left < k → Behind k (found.Default body left)
+-- How many branches are behind the one that was found: no more than there are.
+abbrev pub behindOf : Found → ℕ
+behindOf found.Nothing = 0
+behindOf (found.Listed body left) = left
+behindOf (found.Default body left) = left
 
-behind-cond : {k : ℕ} (c : Bool) {r x : Found} → Behind k r → Behind k x → Behind k (cond c r x)
-behind-cond true r x = r
-behind-cond false r x = x
+module _ (all : ℕ) where
+  behind-cond : (c : Bool) (r x : Found) → behindOf r ≤ all → behindOf x ≤ all → behindOf (cond c r x) ≤ all
+  behind-cond true r x h g = h
+  behind-cond false r x h g = g
 
-behind-default : {k left : ℕ} {before : Found} (body : ℕ) → Behind k before → left < k → Behind k (orDefault before body left)
-behind-default body absent l = by-default l
-behind-default body (by-listed h) l = by-listed h
-behind-default body (by-default h) l = by-default h
+  behind-default : (before : Found) (body left : ℕ) → behindOf before ≤ all → left ≤ all → behindOf (orDefault before body left) ≤ all
+  behind-default found.Nothing body left h l = l
+  behind-default (found.Listed b m) body left h l = h
+  behind-default (found.Default b m) body left h l = h
 
-branchBody-behind : {all : ℕ} {before : Found} (k t n i : ℕ) (ws : List ℕ) → Behind all before → k ≤ all → Behind all (branchBody before k t n i ws)
-unfolding branchBody
-branchBody-behind zero t n i ws h m = h
-branchBody-behind (suc k) t n i [] h m = h
-branchBody-behind (suc k) t n i (w ∷ ws) h m =
-    behind-cond (isDefault (tagOf (payloadOf w)) (countOf (payloadOf w)))
-    (branchBody-behind k t n _ (skip 1 ws) (behind-default (i + 1) h (omega arith)) (omega arith))
-    (behind-cond (eqb t (tagOf (payloadOf w))) (behind-cond (eqb n (countOf (payloadOf w))) (by-listed (omega arith)) absent)
-    (branchBody-behind k t n _ (skip 1 ws) h (omega arith)))
+  branchBody-within : (before : Found) (k t n i : ℕ) (ws : List ℕ) → behindOf before ≤ all → k ≤ all → behindOf (branchBody before k t n i ws) ≤ all
+  unfolding branchBody
+  branchBody-within before zero t n i ws h m = h
+  branchBody-within before (suc k) t n i [] h m = h
+  branchBody-within before (suc k) t n i (w ∷ ws) h m =
+      behind-cond (isDefault (tagOf (payloadOf w)) (countOf (payloadOf w))) _ _
+      (branchBody-within _ k t n _ (skip 1 ws) (behind-default before (i + 1) k h (omega arith)) (omega arith))
+      (behind-cond (eqb t (tagOf (payloadOf w))) _ _ (behind-cond (eqb n (countOf (payloadOf w))) (found.Listed (i + 1) k) found.Nothing (omega arith) (omega arith))
+      (branchBody-within before k t n _ (skip 1 ws) h (omega arith)))
 
-module _ (k t n i : ℕ) (ws : List ℕ) {body left : ℕ} where
-  pub listed-left : found.Listed body left ≡ branchBody found.Nothing k t n i ws → left < k
-  listed-left e = go (rw (← e) at (branchBody-behind {all = k} k t n i ws absent (omega arith)))
-    where
-      go : Behind k (found.Listed body left) → left < k
-      go (by-listed l) = l
-
-  pub default-left : found.Default body left ≡ branchBody found.Nothing k t n i ws → left < k
-  default-left e = go (rw (← e) at (branchBody-behind {all = k} k t n i ws absent (omega arith)))
-    where
-      go : Behind k (found.Default body left) → left < k
-      go (by-default l) = l
+pub branchBody-behind : (k t n i : ℕ) (ws : List ℕ) (r : Found) → r ≡ branchBody found.Nothing k t n i ws → behindOf r ≤ k
+branchBody-behind k t n i ws r e = rw e (branchBody-within k found.Nothing k t n i ws (omega arith) (omega arith))
 
 -- The words from a position on, by the first, and by the first two.
 pub first-word : (i : ℕ) (ws : List ℕ) (j : ℕ) → i < length ws → j ≡ i + 1 → drop i ws ≡ getD ws i 0 ∷ drop j ws

@@ -34,7 +34,7 @@ use Rattle.redex.specs.Plan.{substitutedWords, putBy, ruleOf, Substituti
 use Rattle.redex.proofs.HeldLaws.{next-term}
 use Rattle.redex.proofs.PartsTurns.{parts-beta}
 use Rattle.redex.proofs.PlaceLaws.{redex-here}
-use Rattle.redex.proofs.NextLaws.{endAt, start, length-short, next-size, Contraction, contraction, rest-length, numeral-listed, numeral-rest, numeral-long}
+use Rattle.redex.proofs.NextLaws.{endAt, start, length-short, next-size, Contraction, contraction, rest-length, numeral-in-library, numeral-rest, numeral-long}
 
 -- Words from a position to an end, parted between.
 slice-split : (l : List ℕ) (a e n : ℕ) → a ≤ e → e ≤ n → n ≤ length l → slice a n l ≡ slice a e l ++ slice e n l
@@ -72,7 +72,7 @@ module _ {ws : List ℕ} {n at k : ℕ} (h : Holds ws n) (within : at < n) (foun
       record {
         redex = numeral-found;
         rule-is = rule-here h within (ap ruleOfParts found);
-        puttable = numeral-listed numeral-found found;
+        puttable = numeral-in-library numeral-found found;
         ends = omega arith;
         rest = numeral-rest numeral-found found;
         length-is = omega (arith, numeral-long numeral-found found);

@@ -15,7 +15,7 @@ use Rattle.calculus.specs.Words.{words, size, workspaceMost}
 use Rattle.calculus.specs.Accepted.{Accepted, indexLimit}
 use Rattle.calculus.specs.Skip.{span}
 use Rattle.calculus.specs.Position.{contractAt}
-use Rattle.calculus.proofs.WordLaws.{accepted-listed, accepted-packable, size-positive}
+use Rattle.calculus.proofs.WordLaws.{accepted-in-library, accepted-packable, size-positive}
 use Rattle.calculus.proofs.PrefixFree.{words-prefix-free}
 use Rattle.calculus.proofs.Indices.{indices-bounded}
 use Rattle.calculus.proofs.PositionLaws.{contract-at-position}
@@ -155,7 +155,7 @@ module _ {limit : ℕ} {ws ws′ vs vs′ : List ℕ} {p k : ℕ} (f : Focus lim
       kept-length
 
 focused : (t u : Term) (p : ℕ) → Accepted 0 t → size t ≤ workspaceMost → contractAt p t ≡ some u → Focus indexLimit (words t) (words u) p
-focused t u p a s c = focus indexLimit (contract-at-position p t u .0 c .1) (accepted-packable 0 t a) (indices-bounded t a s) (accepted-listed 0 t a)
+focused t u p a s c = focus indexLimit (contract-at-position p t u .0 c .1) (accepted-packable 0 t a) (indices-bounded t a s) (accepted-in-library 0 t a)
 
 -- The end of the redex at a position, from the words of a workspace.
 redex-end : {ws ws′ : List ℕ} {n p : ℕ} {t : Term} → Start ws n t → (f : Focus indexLimit (words t) ws′ p) → span 1 (drop p ws) ≡ size (f .redex)

@@ -9,7 +9,7 @@ use Rattle.calculus.proofs.NumeralLaws.{numeral-words}
 use Rattle.redex.specs.Rules.{numbered, parts}
 use Rattle.redex.proofs.HeldLaws.{termAt-start}
 use Rattle.redex.proofs.PartsTurns.{parts-numeral}
-use Rattle.redex.proofs.NextLaws.{numeral-listed}
+use Rattle.redex.proofs.NextLaws.{numeral-in-library}
 use Rattle.redex.proofs.PlanLaws.{numeral-found, plans-numeral}
 use Rattle.redex.proofs.numbered.Statement.{statement}
 use Rattle.redex.proofs.numbered.Tie as tie
@@ -27,13 +27,13 @@ module _ (c : tie.After-payload) where
   found = parts-numeral _ _ (within s .0) (s .pre .numeral) ∙ ap numbered (sym (c .payload .ensures))
 
 entry-length-requires : tie.Need-entry-length-requires
-entry-length-requires c κs = let h = s c .pre in numeral-listed (numeral-found (h .holds) (h .within) (found c)) (found c)
+entry-length-requires c κs = let h = s c .pre in numeral-in-library (numeral-found (h .holds) (h .within) (found c)) (found c)
 
 add-t12 : tie.Need-add-t12
 add-t12 c =
     let h = s (c .before) .pre in
     let f = found (c .before) in
-    omega (arith, within (s (c .before)), c .entry-length .ensures, numeral-words (c .before .payload .result) .1, numeral-listed (numeral-found (h .holds) (h .within) f) f)
+    omega (arith, within (s (c .before)), c .entry-length .ensures, numeral-words (c .before .payload .result) .1, numeral-in-library (numeral-found (h .holds) (h .within) f) f)
 
 returns : tie.Need-returns
 returns c =

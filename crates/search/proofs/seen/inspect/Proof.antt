@@ -1,5 +1,5 @@
 -- `inspect` meets its contract: the end of the constructor is where the branches start, and the search among them tells what is seen.
-use Prim.Native.Nat.{ℕ, _+_, _≤_, _<_}
+use Prim.Native.Nat.{_+_, _≤_}
 use mathlib.Core.Path.{_≡_, refl, sym, _∙_, ap}
 use native.Mathlib.Omega.{arith}
 use borrow.Author.Needs.{needs}
@@ -10,7 +10,7 @@ use Rattle.words.specs.Limits.{payloadBound}
 use Rattle.redex.specs.declared.Found.{Found}
 use Rattle.redex.specs.Rules.{withBody, parts}
 use Rattle.search.proofs.EndsLaws.{ends-later}
-use Rattle.redex.proofs.PartsTurns.{listed-left, default-left, parts-case, caseParts-found}
+use Rattle.redex.proofs.PartsTurns.{behindOf, branchBody-behind, parts-case, caseParts-found}
 use Rattle.search.proofs.SearchLaws.{inspected-after}
 use Rattle.search.proofs.seen.inspect.Statement.{statement}
 use Rattle.search.proofs.seen.inspect.Tie as tie
@@ -34,10 +34,10 @@ by-words c e =
     ∙ rw (← h .case-is, ← h .constructor-is)
     (caseParts-found _ _ _ _ (c .before .before .before .payload .ensures) (c .before .before .tag .ensures) (c .before .before .before .before .before .before .count .ensures) (c .before .before .before .before .end-of .ensures) (c .branch-body .ensures) e)
 
--- So many branches are left behind the one that was found.
-few : (c : tie.After-branch-body) {k left : ℕ} → k ≡ c .before .before .before .payload .result → left < k → left ≤ payloadBound
-few c e l =
+few : (c : tie.After-branch-body) (x : Found) → c .branch-body .result ≡ x → behindOf x ≤ payloadBound
+few c x e =
     let s = c .before .before .before .before .before .before .before .before .before in
+    let behind = branchBody-behind _ _ _ _ _ x (sym e ∙ c .branch-body .ensures) in
     omega (arith, c .before .before .before .payload .ensures, s .pre .0 .case-is, c .before .before .before .before .before .before .before .before .shared-slice-known .given (s .args .at) .fits)
 
 selected-requires : tie.Need-selected-requires
@@ -49,7 +49,7 @@ selected-requires c κs =
       place = s .pre .0 .place;
       parts-are = by-words f r;
       after-is = inspected-after (s .pre .0) (f .before .before .before .before .before .before .count .ensures) (f .before .before .before .before .end-of .ensures);
-      few = few f refl (listed-left _ _ _ _ _ (sym r ∙ f .branch-body .ensures));
+      few = few f _ r;
     }
 
 selected-requires-2 : tie.Need-selected-requires-2
@@ -61,7 +61,7 @@ selected-requires-2 c κs =
       place = s .pre .0 .place;
       parts-are = by-words f r;
       after-is = omega (arith, span-zero (drop (s .args .at + 2) (s .args .ws .now)));
-      few = few f refl (default-left _ _ _ _ _ (sym r ∙ f .branch-body .ensures));
+      few = few f _ r;
     }
 
 returns : tie.Need-returns
