@@ -1,2 +1,3 @@
 pub mod PressCode
 pub mod ShowingLaws
+pub mod Examples

@@ -1,15 +1,14 @@
 -- Showing, by its tests in their order.
-use Prim.Native.Nat.{ℕ, _≤_, _<_}
+use Prim.Native.Nat.{ℕ, _≤_}
 use mathlib.Core.Path.{_≡_, sym, _∙_, ap, ap₂}
 use mathlib.Core.Bool.{true, false}
 use mathlib.Core.List.{List, [], _∷_}
 use lib.ListN.{length}
-use borrow.Author.Tests.{le-leb, lt-leb}
 use Rattle.calculus.specs.Words.{workspaceMost}
 use Rattle.calculus.specs.Workspace.{sized, termAt}
 use Rattle.terms.specs.IsTerm.{isTerm}
 use Rattle.calculus.proofs.WorkspaceLaws.{sized-most, sized-equal, first-equal, sized-two}
-use Rattle.press.specs.Showing.{left, right, nothing, shorter, showTerms, show}
+use Rattle.press.specs.Showing.{left, right, nothing, showsRight, shorter, showTerms, show}
 use Rattle.press.proofs.PressCode.{term-within, not-term, is-held}
 
 module _ (ws vs : List ℕ) (l r : ℕ) where
@@ -48,8 +47,8 @@ module _ (ws vs : List ℕ) (l r : ℕ) where
         shows-shorter : show ws vs l r ≡ shorter l r
         shows-shorter = by-terms ∙ ap₂ (showTerms l r) (is-held ws l limit is-left .term) (is-held vs r right-limit is-right .term)
 
-        pub shows-right : r < l → show ws vs l r ≡ record { side = right; count = r }
-        shows-right h = shows-shorter ∙ rw (lt-leb l r h)
+        pub shows-right-form : showsRight l r ≡ true → show ws vs l r ≡ record { side = right; count = r }
+        shows-right-form e = shows-shorter ∙ rw e
 
-        pub shows-left : l ≤ r → show ws vs l r ≡ record { side = left; count = l }
-        shows-left h = shows-shorter ∙ rw (le-leb l r h)
+        pub shows-left-form : showsRight l r ≡ false → show ws vs l r ≡ record { side = left; count = l }
+        shows-left-form e = shows-shorter ∙ rw e

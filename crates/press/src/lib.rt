@@ -22,6 +22,7 @@ mod showing;
 pub mod state;
 
 pub use showing::show;
+pub use showing::shows_right;
 
 // A press on two workspaces that hold terms, with a budget that it may spend.
 fn press_terms(

@@ -5,14 +5,14 @@ use mathlib.Core.Bool.{Bool, true, false, cond}
 use mathlib.Core.List.{List, [], _∷_}
 use mathlib.Core.Option.{Option, some, none, Option·none-ne-some, bind}
 use native.Mathlib.Omega.{arith}
-use lib.Dec.{leb, eqb}
+use lib.Dec.{eqb}
 use lib.ListN.{length, take}
 use lib.Seq.{length-take-le}
-use borrow.Author.Tests.{leb-true, leb-false, le-leb, lt-ltb, le-ltb, ne-eqb}
+use borrow.Author.Tests.{le-leb, ne-eqb}
 use Rattle.calculus.specs.Term.{Term}
 use Rattle.calculus.specs.Read.{read, items, oneTerm}
 use Rattle.calculus.specs.Workspace.{sized, termAt}
-use Rattle.press.specs.Showing.{Part, show, showTerms, nothing, partBy}
+use Rattle.press.specs.Showing.{Part, showsRight, show, showTerms, nothing, partBy}
 use Rattle.press.specs.Showing as shown
 use Rattle.press.proofs.PressCode.{term-within}
 use Rattle.script.specs.declared.Side.{Side}
@@ -39,21 +39,18 @@ module _ (ws vs : List ℕ) (l r : ℕ) where
   either true = refl
   either false = refl
 
-  shorter-told : {t u : Term} → termAt ws l ≡ some t → termAt vs r ≡ some u → (b : Bool) → leb l r ≡ b
-      → Told (cond b (record { side = shown.left; count = l }) (record { side = shown.right; count = r }))
+  shorter-told : {t u : Term} → termAt ws l ≡ some t → termAt vs r ≡ some u → (b : Bool) → showsRight l r ≡ b
+      → Told (cond b (record { side = shown.right; count = r }) (record { side = shown.left; count = l }))
   shorter-told e f true h = (
-    rw (le-ltb r l (leb-true l r h)) (either (eqb (length (take l ws)) 0)),
-    length-take-le l ws (term-within ws l e),
-  )
-  shorter-told e f false h = (
-    rw (length-take-le r vs (term-within vs r f), ne-eqb r 0 (some-words vs r f), lt-ltb r l (leb-false l r h)),
+    rw (length-take-le r vs (term-within vs r f), ne-eqb r 0 (some-words vs r f), h),
     length-take-le r vs (term-within vs r f),
   )
+  shorter-told e f false h = (rw h (either (eqb (length (take l ws)) 0)), length-take-le l ws (term-within ws l e))
 
   terms-told : (x y : Option Term) → termAt ws l ≡ x → termAt vs r ≡ y → Told (showTerms l r x y)
   terms-told none y e f = (refl, refl)
   terms-told (some t) none e f = (refl, refl)
-  terms-told (some t) (some u) e f = shorter-told e f (leb l r) refl
+  terms-told (some t) (some u) e f = shorter-told e f (showsRight l r) refl
 
   sized-told : (b : Bool) → Told (cond b (showTerms l r (termAt ws l) (termAt vs r)) nothing)
   sized-told true = terms-told (termAt ws l) (termAt vs r) refl refl

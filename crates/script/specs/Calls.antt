@@ -3,14 +3,14 @@ use Prim.Native.Nat.{ℕ}
 use mathlib.Core.Path.{_≡_}
 use mathlib.Core.Bool.{cond}
 use mathlib.Core.List.{List, [], _++_}
-use lib.Dec.{eqb, ltb}
+use lib.Dec.{eqb}
 use lib.ListN.{length, take, drop, replicate, set}
 use Rattle.calculus.specs.Bringing as bring
 use Rattle.calculus.specs.Bringing.{Brought}
 use Rattle.claim.specs.Answer.{Memory}
 use Rattle.claim.specs.Press.{press}
 use Rattle.claim.specs.Answer as press
-use Rattle.press.specs.Showing.{show}
+use Rattle.press.specs.Showing.{showsRight, show}
 use Rattle.press.specs.Showing as shown
 use Rattle.press.specs.Types.{answerOf, sessionOf, memoryOf, callOf}
 use Rattle.tables.specs.Load.{load}
@@ -69,7 +69,7 @@ filler = 7
 
 -- The side by the lengths alone: of the part, and those of both sides' terms.
 abbrev pub sideShown : (part left right : ℕ) → Side
-sideShown part l r = cond (eqb part 0) side.Left (cond (ltb r l) side.Right side.Left)
+sideShown part l r = cond (eqb part 0) side.Left (cond (showsRight l r) side.Right side.Left)
 
 -- A term brought into the workspace of a side.
 abbrev pub performBringing : State → Side → (brought : (workspace : List ℕ) → Brought) → (tell : bring.Answer → Told) → Performed

@@ -6,6 +6,7 @@ use crate::TABLE_MOST;
 use lines::read_line;
 use press::answer::Answer;
 use press::answer::Pressed;
+use press::shows_right;
 use press::state::Session;
 use session::press_owned;
 use text::bytes::narrow;
@@ -122,7 +123,7 @@ fn shown_side(part: usize, left_length: usize, right_length: usize) -> Side
     if part == 0 {
         return Side::Left;
     }
-    if right_length < left_length {
+    if shows_right(left_length, right_length) {
         return Side::Right;
     }
     Side::Left

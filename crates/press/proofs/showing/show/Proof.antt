@@ -10,7 +10,7 @@ use borrow.Author.Tests.{not-true, not-false}
 use Rattle.calculus.specs.Workspace.{sized}
 use Rattle.terms.specs.IsTerm.{isTerm}
 use Rattle.press.specs.Showing.{Part, partOf}
-use Rattle.press.proofs.ShowingLaws.{shows-nothing, shows-no-left, shows-no-right, left-fits, right-fits, shows-right, shows-left}
+use Rattle.press.proofs.ShowingLaws.{shows-nothing, shows-no-left, shows-no-right, left-fits, right-fits, shows-right-form, shows-left-form}
 use Rattle.press.proofs.showing.show.Statement.{statement}
 use Rattle.press.proofs.showing.show.Tie as tie
 
@@ -20,7 +20,7 @@ handed s = partOf (s .args .left .ptr) (s .args .right .ptr) (s .args .left .now
 
 -- The entry, and the places where the tests of lengths and left term have passed, each from the next such place.
 abbrev entry : tie.Else1 → tie.Start
-entry e = e .before .before .before .before
+entry e = e .before .before .before .before .before
 
 abbrev fitting : tie.Else2 → tie.Else1
 fitting e = e .before .before
@@ -38,81 +38,77 @@ left-passes e = sym (e .before .is-term .ensures) ∙ not-false _ (e .if2 .left)
 right-passes : (e : tie.Else3) → isTerm (entry (fitting (left-held e)) .args .right .now) (entry (fitting (left-held e)) .args .right-length) ≡ true
 right-passes e = sym (e .before .is-term2 .ensures) ∙ not-false _ (e .if3 .left)
 
+slice-aggregate-nothing : tie.Need-slice-aggregate-nothing
+slice-aggregate-nothing c = search needs
+
 sized-requires : tie.Need-sized-requires
 sized-requires c κs = search needs
-
-slice-aggregate-result : tie.Need-slice-aggregate-result
-slice-aggregate-result c = search needs
 
 returns : tie.Need-returns
 returns c =
     let s = c .before .before .before .before .before in
-    sym (ap (handed s) (shows-nothing _ _ _ _ (sym (c .before .before .sized .ensures) ∙ not-true _ (c .before .if1 .taken))))
+    sym (ap (handed s) (shows-nothing _ _ _ _ (sym (c .before .sized .ensures) ∙ not-true _ (c .if1 .taken))))
 
 is-term-requires : tie.Need-is-term-requires
 is-term-requires c κs = search needs
 
-slice-aggregate-result-2 : tie.Need-slice-aggregate-result-2
-slice-aggregate-result-2 c = search needs
-
 returns-2 : tie.Need-returns-2
 returns-2 c =
-    let e = c .before .before .before in
+    let e = c .before .before in
     sym (ap (handed (entry e))
-    (shows-no-left _ _ _ _ (sizes-pass e) (sym (c .before .before .is-term .ensures) ∙ not-true _ (c .before .if2 .taken))))
+    (shows-no-left _ _ _ _ (sizes-pass e) (sym (c .before .is-term .ensures) ∙ not-true _ (c .if2 .taken))))
 
 is-term-requires-2 : tie.Need-is-term-requires-2
 is-term-requires-2 c κs = search needs
 
-slice-aggregate-result-3 : tie.Need-slice-aggregate-result-3
-slice-aggregate-result-3 c = search needs
-
 returns-3 : tie.Need-returns-3
 returns-3 c =
-    let e = c .before .before .before in
-    sym (ap (handed (entry (fitting e)))
-    (shows-no-right _ _ _ _ (sizes-pass (fitting e)) (left-passes e) (sym (c .before .before .is-term2 .ensures) ∙ not-true _ (c .before .if3 .taken))))
-
-slice-aggregate-result-4 : tie.Need-slice-aggregate-result-4
-slice-aggregate-result-4 c =
     let e = c .before .before in
+    sym (ap (handed (entry (fitting e)))
+    (shows-no-right _ _ _ _ (sizes-pass (fitting e)) (left-passes e) (sym (c .before .is-term2 .ensures) ∙ not-true _ (c .if3 .taken))))
+
+shows-right-requires : tie.Need-shows-right-requires
+shows-right-requires c κs = search needs
+
+slice-aggregate-result : tie.Need-slice-aggregate-result
+slice-aggregate-result c =
+    let e = c .before .before .before in
     let a = entry (fitting (left-held e)) .args in
     sym (length-take-le (a .right-length) (a .right .now)
     (right-fits (a .left .now) (a .right .now) (a .left-length) (a .right-length) (sizes-pass (fitting (left-held e))) (left-passes (left-held e)) (right-passes e)))
 
 returns-4 : tie.Need-returns-4
 returns-4 c =
-    let e = c .before .before in
+    let e = c .before .before .before in
     sym (ap (handed (entry (fitting (left-held e))))
-    (shows-right _ _ _ _ (sizes-pass (fitting (left-held e))) (left-passes (left-held e)) (right-passes e) (c .before .if4 .taken)))
+    (shows-right-form _ _ _ _ (sizes-pass (fitting (left-held e))) (left-passes (left-held e)) (right-passes e) (sym (c .before .before .shows-right .ensures) ∙ c .before .if4 .taken)))
 
-slice-aggregate-result-5 : tie.Need-slice-aggregate-result-5
-slice-aggregate-result-5 c =
-    let e = c .before .before in
+slice-aggregate-result-2 : tie.Need-slice-aggregate-result-2
+slice-aggregate-result-2 c =
+    let e = c .before .before .before in
     let a = entry (fitting (left-held e)) .args in
     sym (length-take-le (a .left-length) (a .left .now)
     (left-fits (a .left .now) (a .right .now) (a .left-length) (a .right-length) (sizes-pass (fitting (left-held e))) (left-passes (left-held e))))
 
 returns-5 : tie.Need-returns-5
 returns-5 c =
-    let e = c .before .before in
+    let e = c .before .before .before in
     sym (ap (handed (entry (fitting (left-held e))))
-    (shows-left _ _ _ _ (sizes-pass (fitting (left-held e))) (left-passes (left-held e)) (right-passes e) (c .before .if4 .left)))
+    (shows-left-form _ _ _ _ (sizes-pass (fitting (left-held e))) (left-passes (left-held e)) (right-passes e) (sym (c .before .before .shows-right .ensures) ∙ c .before .if4 .left)))
 
 pub show-spec : {M : Type 1} → statement M
 show-spec =
     tie.close
     (tie.spec
+    slice-aggregate-nothing
     sized-requires
-    slice-aggregate-result
     returns
     is-term-requires
-    slice-aggregate-result-2
     returns-2
     is-term-requires-2
-    slice-aggregate-result-3
     returns-3
-    slice-aggregate-result-4
+    shows-right-requires
+    slice-aggregate-result
     returns-4
-    slice-aggregate-result-5
+    slice-aggregate-result-2
     returns-5)

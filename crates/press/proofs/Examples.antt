@@ -1,0 +1,24 @@
+-- What showing hands back, by computation.
+use mathlib.Core.Path.{refl}
+use mathlib.Core.Logic.{Dec·and}
+use mathlib.Core.Option.{bind, orElse}
+use native.Mathlib.Decide.{decLe, decLt}
+use Rattle.calculus.specs.Decide.{both₃, isTag?, startsAbove?, rising?, everywhere?, tagged?, accepted?}
+use Rattle.calculus.specs.Read.{takeTerm, takeTerms, takeBranches, readLam, readApp, readCon, readCase, readBranch, item, items, oneTerm, read}
+use Rattle.calculus.specs.Workspace.{termAt}
+use Rattle.press.specs.Showing.{show}
+use Rattle.press.specs.Examples.{Shown-examples}
+
+pub shown-examples : Shown-examples
+unfolding show termAt read items item takeTerm takeTerms takeBranches readLam readApp readCon readCase readBranch oneTerm accepted? everywhere? tagged? both₃ isTag? startsAbove? rising? Dec·and decLe decLt bind orElse
+shown-examples =
+    record {
+      left-shorter = refl;
+      right-shorter = refl;
+      equal-lengths = refl;
+      equal-words = refl;
+      refused-workspace = refl;
+      refused-lengths = refl;
+      refused-left = refl;
+      refused-right = refl;
+    }
