@@ -1,10 +1,10 @@
--- Showing ("A press", "Numbers for refused calls"): the shorter current form, a part of the workspace that holds it, and the left one at equal
+-- Showing ("A press", "Numbers for refused calls"): the shorter current form, a part of the workspace that holds it, and the right one at equal
 -- lengths; the empty start of the left workspace where refusal 7 or 10 is met.
 use Prim.Native.Nat.{ℕ}
 use mathlib.Core.Bool.{Bool, cond}
 use mathlib.Core.List.{List, [], _∷_}
 use mathlib.Core.Option.{Option, some, none}
-use lib.Dec.{ltb}
+use lib.Dec.{leb}
 use lib.ListN.{length, take}
 use Rattle.calculus.specs.Term.{Term}
 use Rattle.calculus.specs.Workspace.{sized, termAt}
@@ -17,9 +17,9 @@ pub record Part : Type 0 where
   pub side : Side
   pub count : ℕ
 
--- Whether the form that is handed back is the right one, by the lengths.
+-- Whether the right form is handed back: it has no more words than the left one.
 abbrev pub showsRight : (leftLength rightLength : ℕ) → Bool
-showsRight leftLength rightLength = ltb rightLength leftLength
+showsRight leftLength rightLength = leb rightLength leftLength
 
 abbrev pub shorter : (leftLength rightLength : ℕ) → Part
 shorter leftLength rightLength =

@@ -3,14 +3,14 @@ ghost use mathlib.Core.Path.{_≡_};
 ghost use Rattle.press.specs.Showing.{showsRight, show, partOf};
 use words::workspace::sized;
 
-// Whether the form that is shown is the right one, by the lengths.
+// Whether the right form is shown: it has no more words than the left one.
 pub fn shows_right(left_length: usize, right_length: usize) -> bool
     ensures { λ r. ⌜ r ≡ showsRight «left_length» «right_length» ⌝ }
 {
-    right_length < left_length
+    right_length <= left_length
 }
 
-// The shorter current form, a part of the workspace that holds it, the left one at equal lengths; the empty start of the left one where refusal 7 or
+// The shorter current form, a part of the workspace that holds it, the right one at equal lengths; the empty start of the left one where refusal 7 or
 // 10 is met.
 pub fn show<'a>(
     left: &'a [u32],
