@@ -187,8 +187,8 @@ pub record Passing-examples : Type 0 where
   pub no-number-of-a-position : passes (parting (spaced atWord)) ≡ false
   pub refused-right : passes (refusing ++ (32 ∷ 49 ∷ 48 ∷ [])) ≡ true
   pub other-refusal : passes (refusing ++ n8) ≡ false
-  pub shown-right : passes (pairing ++ (spaced showWord ++ n0)) ≡ true
-  pub other-shown : passes (pairing ++ (spaced showWord ++ n8)) ≡ false
+  pub shown-right : passes (pairing ++ (spaced showWord ++ n8)) ≡ true
+  pub other-shown : passes (pairing ++ (spaced showWord ++ n0)) ≡ false
   pub nothing-shown : passes (pairing ++ (spaced showWord ++ nothingGiven)) ≡ false
   pub loaded-right : passes (loading ++ (spaced givesWord ++ n0)) ≡ true
   pub other-loaded : passes (loading ++ (spaced givesWord ++ n8)) ≡ false
