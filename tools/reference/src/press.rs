@@ -168,18 +168,19 @@ pub enum Side {
     Right,
 }
 
-/// The side of the shorter current form and its length; none if refused,
-/// which stands for the empty start of the left workspace.
+/// The side of the shorter current form, or Right at equal lengths, and its
+/// length; none if refused, which stands for the empty start of the left
+/// workspace.
 pub fn show(left: &[u32], right: &[u32], lengths: (u32, u32)) -> Option<(Side, usize)> {
     if !lengths_fit(&[left.len(), right.len()]) {
         return None;
     }
     term_in(left, lengths.0).ok()?;
     term_in(right, lengths.1).ok()?;
-    Some(if lengths.1 < lengths.0 {
-        (Side::Right, lengths.1 as usize)
-    } else {
+    Some(if lengths.0 < lengths.1 {
         (Side::Left, lengths.0 as usize)
+    } else {
+        (Side::Right, lengths.1 as usize)
     })
 }
 

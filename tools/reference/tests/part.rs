@@ -112,9 +112,10 @@ fn words_that_numerals_alone_make_no_term() {
 
 #[test]
 fn forms_with_a_numeral() {
-    assert_eq!(showing(&[6], &[0]), [Part::Shown]);
+    assert_eq!(showing(&[6], &[1, 0]), [Part::Shown]);
     assert_eq!(showing(&[1, 0], &[6]), [Part::Shown]);
-    assert_eq!(showing(&[0], &[6]), []);
+    assert_eq!(showing(&[0], &[6]), [Part::Shown]);
+    assert_eq!(showing(&[6], &[0]), []);
     assert_eq!(writing(&[6], 8), [Part::Written]);
     assert_eq!(writing(&[6], 7), []);
     assert_eq!(writing(&[0], 8), []);

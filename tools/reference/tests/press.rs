@@ -301,7 +301,7 @@ fn a_payload_above_31_is_no_term() {
         assert_eq!(show(&right, &left, (1, 1)), None);
     }
     let lent = workspace(&[254], 16);
-    assert_eq!(show(&lent, &lent, (1, 1)), Some((Side::Left, 1)));
+    assert_eq!(show(&lent, &lent, (1, 1)), Some((Side::Right, 1)));
 }
 
 #[test]
@@ -352,15 +352,40 @@ fn divided_budget_makes_the_rounds_of_one_press() {
     assert_eq!(divided.press((4, 4), 2), different(2, 1, 1, 0));
 }
 
+/// What is shown of two lists of words in workspaces of 16.
+fn shown(left: &[u32], right: &[u32]) -> Option<(Side, usize)> {
+    let lengths = (left.len() as u32, right.len() as u32);
+    show(&workspace(left, 16), &workspace(right, 16), lengths)
+}
+
 #[test]
 fn shorter_form_is_shown() {
-    let long = workspace(&I_F0, 16);
-    let short = workspace(&[8], 16);
-    assert_eq!(show(&long, &short, (4, 1)), Some((Side::Right, 1)));
-    assert_eq!(show(&short, &long, (1, 4)), Some((Side::Left, 1)));
-    // The left one at equal lengths.
-    let other = workspace(&I_F1, 16);
-    assert_eq!(show(&long, &other, (4, 4)), Some((Side::Left, 4)));
+    // f1, \ 0, f0 f1 and (\ 0) f0.
+    let forms: [&[u32]; 4] = [&[8], &[1, 0], &[2, 0, 8], &I_F0];
+    for (fewer, short) in (1..).zip(forms) {
+        for long in &forms[fewer..] {
+            assert_eq!(shown(short, long), Some((Side::Left, fewer)));
+            assert_eq!(shown(long, short), Some((Side::Right, fewer)));
+        }
+    }
+}
+
+#[test]
+fn right_form_is_shown_at_equal_lengths() {
+    let right = |length| Some((Side::Right, length));
+    assert_eq!(shown(&I_F0, &I_F1), right(4));
+    assert_eq!(shown(&I_F1, &I_F0), right(4));
+    assert_eq!(shown(&[0], &[8]), right(1));
+    // \ 0 beside 1(f1), which has no word of it, and beside \ f0.
+    assert_eq!(shown(&[1, 0], &[139, 8]), right(2));
+    assert_eq!(shown(&[1, 0], &[1, 8]), right(2));
+    // Equal words on both sides.
+    assert_eq!(shown(&I_F0, &I_F0), right(4));
+    assert_eq!(shown(&[0], &[0]), right(1));
+    // Forms of all 16 words: abstractions around a variable.
+    let whole = |last| [&[1; 15][..], &[last]].concat();
+    assert_eq!(shown(&whole(0), &whole(8)), right(16));
+    assert_eq!(shown(&whole(0), &whole(0)), right(16));
 }
 
 #[test]
@@ -381,5 +406,28 @@ fn showing_is_refused_by_7_and_10() {
     for (capacity, passes) in [(15, false), (16, true), (2_048, true), (2_049, false)] {
         let equal = workspace(&[8], capacity);
         assert_eq!(show(&equal, &equal, (1, 1)).is_some(), passes);
+    }
+}
+
+#[test]
+fn showing_is_refused_at_equal_lengths() {
+    // By 10 on the left, on the right and on both: words that are no term, a
+    // length that is too short, too long, 0 or above C.
+    let wrong = [2, 1, 0, 7];
+    assert_eq!(shown(&wrong, &I_F0), None);
+    assert_eq!(shown(&I_F0, &wrong), None);
+    assert_eq!(shown(&wrong, &wrong), None);
+    let (four, three) = (workspace(&I_F0, 16), workspace(&[2, 0, 8], 16));
+    for length in [3, 4] {
+        assert_eq!(show(&four, &three, (length, length)), None);
+        assert_eq!(show(&three, &four, (length, length)), None);
+    }
+    for length in [0, 3, 5, 17, u32::MAX] {
+        assert_eq!(show(&four, &four, (length, length)), None, "{length}");
+    }
+    // By 7 on the left, on the right and on both.
+    for (left, right) in [(15, 16), (16, 15), (16, 17), (17, 16), (15, 15)] {
+        let lent = |capacity| workspace(&I_F0, capacity);
+        assert_eq!(show(&lent(left), &lent(right), (4, 4)), None);
     }
 }

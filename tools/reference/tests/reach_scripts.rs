@@ -213,8 +213,8 @@ fn called(before: &Machine, operation: &Operation, event: Event) -> String {
 
 fn shown(lengths: (u32, u32), part: Option<(Side, usize)>) -> &'static str {
     match part {
-        Some((Side::Left, _)) if lengths.0 == lengths.1 => "show left of equals",
         Some((Side::Left, _)) => "show left",
+        Some((Side::Right, _)) if lengths.0 == lengths.1 => "show right of equals",
         Some((Side::Right, _)) => "show right",
         None => "show nothing",
     }
@@ -412,8 +412,8 @@ const CALLS: [&str; 20] = [
     "set session, Budget",
     "set session, Full",
     "show left",
-    "show left of equals",
     "show right",
+    "show right of equals",
     "show nothing",
     "store outside",
     "print",

@@ -146,9 +146,12 @@ fn the_position_ends_the_line_of_every_press() {
 
 #[test]
 fn showing() {
-    // f1 on the left, f0 on the right: the left one at equal lengths.
+    // f1 on the left, f0 on the right: the right one at equal lengths.
     let start: [u32; 6] = [16, 16, 6, 0, 0, 8];
-    assert_eq!(text(&[&start, &[3, 1, 1]]), "store\nshow 0 8\n");
+    assert_eq!(text(&[&start, &[3, 1, 1]]), "store\nshow 1 0\n");
+    // Beside \ 0 the left one is shorter.
+    let longer = [6, 1, 0, 1, 3, 1, 2];
+    assert_eq!(text(&[&start, &longer]), "store\nstore\nshow 0 8\n");
     // Refused: the empty start of the left.
     assert_eq!(text(&[&start, &[3, 1, 2]]), "store\nshow 0\n");
     assert_eq!(text(&[&start, &[3, 0, 1]]), "store\nshow 0\n");
