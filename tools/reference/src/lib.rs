@@ -3,11 +3,12 @@
 //! The first modules are the rules of docs/RULES.md on trees: terms, their
 //! words, contraction, positions, presses, tables, lines, and the two programs
 //! as functions from input bytes to printed text. `generate` makes inputs for
-//! the programs from fixed seeds; `part`, `default`, `shape`, `tally` and
-//! `child` serve the `compare` program, which runs the built programs on those
-//! inputs.
+//! the programs from fixed seeds; `part`, `default`, `shape`, `choice`, `tally`
+//! and `child` serve the `compare` program, which runs the built programs on
+//! those inputs.
 
 pub mod child;
+pub mod choice;
 pub mod contraction;
 pub mod default;
 pub mod generate;

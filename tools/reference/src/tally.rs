@@ -1,5 +1,6 @@
 //! Counts of what a run saw, and the least it has to see.
 
+use crate::choice;
 use crate::default;
 use crate::line::{term_of, Fault};
 use crate::part;
@@ -45,8 +46,8 @@ const VERDICT_KINDS: [&str; 29] = [
 ];
 
 /// Answers that the calls of a script can give, the parts that numerals and
-/// defaults have in them, and the faults of lines.
-const REPLAY_KINDS: [&str; 63] = [
+/// defaults have in them, what decides showings, and the faults of lines.
+const REPLAY_KINDS: [&str; 70] = [
     "replay: load",
     "replay: load refused 1",
     "replay: load refused 2",
@@ -104,6 +105,13 @@ const REPLAY_KINDS: [&str; 63] = [
     "replay, press refused 10 by the place of a default",
     "replay, show of a default",
     "replay, write of a default",
+    "replay, show Left, shorter by one word",
+    "replay, show Left, shorter by more words",
+    "replay, show Right, shorter by one word",
+    "replay, show Right, shorter by more words",
+    "replay, show Right at equal lengths",
+    "replay, show Right of equal words",
+    "replay, show refused at equal lengths",
     "replay, line refused 11 by its length",
     "replay, line refused 11 by a byte",
     "replay, line refused 11 by a number",
@@ -156,7 +164,7 @@ impl Tally {
     }
 
     /// What a call of the program has to do with numerals, defaults and
-    /// positions, and what is wrong with a line.
+    /// positions, what decides a showing, and what is wrong with a line.
     pub fn call(&mut self, program: &str, before: &Machine, operation: &Operation) {
         for part in part::of_call(before, operation) {
             self.count(format!("{program}, {part}"), 1);
@@ -166,6 +174,9 @@ impl Tally {
         }
         for shape in shape::of_call(before, operation) {
             self.count(format!("{program}, {shape}"), 1);
+        }
+        if let Some(choice) = choice::of_call(before, operation) {
+            self.count(format!("{program}, {choice}"), 1);
         }
         if let Some(fault) = fault(before, operation) {
             self.count(format!("{program}, line refused 11 by {fault}"), 1);

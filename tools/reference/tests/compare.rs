@@ -66,6 +66,7 @@ fn the_report_counts_every_case() {
     assert!(report.contains("replay, press refused 10 by the place of a default\n"));
     assert!(report.contains("verdict, press Different behind equal words\n"));
     assert!(report.contains("replay, press Budget behind equal words\n"));
+    assert!(report.contains("replay, show Right at equal lengths\n"));
     assert!(report.contains("replay: line refused 6\n"));
     assert!(report.contains("replay, line refused 11 by a space\n"));
 }
@@ -165,12 +166,12 @@ fn kinds_that_are_not_seen_are_named() {
     // Four verdicts, refusals 1 to 9, Input, five parts of numerals and ten of
     // defaults; in scripts nine answers of load, seven of press, three of show,
     // four of write, five of lines, four others, ten parts of numerals, fifteen
-    // of defaults and six faults of lines. In both, nine shapes of forms, which
-    // may be less frequent.
-    assert_eq!(none.too_few(80, BOTH).len(), 29 + 63);
+    // of defaults, seven choices of a form to show and six faults of lines. In
+    // both, nine shapes of forms, which may be less frequent.
+    assert_eq!(none.too_few(80, BOTH).len(), 29 + 70);
     assert_eq!(none.too_few(79, BOTH).len(), 0);
-    assert_eq!(none.too_few(120, BOTH).len(), 29 + 63 + 2 * 9);
-    assert_eq!(none.too_few(119, BOTH).len(), 29 + 63);
+    assert_eq!(none.too_few(120, BOTH).len(), 29 + 70 + 2 * 9);
+    assert_eq!(none.too_few(119, BOTH).len(), 29 + 70);
     let verdict = Halves {
         replay: false,
         ..BOTH

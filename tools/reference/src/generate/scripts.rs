@@ -19,7 +19,7 @@ use crate::random::Random;
 use crate::refusal::Refusal;
 use crate::replay::{Event, Machine, Operation, VERDICTS};
 use crate::table::{LONGEST_TABLE, RECORD};
-use crate::term::{num, var, Term, LARGEST_NUMERAL, WORKSPACE};
+use crate::term::{abs, num, var, Term, LARGEST_NUMERAL, WORKSPACE};
 use crate::words::{kind, kind_of};
 
 /// What a script is about; the cases of a run go through these in turn.
@@ -155,6 +155,29 @@ impl Composer {
     fn show(&mut self) {
         let lengths = self.lengths;
         self.add(Operation::Show { lengths });
+    }
+
+    /// Shows a form beside itself, beside another as long and beside one that is
+    /// a word longer, then that one beside one that is a word longer again.
+    fn show_beside(&mut self, random: &mut Random, form: &Term) {
+        let (side, other) = random.pick(&[(Side::Left, Side::Right), (Side::Right, Side::Left)]);
+        let last = subterms(form).len() - 1;
+        let as_long = match replace(form, last, &var(0)) {
+            same if same == *form => replace(form, last, &num(0)),
+            other => other,
+        };
+        let longer = abs(form.clone());
+        let longest = abs(longer.clone());
+        self.load(random, side, form);
+        for (side, term) in [
+            (other, form),
+            (other, &as_long),
+            (other, &longer),
+            (side, &longest),
+        ] {
+            self.load(random, side, term);
+            self.show();
+        }
     }
 
     fn print(&mut self) {
@@ -313,7 +336,8 @@ fn any_call(random: &mut Random, composer: &mut Composer) {
 }
 
 /// Presses on forms that share their first words, up to Different and again,
-/// then with another term on one side.
+/// then with another term on one side; forms shown, at the end some whose
+/// lengths are close.
 fn forms_apart(random: &mut Random) -> Composer {
     let trial = near_trial(random);
     let mut composer = Composer::new(trial.capacity as u32, trial.capacity as u32);
@@ -323,6 +347,7 @@ fn forms_apart(random: &mut Random) -> Composer {
     }
     composer.press(trial.budget);
     composer.print();
+    composer.show();
     composer.press(0);
     let (side, other) = random.pick(&[(Side::Left, &trial.right), (Side::Right, &trial.left)]);
     let style = Style::random(random);
@@ -336,6 +361,7 @@ fn forms_apart(random: &mut Random) -> Composer {
     composer.press(random.pick(&[0, 1, FEW_ROUNDS]));
     composer.press(FEW_ROUNDS);
     composer.print();
+    composer.show_beside(random, &trial.left);
     composer
 }
 
@@ -571,7 +597,8 @@ fn session_limits(random: &mut Random) -> Composer {
     composer
 }
 
-/// Terms written before and after presses, with right and wrong lengths.
+/// Terms written before and after presses, with right and wrong lengths; forms
+/// shown, at the end some whose lengths are close.
 fn writing(random: &mut Random) -> Composer {
     let trial = any_trial(random);
     let mut composer = Composer::new(trial.capacity as u32, trial.capacity as u32);
@@ -583,6 +610,7 @@ fn writing(random: &mut Random) -> Composer {
         composer.press(random.pick(&[1, 2, trial.budget]));
     }
     composer.print();
+    composer.show_beside(random, &trial.right);
     composer
 }
 
