@@ -17,8 +17,11 @@ shown-examples =
       right-shorter = refl;
       equal-lengths = refl;
       equal-words = refl;
-      refused-workspace = refl;
-      refused-lengths = refl;
+      refused-workspaces = refl;
+      refused-left-shorter = refl;
+      refused-right-shorter = refl;
       refused-left = refl;
+      refused-left-equal = refl;
       refused-right = refl;
+      refused-right-equal = refl;
     }

@@ -25,14 +25,17 @@ rightStart = (1, 0)
 abbrev pub handed : (left right : List ℕ) (leftLength rightLength : ℕ) → (ℕ × ℕ) × List ℕ
 handed ws vs l r = partOf leftStart rightStart ws vs (show ws vs l r)
 
--- The shorter form, by one word on either side; the right one at equal lengths, whatever the words; and the empty start of the left workspace where showing is refused,
--- at equal lengths too.
+-- The shorter form, by one word on either side, and the right one at equal lengths, whatever the words. The empty start of the left workspace where showing
+-- is refused: by a length of the workspaces, or by words that are no term, where the other side has one.
 pub record Shown-examples : Type 0 where
   pub left-shorter : handed abstraction application 2 3 ≡ (leftStart, 1 ∷ 0 ∷ [])
   pub right-shorter : handed application abstraction 3 2 ≡ (rightStart, 1 ∷ 0 ∷ [])
   pub equal-lengths : handed application exchanged 3 3 ≡ (rightStart, 2 ∷ 16 ∷ 8 ∷ [])
   pub equal-words : handed application application 3 3 ≡ (rightStart, 2 ∷ 8 ∷ 16 ∷ [])
-  pub refused-workspace : handed (replicate 15 0) (replicate 15 0) 1 1 ≡ (leftStart, [])
-  pub refused-lengths : handed application (replicate 17 0) 1 1 ≡ (leftStart, [])
-  pub refused-left : handed abstraction application 3 3 ≡ (leftStart, [])
-  pub refused-right : handed application abstraction 3 3 ≡ (leftStart, [])
+  pub refused-workspaces : handed (replicate 15 0) (replicate 15 0) 1 1 ≡ (leftStart, [])
+  pub refused-left-shorter : handed (replicate 16 0) (replicate 17 0) 1 1 ≡ (leftStart, [])
+  pub refused-right-shorter : handed (replicate 16 0) (replicate 15 0) 1 1 ≡ (leftStart, [])
+  pub refused-left : handed abstraction application 4 3 ≡ (leftStart, [])
+  pub refused-left-equal : handed abstraction application 3 3 ≡ (leftStart, [])
+  pub refused-right : handed application abstraction 3 1 ≡ (leftStart, [])
+  pub refused-right-equal : handed application abstraction 3 3 ≡ (leftStart, [])

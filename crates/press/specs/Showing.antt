@@ -40,10 +40,11 @@ show ws vs leftLength rightLength =
     (showTerms leftLength rightLength (termAt ws leftLength) (termAt vs rightLength))
     nothing
 
--- What is handed back of two slices, each by the pointer to its first word and its words: the pointer and the words of the part.
+-- What is on a side.
 abbrev pub partBy : {A : Type 0} → Side → (onLeft onRight : A) → A
 partBy left onLeft onRight = onLeft
 partBy right onLeft onRight = onRight
 
+-- What is handed back of two slices, each by the pointer to its first word and its words: the pointer and the words of the part.
 abbrev pub partOf : (leftAt rightAt : ℕ × ℕ) (ws vs : List ℕ) → Part → (ℕ × ℕ) × List ℕ
 partOf leftAt rightAt ws vs part = (partBy (part .side) leftAt rightAt, take (part .count) (partBy (part .side) ws vs))
