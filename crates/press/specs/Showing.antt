@@ -45,6 +45,10 @@ abbrev pub partBy : {A : Type 0} → Side → (onLeft onRight : A) → A
 partBy left onLeft onRight = onLeft
 partBy right onLeft onRight = onRight
 
+-- The words of a part of two slices.
+abbrev pub partWords : (ws vs : List ℕ) → Part → List ℕ
+partWords ws vs part = take (part .count) (partBy (part .side) ws vs)
+
 -- What is handed back of two slices, each by the pointer to its first word and its words: the pointer and the words of the part.
 abbrev pub partOf : (leftAt rightAt : ℕ × ℕ) (ws vs : List ℕ) → Part → (ℕ × ℕ) × List ℕ
-partOf leftAt rightAt ws vs part = (partBy (part .side) leftAt rightAt, take (part .count) (partBy (part .side) ws vs))
+partOf leftAt rightAt ws vs part = (partBy (part .side) leftAt rightAt, partWords ws vs part)

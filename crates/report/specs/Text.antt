@@ -1,12 +1,12 @@
 -- The lines that an operation of a script prints ("A program that replays calls"): what the call answers, and words behind it; four lines for the state.
 use Prim.Native.Nat.{ℕ, _+_, _*_}
 use mathlib.Core.List.{List, [], _∷_, _++_}
-use lib.ListN.{length, take}
+use lib.ListN.{length}
 use Rattle.calculus.specs.Refusal.{Refusal, number}
 use Rattle.calculus.specs.Rounds.{Different}
 use Rattle.claim.specs.State.{Session}
 use Rattle.claim.specs.Answer as press
-use Rattle.press.specs.Showing.{Side, Part, left, right, partBy}
+use Rattle.press.specs.Showing.{Side, Part, left, right, partWords}
 use Rattle.calculus.specs.Bringing as bring
 use Rattle.text.specs.Decimal.{digitsMost, field, newline}
 use Rattle.verdict_text.specs.Line.{nameOf}
@@ -99,7 +99,7 @@ row head words = record { head = head; words = words }
 abbrev pub rowsOf : Told → State → List Row
 rowsOf (ofLoad a) s = row (answerHead loadName a) [] ∷ []
 rowsOf (ofPress a) s = row (pressHead a) [] ∷ []
-rowsOf (ofShow p) s = row (showHead p) (take (p .count) (partBy (p .side) (s .memory .left) (s .memory .right))) ∷ []
+rowsOf (ofShow p) s = row (showHead p) (partWords (s .memory .left) (s .memory .right) p) ∷ []
 rowsOf (ofWrite a table) s = row (answerHead writeName a) table ∷ []
 rowsOf ofSet s = row sessionName [] ∷ []
 rowsOf ofStore s = row storeName [] ∷ []

@@ -12,7 +12,7 @@ use borrow.Author.Tests.{le-leb, ne-eqb}
 use Rattle.calculus.specs.Term.{Term}
 use Rattle.calculus.specs.Read.{read, items, oneTerm}
 use Rattle.calculus.specs.Workspace.{sized, termAt}
-use Rattle.press.specs.Showing.{Part, showsRight, show, showTerms, nothing, partBy}
+use Rattle.press.specs.Showing.{Part, showsRight, show, showTerms, nothing, partWords}
 use Rattle.press.specs.Showing as shown
 use Rattle.press.proofs.PressCode.{term-within}
 use Rattle.script.specs.declared.Side.{Side}
@@ -29,11 +29,8 @@ some-words ws zero e h = no-words ws e
 some-words ws (suc n) e h = omega arith
 
 module _ (ws vs : List ℕ) (l r : ℕ) where
-  abbrev part : Part → List ℕ
-  part p = take (p .count) (partBy (p .side) ws vs)
-
   abbrev Told : Part → Type 0
-  Told p = (sideOf (sideShown (length (part p)) l r) ≡ p .side) × (length (part p) ≡ p .count)
+  Told p = (sideOf (sideShown (length (partWords ws vs p)) l r) ≡ p .side) × (length (partWords ws vs p) ≡ p .count)
 
   either : (b : Bool) → sideOf (cond b side.Left side.Left) ≡ shown.left
   either true = refl
@@ -61,7 +58,7 @@ module _ (ws vs : List ℕ) (l r : ℕ) where
   show-told = sized-told (sized (length ws ∷ length vs ∷ []))
 
   -- Words that are the shown part tell it.
-  pub part-told : (words : List ℕ) → words ≡ part (show ws vs l r) → {s : Side} → s ≡ sideShown (length words) l r
+  pub part-told : (words : List ℕ) → words ≡ partWords ws vs (show ws vs l r) → {s : Side} → s ≡ sideShown (length words) l r
       → partOf (record { side = s; words = length words }) ≡ show ws vs l r
   part-told words e f =
       ap₂ (λ s n. record { side = s; count = n })

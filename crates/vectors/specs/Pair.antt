@@ -3,14 +3,14 @@ use Prim.Native.Nat.{ℕ, zero, suc, _+_, min}
 use mathlib.Core.Bool.{Bool, false, cond, _&&_}
 use mathlib.Core.List.{List}
 use lib.Dec.{eqb, leb}
-use lib.ListN.{length, take, replicate}
+use lib.ListN.{length, replicate}
 use Rattle.calculus.specs.Words.{workspaceMost}
 use Rattle.calculus.specs.Rounds.{Verdict, Full}
 use Rattle.turn.specs.declared.Verdict.the-variants as verdict
 use Rattle.claim.specs.State.{Session, fresh}
 use Rattle.claim.specs.Answer.{Answer, Pressed}
 use Rattle.claim.specs.Press.{press}
-use Rattle.press.specs.Showing.{show, partBy}
+use Rattle.press.specs.Showing.{show, partWords}
 use Rattle.turn.specs.Types.{verdictOf}
 use Rattle.press.specs.Types.{sessionOf, callOf}
 use Rattle.vector_text.specs.Text.{nowhere, after, numberAt, settingAt}
@@ -150,14 +150,11 @@ pressStep line g left right s =
     (callOf (junkWords (g .scratch)) (g .left) (g .right) (budget .value)))
 
 -- The part that is shown, beside the list at a position.
-abbrev pub partShown : (left right : List ℕ) (l r : ℕ) → List ℕ
-partShown left right l r = let p = show left right l r in take (p .count) (partBy (p .side) left right)
-
 abbrev pub shownBy : (part : List ℕ) → Compared → ℕ
 shownBy part c = onlyIf (c .equal && eqb (c .count) (length part)) (c .next)
 
 unfoldable pub shownAfter : List ℕ → (at : ℕ) → (left right : List ℕ) (l r : ℕ) → ℕ
-shownAfter line at left right l r = let part = partShown left right l r in shownBy part (comparedAt line at part 0)
+shownAfter line at left right l r = let part = partWords left right (show left right l r) in shownBy part (comparedAt line at part 0)
 
 -- A call with what stands in front of it.
 unfoldable pub stepped : List ℕ → Stepped → Stepped
