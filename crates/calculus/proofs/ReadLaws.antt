@@ -10,7 +10,7 @@ use Rattle.calculus.specs.Term.{Sort, term, terms, branches, Exp, Term, 
 use Rattle.calculus.specs.Words.{variableKind, abstractionKind, applicationKind, constructorKind, caseKind, branchKind, numeralKind, kindBase, word, kindOf, payloadOf, pack, countOf, words}
 use Rattle.calculus.specs.Accepted.{Accepted}
 use Rattle.calculus.specs.Decide.{accepted?}
-use Rattle.calculus.specs.Read.{Item, whole, arm, takeTerm, takeTerms, takeBranches, readLam, readApp, readCon, readCase, readBranch, item, items, oneTerm, read}
+use Rattle.calculus.specs.Read.{Item, whole, arm, takeTerm, takeTerms, takeBranches, readLam, readApp, readCon, readCase, readBranch, item, items, oneTerm, read, onlyTerm, anyTerm}
 use Rattle.calculus.specs.Theorems.{Packable, Read-exact}
 use Rattle.calculus.proofs.All.{All, nothing, holds, all-map, all-bind, all-eqb, all-ite, all-weaken, all-some}
 use Rattle.calculus.proofs.WordLaws.{kindOf-word, payloadOf-word, word-of-parts, tagOf-pack, countOf-pack, pack-of-parts, accepted-packable}
@@ -59,6 +59,10 @@ items-words (branch t n b bs) ws h q =
 pub items-all : {s : Sort} (e : Exp s) → Packable e → items (words e) ≡ some (itemsOnto e [])
 unfolding items
 items-all e h = ap items (sym (append-nil (words e))) ∙ items-words e [] h refl
+
+pub any-term : (t : Term) → Packable t → anyTerm (words t) ≡ some t
+unfolding anyTerm onlyTerm bind
+any-term t h = rw (items-all t h)
 
 pub words-injective : (t u : Term) → Packable t → Packable u → words t ≡ words u → t ≡ u
 words-injective t u h g q = cc (items-all t h, items-all u g)

@@ -1,18 +1,18 @@
 -- The lengths of workspaces that pass refusal 7, and a workspace that holds a term, whatever stands after it.
 use Prim.Native.Nat.{ℕ, _≤_}
 use mathlib.Core.Path.{_≡_, refl}
-use mathlib.Core.Bool.{true, _&&_, and-eq-true-iff}
+use mathlib.Core.Bool.{true, false, _&&_, and-eq-true-iff}
 use mathlib.Core.List.{List, [], _∷_, _++_}
 use mathlib.Core.Option.{some}
 use native.Mathlib.Omega.{arith}
 use lib.ListN.{length, length-append, length-replicate}
 use lib.Seq.{take-append-seam}
 use lib.Dec.{leb, eqb}
-use borrow.Author.Tests.{le-leb, leb-true, eqb-true, eq-eqb}
+use borrow.Author.Tests.{le-leb, leb-true, eqb-true, eq-eqb, not-false}
 use Rattle.calculus.specs.Term.{Term}
 use Rattle.calculus.specs.Words.{words, size, workspaceLeast, workspaceMost}
 use Rattle.calculus.specs.Accepted.{Accepted}
-use Rattle.calculus.specs.Workspace.{equalTo, sized, termAt, padded}
+use Rattle.calculus.specs.Workspace.{equalTo, sized, wrongWorkspace, termAt, padded}
 use Rattle.calculus.proofs.ReadLaws.{read-words}
 
 module _ (C : ℕ) (ns : List ℕ) (fits : sized (C ∷ ns) ≡ true) where
@@ -28,6 +28,10 @@ module _ (C : ℕ) (ns : List ℕ) (fits : sized (C ∷ ns) ≡ true) where
 
   pub sized-equal : equalTo C ns ≡ true
   sized-equal = and-eq-true-iff (leb C workspaceMost) (equalTo C ns) .0 within .1
+
+-- Where one workspace is lent.
+pub workspace-short : (C : ℕ) → wrongWorkspace C ≡ false → C ≤ workspaceMost
+workspace-short C h = sized-most C [] (not-false _ h)
 
 module _ (C n : ℕ) (ns : List ℕ) (equal : equalTo C (n ∷ ns) ≡ true) where
   pub first-equal : n ≡ C

@@ -6,6 +6,7 @@ use mathlib.Core.Bool.{Bool, true, false, not, cond}
 use mathlib.Core.List.{List, [], _∷_}
 use mathlib.Core.Logic.{ite, _⊎_}
 use mathlib.Core.Option.{Option, some, none}
+use lib.Dec.{ltb}
 use lib.ListN.{length}
 use Rattle.calculus.specs.Term.{Term}
 use Rattle.calculus.specs.Words.{words, size}
@@ -37,6 +38,16 @@ abbrev pub NoneMet : List (Refusal × Bool) → Type 0
 NoneMet [] = Unit {0}
 NoneMet (c ∷ cs) = (c .1 ≡ false) × NoneMet cs
 
+-- Whether there is no term.
+abbrev pub isNone : Option Term → Bool
+isNone none = true
+isNone (some t) = false
+
+-- Refusal 8: the term is longer than a workspace of C words.
+abbrev pub longerThan : (C : ℕ) → Option Term → Bool
+longerThan C none = false
+longerThan C (some t) = ltb C (size t)
+
 -- Refusal 6: a free number above 255. What is no term meets an earlier refusal.
 abbrev pub freeFits : Term → Bool
 freeFits t = ite (scoped? 0 t) true false
@@ -50,7 +61,7 @@ abbrev pub refuse : (workspace : List ℕ) → Refusal → Brought
 refuse workspace why = record { answer = refused why; workspace = workspace }
 
 -- The words of the term, and zeros after them. Where no check is met there is a term, so the first clause never arises: each call states it
--- (`Loading-exact`, `Reading-exact`).
+-- (`Loading-exact`, `Reading-exact`, `Importing-exact`).
 abbrev pub place : (workspace : List ℕ) → Option Term → Brought
 place workspace none = refuse workspace NoTerm
 place workspace (some t) = record { answer = returned (size t); workspace = padded (length workspace) (words t) }

@@ -38,6 +38,18 @@ variables p P =
       of-numeral = λ n. Unit {0};
     }
 
+-- Only variables, abstractions and applications stand there, and of variables something is asked.
+abbrev pub pureTerms : {Place : Type 0} → Places Place → (Place → ℕ → Type 0) → Asked Place
+pureTerms p P =
+    record {
+      places = p;
+      of-variable = P;
+      of-constructor = λ t n. ⊥;
+      of-case = λ bs. ⊥;
+      of-branch = λ t n. ⊥;
+      of-numeral = λ n. ⊥;
+    }
+
 -- Every word of the expression has what is asked of it; d is the place of the expression.
 abbrev pub Everywhere : {Place : Type 0} {s : Sort} → Asked Place → Place → Exp s → Type 0
 Everywhere P d (var i) = P .of-variable d i

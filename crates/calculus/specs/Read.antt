@@ -78,3 +78,13 @@ oneTerm (arm t n b ∷ is) = none
 
 unfoldable pub read : List ℕ → Option Term
 read ws = bind (items ws) oneTerm
+
+-- The one term that words are, whatever its limits.
+unfoldable pub onlyTerm : List Item → Option Term
+onlyTerm [] = none
+onlyTerm (whole t ∷ []) = some t
+onlyTerm (whole t ∷ i ∷ is) = none
+onlyTerm (arm t n b ∷ is) = none
+
+unfoldable pub anyTerm : List ℕ → Option Term
+anyTerm ws = bind (items ws) onlyTerm

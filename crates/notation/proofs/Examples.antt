@@ -7,8 +7,8 @@ use mathlib.Core.Logic.{Dec·and}
 use native.Mathlib.Decide.{decLe}
 use Rattle.calculus.specs.Term.{Term}
 use Rattle.calculus.specs.Decide.{everywhere?, scoped?}
-use Rattle.calculus.specs.Read.{items, item, takeTerm, readLam, readApp}
-use Rattle.notation.specs.Reader.{sign, isIndex, settle, onDigit, onClose, popped, onBegun, step, scan, finish, lineWords, onlyTerm, lineTerm}
+use Rattle.calculus.specs.Read.{items, item, takeTerm, readLam, readApp, onlyTerm, anyTerm}
+use Rattle.notation.specs.Reader.{sign, isIndex, settle, onDigit, onClose, popped, onBegun, step, scan, finish, lineWords, lineTerm}
 use Rattle.notation.specs.Reading.{readLine}
 use Rattle.notation.specs.Examples.{Gives, AllGive, lines, Grammar-examples, Reading-examples}
 use Rattle.notation.proofs.TermLaws.{line-exact, line-complete}
@@ -30,11 +30,11 @@ all-give [] e = tt
 all-give (l ∷ ls) e = (gives (l .0) (l .1) (cc), all-give ls (cc))
 
 pub grammar-examples : Grammar-examples
-unfolding lineTerm bind lineWords scan step settle sign onDigit onClose isIndex onBegun finish items popped item readApp readLam onlyTerm takeTerm
+unfolding lineTerm bind lineWords scan step settle sign onDigit onClose isIndex onBegun finish items popped item readApp readLam anyTerm onlyTerm takeTerm
 grammar-examples = all-give lines refl
 
 pub reading-examples : Reading-examples
-unfolding readLine lineTerm bind lineWords scan step settle sign onDigit onClose isIndex onBegun finish items popped item readApp readLam onlyTerm takeTerm scoped? everywhere? Dec·and decLe
+unfolding readLine lineTerm bind lineWords scan step settle sign onDigit onClose isIndex onBegun finish items popped item readApp readLam anyTerm onlyTerm takeTerm scoped? everywhere? Dec·and decLe
 reading-examples =
     record {
       term-and-zeros = refl;

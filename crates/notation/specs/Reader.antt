@@ -10,7 +10,7 @@ use lib.ListN.{replicate}
 use Rattle.calculus.specs.Term.{Term}
 use Rattle.calculus.specs.Accepted.{indexLimit}
 use Rattle.calculus.specs.Words.{variableKind, abstractionKind, applicationKind, word}
-use Rattle.calculus.specs.Read.{Item, whole, arm, items}
+use Rattle.calculus.specs.Read.{anyTerm}
 use Rattle.notation.specs.Grammar.{space, opening, closing, zeroDigit, backslash}
 
 -- What a byte is.
@@ -109,12 +109,6 @@ finish (n ∷ ns) ws = none
 unfoldable pub lineWords : List ℕ → Option (List ℕ)
 lineWords bs = bind (scan bs) (λ σ. bind (settle σ) (λ b. finish (b .stack) (apply (b .count) (b .words))))
 
--- The term that these words are, whatever its free numbers: those are refusal 6, and `read` would ask for them too.
-unfoldable pub onlyTerm : List Item → Option Term
-onlyTerm [] = none
-onlyTerm (whole t ∷ []) = some t
-onlyTerm (whole t ∷ i ∷ is) = none
-onlyTerm (arm t n b ∷ is) = none
-
+-- The term that these words are, whatever its free numbers: those are refusal 6.
 unfoldable pub lineTerm : List ℕ → Option Term
-lineTerm bs = bind (lineWords bs) (λ ws. bind (items ws) onlyTerm)
+lineTerm bs = bind (lineWords bs) anyTerm

@@ -1,15 +1,12 @@
 -- Reading a line into a workspace ("Lines", "Numbers for refused calls"), as a function of everything at entry to everything at exit.
 use Prim.Native.Nat.{ℕ}
-use mathlib.Core.Bool.{Bool, true, false, not, _&&_, _||_}
+use mathlib.Core.Bool.{Bool, not, _&&_, _||_}
 use mathlib.Core.List.{List, [], _∷_}
-use mathlib.Core.Option.{Option, some, none}
-use lib.Dec.{leb, ltb}
+use lib.Dec.{leb}
 use lib.ListN.{length}
-use Rattle.calculus.specs.Term.{Term}
-use Rattle.calculus.specs.Words.{size}
 use Rattle.calculus.specs.Workspace.{wrongWorkspace}
 use Rattle.calculus.specs.Refusal.{Refusal, WrongFree, WrongWorkspace, TooLong, WrongLine}
-use Rattle.calculus.specs.Bringing.{Brought, bring, freeAbove}
+use Rattle.calculus.specs.Bringing.{Brought, bring, isNone, freeAbove, longerThan}
 use Rattle.notation.specs.Grammar.{lineLeast, lineMost}
 use Rattle.notation.specs.Reader.{lineTerm}
 
@@ -17,18 +14,9 @@ use Rattle.notation.specs.Reader.{lineTerm}
 abbrev pub lineFits : (line : List ℕ) → Bool
 lineFits line = leb lineLeast (length line) && leb (length line) lineMost
 
-abbrev pub isNone : Option Term → Bool
-isNone none = true
-isNone (some t) = false
-
 -- Refusal 11: a line outside the grammar or its length.
 abbrev pub wrongLine : (line : List ℕ) → Bool
 wrongLine line = not (lineFits line) || isNone (lineTerm line)
-
--- Refusal 8: the term is longer than the workspace.
-abbrev pub longerThan : (C : ℕ) → Option Term → Bool
-longerThan C none = false
-longerThan C (some t) = ltb C (size t)
 
 -- The refusals in the order in which reading checks them, 7, 11, 6, 8, each with whether it is met, by the line and the length C of the workspace.
 abbrev pub lineChecks : (line : List ℕ) (C : ℕ) → List (Refusal × Bool)

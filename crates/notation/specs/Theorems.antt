@@ -8,7 +8,7 @@ use mathlib.Core.Option.{some}
 use lib.ListN.{length, replicate}
 use Rattle.calculus.specs.Term.{Term}
 use Rattle.calculus.specs.Words.{words, size}
-use Rattle.calculus.specs.Everywhere.{Asked, anywhere, Everywhere}
+use Rattle.calculus.specs.Everywhere.{Asked, anywhere, pureTerms, Everywhere}
 use Rattle.calculus.specs.Accepted.{indexLimit, Scoped, Accepted}
 use Rattle.calculus.specs.Workspace.{wrongWorkspace}
 use Rattle.calculus.specs.Refusal.{Refusal, WrongFree, WrongWorkspace, TooLong, WrongLine}
@@ -27,15 +27,7 @@ Line-exact = (line : List ℕ) (t : Term) → (lineTerm line ≡ some t) ↔ Lin
 
 -- Only variables, abstractions and applications, and no index above 32,767.
 abbrev pub expressible : Asked (Unit {0})
-expressible =
-    record {
-      places = anywhere;
-      of-variable = λ d i. i ≤ indexLimit;
-      of-constructor = λ t n. ⊥;
-      of-case = λ bs. ⊥;
-      of-branch = λ t n. ⊥;
-      of-numeral = λ n. ⊥;
-    }
+expressible = pureTerms anywhere (λ d i. i ≤ indexLimit)
 
 abbrev pub Expressible : Term → Type 0
 Expressible t = Everywhere expressible tt t

@@ -16,12 +16,13 @@ use Rattle.tables.specs.Write.{records, tableOf}
 use Rattle.tables.specs.Theorems.{Load-after-write, Write-after-load}
 use Rattle.tables.specs.PrefixOrder.{InPrefixOrder}
 use Rattle.records.proofs.Fits.{fitted}
+use Rattle.calculus.proofs.WorkspaceLaws.{workspace-short}
 use Rattle.tables.proofs.Written.Standing.{records-length}
 use Rattle.tables.proofs.Written.TableWords.{stand-words}
 use Rattle.records.proofs.RecordLaws.{entry-path, sized}
 use Rattle.tables.proofs.Written.PrefixStanding.{root-stands}
 use Rattle.tables.proofs.LoadLaws.{Passes, passes, passes-unmet, header-words, load-returned, loading-exact}
-use Rattle.tables.proofs.Written.WriteLaws.{workspace-short, write-returned, write-filled}
+use Rattle.tables.proofs.Written.WriteLaws.{write-returned, write-filled}
 use Rattle.tables.proofs.Written.WrittenTable.{written-in-order, written-means, written-passes}
 
 pub load-after-write : Load-after-write

@@ -66,3 +66,16 @@ pub fn narrow(words: &[u32], bytes: &mut [u8]) -> usize
     }
     i
 }
+
+// Puts bytes as words at the start of a slice of words, and returns how many they are.
+pub fn widen(bytes: &[u8], words: &mut [u32]) -> usize
+    requires { ⌜ length (now bytes) ≤ length (now words) ⌝ }
+    ensures { λ r. ⌜ Placed (now (words .entry)) 0 (now (bytes .entry)) (now (words .exit)) r ⌝ }
+{
+    let mut i = 0;
+    while i < bytes.len() {
+        words[i] = bytes[i] as u32;
+        i += 1;
+    }
+    i
+}

@@ -1,7 +1,7 @@
 -- What the code's types stand for.
 use Prim.Native.Nat.{ℕ}
 use mathlib.Core.List.{List}
-use Rattle.calculus.specs.Refusal.{Refusal, WrongLength, WrongHeader, WrongValue, WrongLink, WrongChildren, WrongFree, WrongWorkspace, TooLong, OverBudget, NoTerm, WrongLine}
+use Rattle.calculus.specs.Refusal.{Refusal, WrongLength, WrongHeader, WrongValue, WrongLink, WrongChildren, WrongFree, WrongWorkspace, TooLong, OverBudget, NoTerm, WrongLine, WrongBits, NoCombinator}
 use Rattle.calculus.specs.Bringing.{Answer, refused, returned, Brought}
 use Rattle.words.specs.declared.refusal.Refusal as code
 use Rattle.words.specs.declared.refusal.Refusal.the-variants as refusal
@@ -20,6 +20,8 @@ refusalOf refusal.TooLong = TooLong
 refusalOf refusal.OverBudget = OverBudget
 refusalOf refusal.NoTerm = NoTerm
 refusalOf refusal.WrongLine = WrongLine
+refusalOf refusal.WrongBits = WrongBits
+refusalOf refusal.NoCombinator = NoCombinator
 
 -- A refusal, or the length of the term or the number of records.
 abbrev pub answerOf : codeAnswer.Answer → Answer

@@ -15,6 +15,8 @@ pub enum Refusal {
     OverBudget,
     NoTerm,
     WrongLine,
+    WrongBits,
+    NoCombinator,
 }
 
 impl Refusal {
@@ -33,6 +35,8 @@ impl Refusal {
             Refusal::OverBudget => 9,
             Refusal::NoTerm => 10,
             Refusal::WrongLine => 11,
+            Refusal::WrongBits => 12,
+            Refusal::NoCombinator => 13,
         }
     }
 }

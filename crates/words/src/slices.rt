@@ -1,9 +1,18 @@
 // Parts of slices filled and copied.
 ghost use mathlib.Core.Path.{_≡_};
 ghost use Prim.Native.Nat.{_≤_, _-_};
-ghost use lib.ListN.{length, replicate};
+ghost use lib.ListN.{length, replicate, set};
 ghost use lib.Seq.{sets, slice};
 ghost use Rattle.words.specs.Placed.{Placed, Copies};
+
+// Puts a word at a position; outside it changes nothing.
+pub fn store(ws: &mut [u32], at: usize, word: u32)
+    ensures { λ _. ⌜ now (ws .exit) ≡ set (now (ws .entry)) at word ⌝ }
+{
+    if at < ws.len() {
+        ws[at] = word;
+    }
+}
 
 // Puts a word into every place from a position to an end.
 pub fn fill(ws: &mut [u32], from: usize, to: usize, word: u32)

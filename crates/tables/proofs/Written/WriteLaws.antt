@@ -5,11 +5,11 @@ use mathlib.Core.Bool.{false}
 use mathlib.Core.List.{List, _++_, [], _∷_}
 use native.Mathlib.Omega.{arith}
 use lib.ListN.{length, replicate, take}
-use borrow.Author.Tests.{eq-eqb, not-false}
+use borrow.Author.Tests.{eq-eqb}
 use Rattle.calculus.specs.Term.{Term}
 use Rattle.calculus.specs.Words.{words, size, workspaceMost}
 use Rattle.calculus.specs.Accepted.{Accepted}
-use Rattle.calculus.proofs.WorkspaceLaws.{termAt-words, length-padded, sized-most}
+use Rattle.calculus.proofs.WorkspaceLaws.{termAt-words, length-padded}
 use Rattle.records.specs.Records.{form1, recordsWords, entry}
 use Rattle.calculus.specs.Bringing.{returned}
 use Rattle.tables.specs.Write.{tableOf, write, Written}
@@ -37,9 +37,6 @@ write-filled t C l workspace out a e held h u room =
     let fits : length (words t) ≤ C = omega arith in
     rw (held, ← e)
     (write-returned t (replicate (C - size t) 0) out a (rw length-padded h) (omega arith))
-
-pub workspace-short : (C : ℕ) → wrongWorkspace C ≡ false → C ≤ workspaceMost
-workspace-short C h = sized-most C [] (not-false _ h)
 
 -- The header and then the records, over the whole table.
 pub written : (ws table last : List ℕ) (n : ℕ) (t : Term) → wrongWorkspace (length ws) ≡ false → termAt ws n ≡ some t

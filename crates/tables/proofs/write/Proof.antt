@@ -14,7 +14,8 @@ use Rattle.calculus.specs.Workspace.{wrongWorkspace, termAt}
 use Rattle.terms.proofs.IsTerm.{isTerm-some, isTerm-none}
 use Rattle.tables.specs.Write.{write}
 use Rattle.calculus.proofs.Held.{held}
-use Rattle.tables.proofs.Written.WriteLaws.{workspace-short, written}
+use Rattle.calculus.proofs.WorkspaceLaws.{workspace-short}
+use Rattle.tables.proofs.Written.WriteLaws.{written}
 use Rattle.tables.proofs.write.Statement.{statement}
 use Rattle.tables.proofs.write.Tie as tie
 
