@@ -1,0 +1,78 @@
+// Cards of the binary lambda calculus: imported into a workspace, and exported from one.
+mod combinator;
+mod putting;
+mod scan;
+
+use bits::BYTE_BITS;
+use bits::zeros::clear as clear_bytes;
+use bits::zeros::is_padded;
+use combinator::is_combinator;
+use putting::bits_of;
+use putting::put;
+use scan::Scanned;
+use scan::scan;
+use terms::is_term;
+use words::Word;
+use words::answer::Answer;
+use words::clear;
+use words::refusal::Refusal;
+use words::slices::copy;
+use words::workspace::wrong_workspace;
+ghost use mathlib.Core.Path.{_≡_};
+ghost use Rattle.words.specs.Types.{broughtOf};
+ghost use Rattle.encoding.specs.Import.{import};
+ghost use Rattle.encoding.specs.Export.{export};
+ghost use Rattle.binary.specs.Types.{exportedOf};
+
+// Puts the term of a card, its bytes and how many of their bits are meant, into a workspace, with zeros after it, and returns its length. A refusal changes
+// nothing: the words stand in an array of their own until every check has passed.
+pub fn import(bytes: &[u8], bits: usize, workspace: &mut [u32]) -> Answer
+    ensures { λ r. ⌜ broughtOf r (now (workspace .exit)) ≡ import (now (bytes .entry)) bits (now (workspace .entry)) ⌝ }
+{
+    if wrong_workspace(workspace.len()) {
+        return Answer::Refused(Refusal::WrongWorkspace);
+    }
+    if !is_padded(bytes, bits) {
+        return Answer::Refused(Refusal::WrongBits);
+    }
+    let mut words = [0u32; Word::WORKSPACE_MOST];
+    match scan(bytes, bits, &mut words) {
+        Scanned::Wrong => Answer::Refused(Refusal::WrongBits),
+        Scanned::Whole(count) => {
+            if workspace.len() < count {
+                return Answer::Refused(Refusal::TooLong);
+            }
+            if !is_combinator(&words[..count]) {
+                return Answer::Refused(Refusal::NoCombinator);
+            }
+            let end = copy(&words, 0, count, workspace, 0);
+            clear(workspace, end);
+            Answer::Returned(end)
+        }
+    }
+}
+
+// Puts the bits of the term that the first `length` words of a workspace are into the lent bytes, with 0 in every bit after them, and returns how many they
+// are. A refusal changes nothing.
+pub fn export(workspace: &[u32], length: usize, bytes: &mut [u8]) -> Answer
+    ensures { λ r. ⌜ exportedOf r (now (bytes .exit)) ≡ export (now (workspace .entry)) length (now (bytes .entry)) ⌝ }
+{
+    if wrong_workspace(workspace.len()) {
+        return Answer::Refused(Refusal::WrongWorkspace);
+    }
+    if !is_term(workspace, length) {
+        return Answer::Refused(Refusal::NoTerm);
+    }
+    let term = &workspace[..length];
+    if !is_combinator(term) {
+        return Answer::Refused(Refusal::NoCombinator);
+    }
+    let bits = bits_of(term);
+    // Bits that begin a byte take it whole.
+    if bytes.len() < (bits + (BYTE_BITS - 1)) / BYTE_BITS {
+        return Answer::Refused(Refusal::TooLong);
+    }
+    clear_bytes(bytes);
+    put(term, bytes);
+    Answer::Returned(bits)
+}
