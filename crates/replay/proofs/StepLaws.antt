@@ -10,18 +10,19 @@ use lib.ListN.{length, take, drop, set, length-set, length-append, length-drop}
 use lib.Seq.{take-take, take-set-le, take-suc-set, length-take-le}
 use Rattle.tables.specs.Load.{load}
 use Rattle.notation.specs.Reading.{readLine}
+use Rattle.encoding.specs.Import.{import}
 use Rattle.text.specs.Bytes.{wordBytes, areBytes}
 use Rattle.text.specs.Decode.{wordAt, wordsFrom}
 use Rattle.script.specs.declared.Operation.{Operation}
 use Rattle.script.specs.declared.Operation.the-variants as operation
 use Rattle.script.specs.declared.Read.{Read}
 use Rattle.script.specs.declared.Read.the-variants as read
-use Rattle.script.specs.declared.calls.Done.{Done}
+use Rattle.calls.specs.declared.Done.{Done}
 use Rattle.replay.specs.declared.steps.Progress.{Progress}
 use Rattle.replay.specs.declared.steps.Due.the-variants as due
-use Rattle.script.specs.Script.{operationIn, roomMost, Fits, Standing, Reads}
-use Rattle.script.specs.Calls.{State, Told, ofLoad, ofLine, performBringing, performed, stateOf, Does}
-use Rattle.script.proofs.CallLaws.{take-full}
+use Rattle.script.specs.Script.{operationIn, roomMost, Bytes, Fits, Standing, Reads}
+use Rattle.calls.specs.Calls.{State, Told, ofLoad, ofLine, ofImport, performBringing, performed, stateOf, Does}
+use Rattle.calls.proofs.CallLaws.{take-full}
 use Rattle.replay.specs.Steps.{Machine, after, taken, tellsBy, tells, takenAll, Any-pieces, Stop, stopAt, upTo, Any-stop, machineOf, wordsAt, Comes, Steps}
 
 -- A part of the first words is that part of all words.
@@ -36,6 +37,14 @@ module _ (room : List ℕ) (m : ℕ) (inside : m ≤ length room) where
   part-room : (at n : ℕ) → at + n ≤ length (take m room) → take n (drop at room) ≡ take n (drop at (take m room))
   part-room at n h = sym (part-within room at n m (omega (arith, length-take-le m room inside)))
 
+  bytes-room : (at n : ℕ) → Bytes (take m room) at n → Bytes room at n
+  bytes-room at n h =
+      record {
+        inside = omega (arith, h .inside, length-take-le m room inside);
+        few = h .few;
+        bytes = ap areBytes (part-room at n (h .inside)) ∙ h .bytes;
+      }
+
   fits-room : (o : Operation) → Fits (take m room) o → Fits room o
   fits-room (operation.Load side at n) h = omega (arith, length-take-le m room inside)
   fits-room (operation.Press call) h = h
@@ -44,12 +53,9 @@ module _ (room : List ℕ) (m : ℕ) (inside : m ≤ length room) where
   fits-room (operation.Set session) h = h
   fits-room (operation.Store side at word) h = h
   fits-room operation.Print h = h
-  fits-room (operation.Line side at n) h =
-      record {
-        inside = omega (arith, h .inside, length-take-le m room inside);
-        few = h .few;
-        bytes = ap areBytes (part-room at n (h .inside)) ∙ h .bytes;
-      }
+  fits-room (operation.Line side at n) h = bytes-room at n h
+  fits-room (operation.Import card) h = bytes-room (card .at) (card .bytes) h
+  fits-room (operation.Export side len n) h = h
 
   performed-room : (o : Operation) (s : State) → Fits (take m room) o → performed room o s ≡ performed (take m room) o s
   performed-room (operation.Load side at n) s h =
@@ -62,6 +68,9 @@ module _ (room : List ℕ) (m : ℕ) (inside : m ≤ length room) where
   performed-room operation.Print s h = refl
   performed-room (operation.Line side at n) s h =
       ap (λ line. performBringing s side (readLine line) ofLine) (part-room at n (h .inside))
+  performed-room (operation.Import card) s h =
+      ap (λ bytes. performBringing s (card .side) (import bytes (card .bits)) ofImport) (part-room (card .at) (card .bytes) (h .inside))
+  performed-room (operation.Export side len n) s h = refl
 
 -- A further word, put behind those of the open operation.
 module _ (room : List ℕ) (p : Progress) (w : ℕ) (inside : p .words < roomMost) (full : length room ≡ roomMost) where

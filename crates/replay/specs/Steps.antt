@@ -17,7 +17,7 @@ use Rattle.replay.specs.declared.steps.Due.the-variants as due
 use Rattle.replay.specs.declared.steps.Step.{Step}
 use Rattle.replay.specs.declared.steps.Reached.{Reached}
 use Rattle.script.specs.Script.{operationIn, roomMost}
-use Rattle.script.specs.Calls.{State, Told, performed, stateOf, reportOf}
+use Rattle.calls.specs.Calls.{State, Told, performed, stateOf, reportOf}
 
 -- What is kept from word to word: the state, the words of the operation that is still open, and whether the script is broken.
 pub record Machine : Type 0 where

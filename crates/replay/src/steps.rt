@@ -1,8 +1,8 @@
 // A script word by word, as it is read in pieces: the words of an operation are collected at the start of the room, and with its last word it is performed.
+use calls::Kept;
+use calls::Report;
+use calls::perform;
 use script::Read;
-use script::calls::Kept;
-use script::calls::Report;
-use script::calls::perform;
 use script::operation_in;
 use text::bytes::WORD_BYTES;
 use text::bytes::word_at;
@@ -12,7 +12,7 @@ ghost use Prim.Native.Nat.{_<_, _≤_, _/_};
 ghost use lib.ListN.{length};
 ghost use Rattle.text.specs.Bytes.{wordBytes};
 ghost use Rattle.script.specs.Script.{roomMost};
-ghost use Rattle.script.specs.Calls.{Lent};
+ghost use Rattle.calls.specs.Calls.{Lent};
 ghost use Rattle.replay.specs.Steps.{taken, tells, upTo, ends, machineOf, wordsAt, Steps, Reaches};
 
 // What is kept from word to word beside the lent slices: what the operations leave to keep, how many words of the next one stand in the room, and whether the

@@ -20,5 +20,9 @@ line-examples =
       stored = refl;
       line-read = refl;
       line-refused = refl;
+      imported = refl;
+      import-refused = refl;
+      exported = refl;
+      export-refused = refl;
       printed = refl;
     }

@@ -20,12 +20,12 @@ use Rattle.text.specs.Decimal.{field}
 use Rattle.words.specs.Placed.{Placed}
 use Rattle.text.proofs.DecimalLaws.{length-decimal}
 use Rattle.verdict_text.proofs.LineLaws.{length-name}
-use Rattle.script.specs.declared.calls.Report.{Report}
-use Rattle.script.specs.declared.calls.Report.the-variants as report
+use Rattle.calls.specs.declared.Report.{Report}
+use Rattle.calls.specs.declared.Report.the-variants as report
 use Rattle.script.specs.declared.Side.{Side}
 use Rattle.script.specs.declared.Side.the-variants as side
-use Rattle.script.specs.Calls.{sideOf, partOf, chosen}
-use Rattle.report.specs.Text.{loadName, writeName, lineName, leftName, rightName, scratchName}
+use Rattle.calls.specs.Calls.{sideOf, partOf, chosen}
+use Rattle.report.specs.Text.{loadName, writeName, lineName, importName, exportName, leftName, rightName, scratchName}
 use Rattle.report.specs.Text.{row, headMost, refusedHead, answerHead, pressHead, showHead, sideNumber, sessionHead}
 use Rattle.report.specs.Types.{stateHead, headOf, Lines-exact, Counts}
 
@@ -44,12 +44,14 @@ lines-exact report.Set l r s room k = refl
 lines-exact report.Stored l r s room k = refl
 lines-exact report.State l r s room k = refl
 lines-exact (report.LineRead a) l r s room k = refl
+lines-exact (report.Imported a) l r s room k = refl
+lines-exact (report.Exported a n) l r s room k = refl
 
 -- No head is longer than `headMost`.
 length-refused : (why : Refusal) → length (refusedHead why) ≤ headMost
 length-refused why = omega (arith, length-decimal (number why))
 
-pub length-answer : (name : List ℕ) → length name ≤ 5 → (a : bring.Answer) → length (answerHead name a) ≤ headMost
+pub length-answer : (name : List ℕ) → length name ≤ 6 → (a : bring.Answer) → length (answerHead name a) ≤ headMost
 length-answer name h (bring.refused why) = length-refused why
 length-answer name h (bring.returned n) = omega (arith, length-append name (field n), length-decimal n)
 
@@ -101,6 +103,8 @@ head-length report.Set s i = omega arith
 head-length report.Stored s i = omega arith
 head-length report.State s i = length-state s i
 head-length (report.LineRead a) s i = length-answer lineName (omega arith) (wordsAnswerOf a)
+head-length (report.Imported a) s i = length-answer importName (omega arith) (wordsAnswerOf a)
+head-length (report.Exported a n) s i = length-answer exportName (omega arith) (wordsAnswerOf a)
 
 pub length-field : (w : ℕ) → length (field w) ≤ headMost
 length-field w = omega (arith, length-decimal w)

@@ -2,12 +2,12 @@
 use Prim.Native.Nat.{ℕ}
 use mathlib.Core.Path.{_≡_}
 use mathlib.Core.List.{List, [], _∷_}
-use Rattle.calculus.specs.Refusal.{WrongLength, OverBudget, NoTerm, WrongLine}
+use Rattle.calculus.specs.Refusal.{WrongLength, OverBudget, NoTerm, WrongLine, WrongBits}
 use Rattle.calculus.specs.Rounds.{Different, Full}
 use Rattle.claim.specs.Answer as press
 use Rattle.press.specs.Showing.{left, right}
 use Rattle.calculus.specs.Bringing as bring
-use Rattle.script.specs.Calls.{State, Told, ofLoad, ofPress, ofShow, ofWrite, ofSet, ofStore, ofPrint, ofLine}
+use Rattle.calls.specs.Calls.{State, Told, ofLoad, ofPress, ofShow, ofWrite, ofSet, ofStore, ofPrint, ofLine, ofImport, ofExport}
 use Rattle.report.specs.Text.{rowsOf, textOf}
 
 -- The left workspace holds f1 and the right one f1 f2, with a word behind each.
@@ -79,6 +79,22 @@ pub record Line-examples : Type 0 where
   pub line-refused :
       printed (ofLine (bring.refused WrongLine))
       ≡ 114 ∷ 101 ∷ 102 ∷ 117 ∷ 115 ∷ 101 ∷ 100 ∷ 32 ∷ 49 ∷ 49 ∷ 10 ∷ []
+  -- import 2
+  pub imported :
+      printed (ofImport (bring.returned 2))
+      ≡ 105 ∷ 109 ∷ 112 ∷ 111 ∷ 114 ∷ 116 ∷ 32 ∷ 50 ∷ 10 ∷ []
+  -- refused 12
+  pub import-refused :
+      printed (ofImport (bring.refused WrongBits))
+      ≡ 114 ∷ 101 ∷ 102 ∷ 117 ∷ 115 ∷ 101 ∷ 100 ∷ 32 ∷ 49 ∷ 50 ∷ 10 ∷ []
+  -- export 4 32 0
+  pub exported :
+      printed (ofExport (bring.returned 4) (32 ∷ 0 ∷ []))
+      ≡ 101 ∷ 120 ∷ 112 ∷ 111 ∷ 114 ∷ 116 ∷ 32 ∷ 52 ∷ 32 ∷ 51 ∷ 50 ∷ 32 ∷ 48 ∷ 10 ∷ []
+  -- refused 10 7 7
+  pub export-refused :
+      printed (ofExport (bring.refused NoTerm) (7 ∷ 7 ∷ []))
+      ≡ 114 ∷ 101 ∷ 102 ∷ 117 ∷ 115 ∷ 101 ∷ 100 ∷ 32 ∷ 49 ∷ 48 ∷ 32 ∷ 55 ∷ 32 ∷ 55 ∷ 10 ∷ []
   -- left 8 7 / right 2 8 16 7 / scratch 7 / session 25 1 3 Full
   pub printed :
       printed ofPrint

@@ -10,7 +10,7 @@ use Rattle.press.specs.Showing.{Side, Part, left, right, partWords}
 use Rattle.calculus.specs.Bringing as bring
 use Rattle.text.specs.Decimal.{digitsMost, field, newline}
 use Rattle.verdict_text.specs.Line.{nameOf}
-use Rattle.script.specs.Calls.{State, Told, ofLoad, ofPress, ofShow, ofWrite, ofSet, ofStore, ofPrint, ofLine}
+use Rattle.calls.specs.Calls.{State, Told, ofLoad, ofPress, ofShow, ofWrite, ofSet, ofStore, ofPrint, ofLine, ofImport, ofExport}
 
 -- A line: its head, and its words, each behind a space.
 pub record Row : Type 0 where
@@ -49,6 +49,12 @@ storeName = 115 ∷ 116 ∷ 111 ∷ 114 ∷ 101 ∷ []
 abbrev pub lineName : List ℕ
 lineName = 108 ∷ 105 ∷ 110 ∷ 101 ∷ []
 
+abbrev pub importName : List ℕ
+importName = 105 ∷ 109 ∷ 112 ∷ 111 ∷ 114 ∷ 116 ∷ []
+
+abbrev pub exportName : List ℕ
+exportName = 101 ∷ 120 ∷ 112 ∷ 111 ∷ 114 ∷ 116 ∷ []
+
 abbrev pub leftName : List ℕ
 leftName = 108 ∷ 101 ∷ 102 ∷ 116 ∷ []
 
@@ -68,7 +74,7 @@ space = 32
 abbrev pub refusedHead : Refusal → List ℕ
 refusedHead why = refusedName ++ field (number why)
 
--- What loading, writing or reading a line returns, behind the call's name.
+-- What a call returns that answers one number, behind its name.
 abbrev pub answerHead : (name : List ℕ) → bring.Answer → List ℕ
 answerHead name (bring.refused why) = refusedHead why
 answerHead name (bring.returned n) = name ++ field n
@@ -110,6 +116,8 @@ rowsOf ofPrint s =
     ∷ row (sessionHead (s .memory .session)) []
     ∷ []
 rowsOf (ofLine a) s = row (answerHead lineName a) [] ∷ []
+rowsOf (ofImport a) s = row (answerHead importName a) [] ∷ []
+rowsOf (ofExport a bytes) s = row (answerHead exportName a) bytes ∷ []
 
 -- The most bytes of a head: the longest verdict and four numbers behind a space.
 abbrev pub headMost : ℕ

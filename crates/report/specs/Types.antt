@@ -8,11 +8,11 @@ use lib.ListN.{length, take}
 use Rattle.press.specs.declared.state.Session as codeSession
 use Rattle.press.specs.Types.{answerOf, sessionOf}
 use Rattle.words.specs.Types.{answerOf as wordsAnswerOf}
-use Rattle.script.specs.declared.calls.Report.{Report}
-use Rattle.script.specs.declared.calls.Report.the-variants as report
-use Rattle.script.specs.declared.calls.Kept.{Kept}
-use Rattle.script.specs.Calls.{chosen, partOf, reportOf, stateOf}
-use Rattle.report.specs.Text.{loadName, writeName, sessionName, storeName, lineName, leftName, rightName, scratchName}
+use Rattle.calls.specs.declared.Report.{Report}
+use Rattle.calls.specs.declared.Report.the-variants as report
+use Rattle.calls.specs.declared.Kept.{Kept}
+use Rattle.calls.specs.Calls.{chosen, partOf, reportOf, stateOf}
+use Rattle.report.specs.Text.{loadName, writeName, sessionName, storeName, lineName, importName, exportName, leftName, rightName, scratchName}
 use Rattle.report.specs.Text.{Row, row, rowsOf, answerHead, pressHead, showHead, sessionHead}
 
 -- How many lines a report has.
@@ -25,6 +25,8 @@ countOf report.Set = 1
 countOf report.Stored = 1
 countOf report.State = 4
 countOf (report.LineRead a) = 1
+countOf (report.Imported a) = 1
+countOf (report.Exported a n) = 1
 
 -- The head of each line of the state, by its number from 0.
 abbrev pub stateHead : codeSession.Session → (line : ℕ) → List ℕ
@@ -41,6 +43,8 @@ headOf report.Set s i = sessionName
 headOf report.Stored s i = storeName
 headOf report.State s i = stateHead s i
 headOf (report.LineRead a) s i = answerHead lineName (wordsAnswerOf a)
+headOf (report.Imported a) s i = answerHead importName (wordsAnswerOf a)
+headOf (report.Exported a n) s i = answerHead exportName (wordsAnswerOf a)
 
 -- The words of each line of the state.
 abbrev pub stateWords : (left right scratch : List ℕ) → (line : ℕ) → List ℕ
@@ -56,6 +60,8 @@ wordsOf report.Set l r s room k i = []
 wordsOf report.Stored l r s room k i = []
 wordsOf report.State l r s room k i = stateWords l r (take (k .scratch) s) i
 wordsOf (report.LineRead a) l r s room k i = []
+wordsOf (report.Imported a) l r s room k i = []
+wordsOf (report.Exported a n) l r s room k i = take n room
 
 -- A line of a report, and so many lines from one on.
 abbrev pub lineOf : Report → (left right scratch room : List ℕ) → Kept → (line : ℕ) → Row

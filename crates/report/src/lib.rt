@@ -1,12 +1,12 @@
 // The lines that replaying calls prints, each as a head, put into lent bytes, and words of the lent slices.
+use calls::Kept;
+use calls::Part;
+use calls::Report;
+use calls::chosen;
 use press::answer::Answer;
 use press::state::Session;
 use rounds::Shown;
 use script::Side;
-use script::calls::Kept;
-use script::calls::Part;
-use script::calls::Report;
-use script::calls::chosen;
 use text::decimal::DIGITS_MOST;
 use text::decimal::put_bytes;
 use text::decimal::put_field;
@@ -22,7 +22,7 @@ ghost use Rattle.rounds.specs.Types.{shownOf};
 ghost use Rattle.press.specs.Types.{answerOf, sessionOf};
 ghost use Rattle.claim.specs.Answer.{shown as press·shown};
 ghost use Rattle.words.specs.Types.{answerOf as wordsAnswerOf};
-ghost use Rattle.script.specs.Calls.{chosen, partOf, sideOf};
+ghost use Rattle.calls.specs.Calls.{chosen, partOf, sideOf};
 ghost use Rattle.report.specs.Text.{headMost, refusedHead, answerHead, pressHead, showHead, sessionHead, sideNumber};
 ghost use Rattle.report.specs.Types.{Counts, countOf, headOf, stateHead, stateWords, wordsOf};
 
@@ -42,7 +42,7 @@ fn put_refused(refusal: Refusal, out: &mut [u8]) -> usize
     put_field(number as usize, out, name)
 }
 
-// What loading, writing or reading a line returned, behind the call's name.
+// What a call returned that answers one number, behind its name.
 fn put_answer(name: &[u8], answer: words::answer::Answer, out: &mut [u8]) -> usize
     requires { ⌜ length (answerHead (now name) (wordsAnswerOf answer)) ≤ length (now out) ⌝ }
     ensures { λ r. ⌜ Placed (now (out .entry)) 0 (answerHead (now (name .entry)) (wordsAnswerOf answer)) (now (out .exit)) r ⌝ }
@@ -143,6 +143,8 @@ fn put_any(report: Report, line: usize, session: Session, out: &mut [u8]) -> usi
         Report::Stored => put_bytes(b"store", out, 0),
         Report::State => put_state(line, session, out),
         Report::LineRead(answer) => put_answer(b"line", answer, out),
+        Report::Imported(answer) => put_answer(b"import", answer, out),
+        Report::Exported { answer, bytes: _ } => put_answer(b"export", answer, out),
     }
 }
 
@@ -180,6 +182,11 @@ pub fn rows(report: Report) -> usize
         Report::Stored => 1,
         Report::State => 4,
         Report::LineRead(_) => 1,
+        Report::Imported(_) => 1,
+        Report::Exported {
+            answer: _,
+            bytes: _,
+        } => 1,
     }
 }
 
@@ -245,6 +252,8 @@ pub fn words<'a>(
         Report::Stored => first(room, 0),
         Report::State => state_words(line, left, right, scratch, kept),
         Report::LineRead(_) => first(room, 0),
+        Report::Imported(_) => first(room, 0),
+        Report::Exported { answer: _, bytes } => first(room, bytes),
     }
 }
 

@@ -1,4 +1,4 @@
--- What a line's words come to, by computation.
+-- What the words of operations come to, by computation.
 use mathlib.Core.Path.{refl}
 use Rattle.text.specs.Bytes.{areBytes}
 use Rattle.script.specs.Script.{within, operandsIn, mayFollow, operationWith, operationIn}
@@ -16,5 +16,14 @@ operation-examples =
       most = refl;
       too-many = refl;
       to-come = refl;
+      import = refl;
+      import-bits = refl;
+      import-to-come = refl;
+      import-no-byte = refl;
+      import-most = refl;
+      import-too-many = refl;
+      export = refl;
+      export-to-come = refl;
+      export-too-many = refl;
       no-operation = refl;
     }

@@ -1,4 +1,2 @@
 pub mod ScriptLaws
-pub mod ShowLaws
-pub mod CallLaws
 pub mod Examples

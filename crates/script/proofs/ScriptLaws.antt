@@ -26,7 +26,9 @@ number-unknown (suc (suc (suc (suc (suc zero))))) h = absurd (omega arith)
 number-unknown (suc (suc (suc (suc (suc (suc zero)))))) h = absurd (omega arith)
 number-unknown (suc (suc (suc (suc (suc (suc (suc zero))))))) h = absurd (omega arith)
 number-unknown (suc (suc (suc (suc (suc (suc (suc (suc zero)))))))) h = absurd (omega arith)
-number-unknown (suc (suc (suc (suc (suc (suc (suc (suc (suc n))))))))) h = refl
+number-unknown (suc (suc (suc (suc (suc (suc (suc (suc (suc zero))))))))) h = absurd (omega arith)
+number-unknown (suc (suc (suc (suc (suc (suc (suc (suc (suc (suc zero)))))))))) h = absurd (omega arith)
+number-unknown (suc (suc (suc (suc (suc (suc (suc (suc (suc (suc (suc n))))))))))) h = refl
 
 pub number-known : (n : ℕ) → 1 ≤ wordsOf n → n < operations
 number-known n h = go (decLt n operations)
@@ -46,9 +48,11 @@ words-most (suc (suc (suc (suc (suc zero))))) = omega arith
 words-most (suc (suc (suc (suc (suc (suc zero)))))) = omega arith
 words-most (suc (suc (suc (suc (suc (suc (suc zero))))))) = omega arith
 words-most (suc (suc (suc (suc (suc (suc (suc (suc zero)))))))) = omega arith
-words-most (suc (suc (suc (suc (suc (suc (suc (suc (suc n))))))))) = omega arith
+words-most (suc (suc (suc (suc (suc (suc (suc (suc (suc zero))))))))) = omega arith
+words-most (suc (suc (suc (suc (suc (suc (suc (suc (suc (suc zero)))))))))) = omega arith
+words-most (suc (suc (suc (suc (suc (suc (suc (suc (suc (suc (suc n))))))))))) = omega arith
 
--- What the operations need of their operands: the length of a scratch, of a table and of a line within their limits.
+-- What the operations need of their operands: the length of a scratch, a table, a line and a card within their limits.
 module _ (words : List ℕ) (o : Operands) (from : ℕ) where
   by-number : (P : Operation → Type 0) (n k : ℕ) {a b : Operation} → (n ≡ k → P a) → P b → P (cond (eqb n k) a b)
   by-number P n k {a} {b} here other = go (eqb n k) refl
@@ -67,34 +71,36 @@ module _ (words : List ℕ) (o : Operands) (from : ℕ) where
       let two = and-eq-true-iff (first && second) third .0 three .0 in
       (leb-true _ _ (and-eq-true-iff first second .0 two .0), leb-true _ _ (and-eq-true-iff first second .0 two .1), leb-true _ _ (and-eq-true-iff (first && second) third .0 three .1))
 
-  line-fits : within 8 o ≡ true → from + following 8 o ≤ length words → mayFollow 8 (followers words 8 from o) ≡ true → Bytes words from (o .second)
-  unfolding mayFollow
-  line-fits h inside may = record { inside = inside; few = operands-within 8 h .1; bytes = may }
-
   operation-fits : (n : ℕ) → within n o ≡ true → from + following n o ≤ length words → mayFollow n (followers words n from o) ≡ true
       → Fits words (operationOf n o from)
+  unfolding mayFollow
   operation-fits n h inside may =
       let at : (k : ℕ) → n ≡ k → within k o ≡ true = λ k e. subst (λ j. within j o ≡ true) e h in
       let all : (k : ℕ) → n ≡ k → from + following k o ≤ length words = λ k e. subst (λ j. from + following j o ≤ length words) e inside in
+      let bytes : (k : ℕ) → n ≡ k → mayFollow k (followers words k from o) ≡ true = λ k e. subst (λ j. mayFollow j (followers words j from o) ≡ true) e may in
       by-number (Fits words) n 1 (all 1)
       (by-number (Fits words) n 2 (λ e. operands-within 2 (at 2 e) .0)
       (by-number (Fits words) n 3 (λ e. tt)
       (by-number (Fits words) n 4 (λ e. operands-within 4 (at 4 e) .2)
       (by-number (Fits words) n 5 (λ e. tt)
       (by-number (Fits words) n 6 (λ e. tt)
-      (by-number (Fits words) n 8 (λ e. line-fits (at 8 e) (all 8 e) (subst (λ j. mayFollow j (followers words j from o) ≡ true) e may)) tt))))))
+      (by-number (Fits words) n 8 (λ e. record { inside = all 8 e; few = operands-within 8 (at 8 e) .1; bytes = bytes 8 e })
+      (by-number (Fits words) n 9 (λ e. record { inside = all 9 e; few = operands-within 9 (at 9 e) .2; bytes = bytes 9 e })
+      (by-number (Fits words) n 10 (λ e. operands-within 10 (at 10 e) .2) tt))))))))
 
-  -- What follows an operation's own words is a table's or a line's at most.
+  -- No more words follow an operation's own than a table may have.
   following-most : (n : ℕ) → within n o ≡ true → following n o ≤ tableLimit
-  following-most n h = go (eqb n 1) refl (eqb n 8) refl
+  following-most n h = go (eqb n 1) refl (eqb n 8) refl (eqb n 9) refl
     where
-      second-most : (k : ℕ) → eqb n k ≡ true → o .second ≤ mostOf k 1
-      second-most k e = operands-within k (subst (λ j. within j o ≡ true) (eqb-true n k e) h) .1
+      most : (k : ℕ) → eqb n k ≡ true → (o .first ≤ mostOf k 0) × (o .second ≤ mostOf k 1) × (o .third ≤ mostOf k 2)
+      most k e = operands-within k (subst (λ j. within j o ≡ true) (eqb-true n k e) h)
 
-      go : (t : Bool) → eqb n 1 ≡ t → (u : Bool) → eqb n 8 ≡ u → cond t (o .second) (cond u (o .second) 0) ≤ tableLimit
-      go true e u f = second-most 1 e
-      go false e true f = second-most 8 f
-      go false e false f = omega arith
+      go : (t : Bool) → eqb n 1 ≡ t → (u : Bool) → eqb n 8 ≡ u → (v : Bool) → eqb n 9 ≡ v
+          → cond t (o .second) (cond u (o .second) (cond v (o .third) 0)) ≤ tableLimit
+      go true e u f v g = most 1 e .1
+      go false e true f v g = most 8 f .1
+      go false e false f true g = most 9 g .2
+      go false e false f false g = omega arith
 
 module _ (words : List ℕ) {n count : ℕ} (n-is : n ≡ getD words 0 0) (count-is : count ≡ wordsOf n) where
   counted : count ≡ wordsOf (getD words 0 0)

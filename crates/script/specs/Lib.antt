@@ -1,4 +1,3 @@
--- What a script asks, and what its operations do and tell.
+-- What a script asks.
 pub mod Script
-pub mod Calls
 pub mod Examples

@@ -8,11 +8,14 @@ use lib.ListN.{length, getD, take, drop}
 use Rattle.calculus.specs.Words.{workspaceMost}
 use Rattle.turn.specs.declared.Verdict.{Verdict}
 use Rattle.turn.specs.declared.Verdict.the-variants as verdict
+use Rattle.press.specs.declared.state.Session.{Session}
 use Rattle.records.specs.Records.{form1}
 use Rattle.text.specs.Bytes.{areBytes}
 use Rattle.script.specs.declared.Side.{Side}
 use Rattle.script.specs.declared.Side.the-variants as side
 use Rattle.script.specs.declared.Operands.{Operands}
+use Rattle.script.specs.declared.Call.{Call}
+use Rattle.script.specs.declared.Card.{Card}
 use Rattle.script.specs.declared.Operation.{Operation}
 use Rattle.script.specs.declared.Operation.the-variants as operation
 use Rattle.script.specs.declared.Read.{Read}
@@ -33,7 +36,7 @@ abbrev pub verdictNumbered : ℕ → Verdict
 verdictNumbered n =
     cond (eqb n 0) verdict.Same (cond (eqb n 1) verdict.Different (cond (eqb n 2) verdict.Budget verdict.Full))
 
--- The most words of a table, of a scratch and of a line: those of a header and of as many records as a workspace has words.
+-- The most words of a table and of a scratch, and bytes of a line and of a card: the words of a header and of as many records as a workspace has words.
 abbrev pub tableLimit : ℕ
 tableLimit = form1 .recordWords * (workspaceMost + 1)
 
@@ -42,12 +45,12 @@ abbrev pub lentMost : ℕ
 lentMost = suc workspaceMost
 
 -- How many words each operation has, its number's included, by the numbers from 0, which is none: load, press, show, write, set session, store, print,
--- line. Those of a load stand before its table, those of a line before its bytes.
+-- line, import, export. Those of a load stand before its table, those of a line and of an import before the bytes.
 abbrev pub operations : ℕ
-operations = 9
+operations = 11
 
 abbrev pub counts : List ℕ
-counts = 0 ∷ 3 ∷ 5 ∷ 3 ∷ 4 ∷ 5 ∷ 4 ∷ 1 ∷ 3 ∷ []
+counts = 0 ∷ 3 ∷ 5 ∷ 3 ∷ 4 ∷ 5 ∷ 4 ∷ 1 ∷ 3 ∷ 4 ∷ 4 ∷ []
 
 abbrev pub wordsOf : (number : ℕ) → ℕ
 wordsOf n = getD counts n 0
@@ -78,6 +81,10 @@ limits =
     ∷ any ∷ any ∷ any ∷ any
     -- line: side, count
     ∷ sideMost ∷ tableLimit ∷ any ∷ any
+    -- import: side, bit count, count
+    ∷ sideMost ∷ any ∷ tableLimit ∷ any
+    -- export: side, length, count
+    ∷ sideMost ∷ any ∷ tableLimit ∷ any
     ∷ []
 
 abbrev pub mostOf : (number k : ℕ) → ℕ
@@ -100,33 +107,43 @@ operandsIn words count =
       fourth = operandAt words count 4;
     }
 
--- How many words follow the operation's own: those of a load's table, and a line's bytes, a word each.
+-- How many words follow the operation's own: those of a load's table, and the bytes of a line and of a card, a word each.
 abbrev pub following : (number : ℕ) → Operands → ℕ
-following n o = cond (eqb n 1) (o .second) (cond (eqb n 8) (o .second) 0)
+following n o = cond (eqb n 1) (o .second) (cond (eqb n 8) (o .second) (cond (eqb n 9) (o .third) 0))
 
--- Whether these words may follow: those of a line are bytes.
+-- Whether these words may follow: those of a line and of a card are bytes.
 unfoldable pub mayFollow : (number : ℕ) → (words : List ℕ) → Bool
-mayFollow n words = cond (eqb n 8) (areBytes words) true
+mayFollow n words = cond (eqb n 8) (areBytes words) (cond (eqb n 9) (areBytes words) true)
+
+-- The operands of a press, of a session that is set and of an import, whose bytes stand at a position.
+abbrev pub callIn : Operands → Call
+callIn o = record { scratch = o .first; left = o .second; right = o .third; budget = o .fourth }
+
+abbrev pub sessionIn : Operands → Session
+sessionIn o = record { total = o .first; left = o .second; right = o .third; verdict = verdictNumbered (o .fourth) }
+
+abbrev pub cardIn : Operands → (from : ℕ) → Card
+cardIn o from = record { side = sideOf (o .first); bits = o .second; at = from; bytes = o .third }
 
 -- The operation of a number, with what follows it at a position.
 abbrev pub operationOf : (number : ℕ) → Operands → (from : ℕ) → Operation
 operationOf n o from =
     cond (eqb n 1) (operation.Load (sideOf (o .first)) from (o .second))
-    (cond (eqb n 2) (operation.Press (record { scratch = o .first; left = o .second; right = o .third; budget = o .fourth }))
+    (cond (eqb n 2) (operation.Press (callIn o))
     (cond (eqb n 3) (operation.Show (o .first) (o .second))
     (cond (eqb n 4) (operation.Write (sideOf (o .first)) (o .second) (o .third))
-    (cond (eqb n 5)
-    (operation.Set
-    (record { total = o .first; left = o .second; right = o .third; verdict = verdictNumbered (o .fourth) }))
+    (cond (eqb n 5) (operation.Set (sessionIn o))
     (cond (eqb n 6) (operation.Store (sideOf (o .first)) (o .second) (o .third))
-    (cond (eqb n 8) (operation.Line (sideOf (o .first)) from (o .second)) operation.Print))))))
+    (cond (eqb n 8) (operation.Line (sideOf (o .first)) from (o .second))
+    (cond (eqb n 9) (operation.Import (cardIn o from))
+    (cond (eqb n 10) (operation.Export (sideOf (o .first)) (o .second) (o .third)) operation.Print))))))))
 
 -- The words that follow an operation's own, which are so many.
 abbrev pub followers : List ℕ → (number count : ℕ) → Operands → List ℕ
 followers words n count o = take (following n o) (drop count words)
 
 -- What words come to that start with a number of so many words and these operands: an operand may be beyond its limit, words that follow may be still to
--- come, and a line's may be no bytes.
+-- come, and a line's or a card's may be no bytes.
 unfoldable pub operationWith : List ℕ → (number count : ℕ) → Operands → Read
 operationWith words n count o =
     cond (within n o)
@@ -144,7 +161,7 @@ operationIn words =
     (cond (leb count (length words)) (operationWith words n count (operandsIn words count)) read.Open)
     read.Broken
 
--- Room for the words of every operation: its own, and a table's or a line's.
+-- Room for the words of every operation: its own, and those that follow.
 abbrev pub roomMost : ℕ
 roomMost = suc operandsMost + tableLimit
 
@@ -154,7 +171,7 @@ pub record Bytes (words : List ℕ) (at n : ℕ) : Type 0 where
   pub few : n ≤ tableLimit
   pub bytes : areBytes (take n (drop at words)) ≡ true
 
--- What an operation needs lies within the words, a table's, a scratch's and a line's length within their limit.
+-- What an operation needs lies within the words, the length of a table, a scratch, a line and a card within their limit.
 abbrev pub Fits : (words : List ℕ) → Operation → Type 0
 Fits words (operation.Load side at table) = at + table ≤ length words
 Fits words (operation.Press call) = call .scratch ≤ tableLimit
@@ -164,6 +181,8 @@ Fits words (operation.Set session) = Unit {0}
 Fits words (operation.Store side at word) = Unit {0}
 Fits words operation.Print = Unit {0}
 Fits words (operation.Line side at n) = Bytes words at n
+Fits words (operation.Import card) = Bytes words (card .at) (card .bytes)
+Fits words (operation.Export side len n) = n ≤ tableLimit
 
 -- Words that are a whole operation have all that it needs, and there is room for a further one where one is to come.
 abbrev pub Standing : (words : List ℕ) → Read → Type 0

@@ -8,9 +8,8 @@ ghost use mathlib.Core.Path.{_≡_};
 ghost use Prim.Native.Nat.{_≤_, _<_};
 ghost use lib.ListN.{length};
 ghost use Rattle.script.specs.Script.{sideOf, verdictNumbered, tableLimit, operations, operandsMost, wordsOf, mostOf};
-ghost use Rattle.script.specs.Script.{operandAt, operandsIn, within, following, mayFollow, operationOf, operationIn, roomMost, Reads};
-
-pub mod calls;
+ghost use Rattle.script.specs.Script.{operandAt, operandsIn, within, following, mayFollow};
+ghost use Rattle.script.specs.Script.{callIn, sessionIn, cardIn, operationOf, operationIn, roomMost, Reads};
 
 // The operations' numbers. 7 is a print, and 0 is none.
 const LOAD: u32 = 1;
@@ -27,17 +26,22 @@ const STORE: u32 = 6;
 
 const LINE: u32 = 8;
 
-const OPERATIONS: usize = 9;
+const IMPORT: u32 = 9;
 
-// The words of each operation, its number's included; those of a load stand before its table, those of a line before its bytes.
-const WORDS: [usize; OPERATIONS] = [0, 3, 5, 3, 4, 5, 4, 1, 3];
+const EXPORT: u32 = 10;
 
-// The words of a record, and the most words of a table, of a scratch and of a line: those of a header and of as many records as a workspace has words.
+const OPERATIONS: usize = 11;
+
+// The words of each operation, its number's included; those of a load stand before its table, those of a line and of an import before the bytes.
+const WORDS: [usize; OPERATIONS] = [0, 3, 5, 3, 4, 5, 4, 1, 3, 4, 4];
+
+// The words of a record.
 const RECORD_WORDS: usize = 4;
 
+// The most words of a table and of a scratch, and bytes of a line and of a card: the words of a header and of as many records as a workspace has words.
 pub const TABLE_MOST: usize = RECORD_WORDS * (Word::WORKSPACE_MOST + 1);
 
-// The largest numbers of operands: of a side, of a verdict, of a length of a table, a scratch or a line, and of any other.
+// The largest numbers of operands: of a side, of a verdict, of a length of a table, a scratch, a line or a card, and of any other.
 const SIDE: u32 = 1;
 
 const VERDICT: u32 = 3;
@@ -49,7 +53,7 @@ const ANY: u32 = 4294967295;
 // No operation has more operands.
 const OPERANDS: usize = 4;
 
-// Room for the words of every operation: its own, and a table's or a line's.
+// Room for the words of every operation: its own, and those that follow.
 pub const ROOM_MOST: usize = 1 + OPERANDS + TABLE_MOST;
 
 // A line for each operation: the largest numbers of its operands.
@@ -90,6 +94,14 @@ const MOST: [u32; OPERATIONS * OPERANDS] = [
     TABLE,
     ANY,
     ANY,
+    SIDE,
+    ANY,
+    TABLE,
+    ANY,
+    SIDE,
+    ANY,
+    TABLE,
+    ANY,
 ];
 
 // What stands behind an operation's number; 0 for those that it does not have.
@@ -113,6 +125,14 @@ pub struct Call {
     pub budget: u32,
 }
 
+// A card to import: its side, its bit count, and its bytes, a word each, by the position of the first among the operation's words, and how many there are.
+pub struct Card {
+    pub side: Side,
+    pub bits: usize,
+    pub at: usize,
+    pub bytes: usize,
+}
+
 // A table, and likewise a line, is told by the position of its first word among the operation's, and how many there are.
 pub enum Operation {
     Load {
@@ -127,7 +147,7 @@ pub enum Operation {
     },
     Write {
         side: Side,
-        length: usize,
+        len: usize,
         words: usize,
     },
     Set(Session),
@@ -140,6 +160,12 @@ pub enum Operation {
     Line {
         side: Side,
         at: usize,
+        bytes: usize,
+    },
+    Import(Card),
+    Export {
+        side: Side,
+        len: usize,
         bytes: usize,
     },
 }
@@ -224,7 +250,7 @@ fn operands_in(words: &[u32], count: usize) -> Operands
     }
 }
 
-// How many words follow an operation's own: those of a load's table, and a line's bytes, a word each.
+// How many words follow an operation's own: those of a load's table, and the bytes of a line and of a card, a word each.
 fn following(number: u32, o: Operands) -> usize
     ensures { λ r. ⌜ r ≡ following number o ⌝ }
 {
@@ -234,17 +260,58 @@ fn following(number: u32, o: Operands) -> usize
     if number == LINE {
         return o.second as usize;
     }
+    if number == IMPORT {
+        return o.third as usize;
+    }
     0
 }
 
-// Whether these words may follow an operation's own: those of a line are bytes.
+// Whether these words may follow an operation's own: those of a line and of a card are bytes.
 fn may_follow(number: u32, words: &[u32]) -> bool
     ensures { λ r. ⌜ r ≡ mayFollow number (now (words .entry)) ⌝ }
 {
     if number == LINE {
         return are_bytes(words);
     }
+    if number == IMPORT {
+        return are_bytes(words);
+    }
     true
+}
+
+// The operands of a press, and of a session that is set.
+fn call_in(o: Operands) -> Call
+    ensures { λ r. ⌜ r ≡ callIn o ⌝ }
+{
+    Call {
+        scratch: o.first as usize,
+        left: o.second as usize,
+        right: o.third as usize,
+        budget: o.fourth,
+    }
+}
+
+fn session_in(o: Operands) -> Session
+    ensures { λ r. ⌜ r ≡ sessionIn o ⌝ }
+{
+    Session {
+        total: o.first,
+        left: o.second as usize,
+        right: o.third as usize,
+        verdict: verdict_of(o.fourth),
+    }
+}
+
+// The card of an import whose bytes stand at a position.
+fn card_in(o: Operands, from: usize) -> Card
+    ensures { λ r. ⌜ r ≡ cardIn o from ⌝ }
+{
+    Card {
+        side: side_of(o.first),
+        bits: o.second as usize,
+        at: from,
+        bytes: o.third as usize,
+    }
 }
 
 // The operation of a number, with what follows it at a position.
@@ -257,27 +324,17 @@ fn operation_of(number: u32, o: Operands, from: usize) -> Operation
             at: from,
             words: o.second as usize,
         },
-        PRESS => Operation::Press(Call {
-            scratch: o.first as usize,
-            left: o.second as usize,
-            right: o.third as usize,
-            budget: o.fourth,
-        }),
+        PRESS => Operation::Press(call_in(o)),
         SHOW => Operation::Show {
             left: o.first as usize,
             right: o.second as usize,
         },
         WRITE => Operation::Write {
             side: side_of(o.first),
-            length: o.second as usize,
+            len: o.second as usize,
             words: o.third as usize,
         },
-        SET => Operation::Set(Session {
-            total: o.first,
-            left: o.second as usize,
-            right: o.third as usize,
-            verdict: verdict_of(o.fourth),
-        }),
+        SET => Operation::Set(session_in(o)),
         STORE => Operation::Store {
             side: side_of(o.first),
             at: o.second as usize,
@@ -287,6 +344,12 @@ fn operation_of(number: u32, o: Operands, from: usize) -> Operation
             side: side_of(o.first),
             at: from,
             bytes: o.second as usize,
+        },
+        IMPORT => Operation::Import(card_in(o, from)),
+        EXPORT => Operation::Export {
+            side: side_of(o.first),
+            len: o.second as usize,
+            bytes: o.third as usize,
         },
         _ => Operation::Print,
     }

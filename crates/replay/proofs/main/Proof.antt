@@ -7,7 +7,7 @@ use lib.Seq.{length-take-le}
 use borrow.Author.Needs.{needs}
 use Rattle.text.specs.Bytes.{wordBytes}
 use Rattle.script.specs.Script.{tableLimit, roomMost, lentMost}
-use Rattle.script.proofs.CallLaws.{take-full}
+use Rattle.calls.proofs.CallLaws.{take-full}
 use Rattle.report.specs.Text.{headMost}
 use Rattle.replay.proofs.StepLaws.{part-kept}
 use Rattle.replay.proofs.main.Statement.{statement}

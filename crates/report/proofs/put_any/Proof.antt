@@ -2,8 +2,8 @@
 use native.Mathlib.Omega.{arith}
 use Rattle.press.specs.Types.{answerOf}
 use Rattle.words.specs.Types.{answerOf as wordsAnswerOf}
-use Rattle.script.specs.Calls.{partOf}
-use Rattle.report.specs.Text.{loadName, writeName, lineName}
+use Rattle.calls.specs.Calls.{partOf}
+use Rattle.report.specs.Text.{loadName, writeName, lineName, importName, exportName}
 use Rattle.report.proofs.TextLaws.{length-answer, length-pressed, length-shown}
 use borrow.Author.Needs.{needs}
 use Rattle.report.proofs.put_any.Statement.{statement}
@@ -23,6 +23,12 @@ put-answer-requires-2 c κs = omega (arith, c .before .before .before .before .b
 
 put-answer-requires-3 : tie.Need-put-answer-requires-3
 put-answer-requires-3 c κs = omega (arith, c .before .before .before .before .before .before .pre, length-answer lineName (omega arith) (wordsAnswerOf (c .before .before .before .report5 .given .0 .0)))
+
+put-answer-requires-4 : tie.Need-put-answer-requires-4
+put-answer-requires-4 c κs = omega (arith, c .before .before .before .before .before .before .pre, length-answer importName (omega arith) (wordsAnswerOf (c .before .before .before .report6 .given .0 .0)))
+
+put-answer-requires-5 : tie.Need-put-answer-requires-5
+put-answer-requires-5 c κs = omega (arith, c .before .before .before .before .before .before .pre, length-answer exportName (omega arith) (wordsAnswerOf (c .before .before .before .report7 .given .0 .0)))
 
 returns : tie.Need-returns
 returns c = rw (c .before .before .before .before .before .before .report .given .1) (c .before .before .put-answer .ensures)
@@ -47,6 +53,12 @@ returns-7 c = rw (c .before .before .before .before .enum-told3 .given .1) (c .b
 
 returns-8 : tie.Need-returns-8
 returns-8 c = rw (c .before .before .before .before .before .before .report5 .given .1) (c .before .before .put-answer3 .ensures)
+
+returns-9 : tie.Need-returns-9
+returns-9 c = rw (c .before .before .before .before .before .before .report6 .given .1) (c .before .before .put-answer4 .ensures)
+
+returns-10 : tie.Need-returns-10
+returns-10 c = rw (c .before .before .before .before .before .before .report7 .given .1) (c .before .before .put-answer5 .ensures)
 
 pub put-any-spec : {M : Type 1} → statement M
 put-any-spec =
@@ -74,6 +86,12 @@ put-any-spec =
     (λ c. search needs)
     put-answer-requires-3
     (λ c. search needs)
+    (λ c. search needs)
+    put-answer-requires-4
+    (λ c. search needs)
+    (λ c. search needs)
+    put-answer-requires-5
+    (λ c. search needs)
     returns
     (λ c. search needs)
     returns-2
@@ -88,4 +106,8 @@ put-any-spec =
     (λ c. search needs)
     returns-7
     (λ c. search needs)
-    returns-8)
+    returns-8
+    (λ c. search needs)
+    returns-9
+    (λ c. search needs)
+    returns-10)

@@ -27,10 +27,20 @@ returns-7 c = rw (c .before .enum-told5 .given .1) (c .state-words .ensures)
 returns-8 : tie.Need-returns-8
 returns-8 c = rw (c .before .enum-told6 .given .1) (c .first6 .ensures)
 
+returns-9 : tie.Need-returns-9
+returns-9 c = rw (c .before .enum-told7 .given .1) (c .first7 .ensures)
+
+returns-10 : tie.Need-returns-10
+returns-10 c = rw (c .before .before .report3 .given .1) (c .first8 .ensures)
+
 pub words-spec : {M : Type 1} → statement M
 words-spec =
     tie.close
     (tie.spec
+    (λ c. search needs)
+    (λ c κs. search needs)
+    (λ c. search needs)
+    (λ c κs. search needs)
     (λ c. search needs)
     (λ c κs. search needs)
     (λ c. search needs)
@@ -54,4 +64,6 @@ words-spec =
     returns-5
     returns-6
     returns-7
-    returns-8)
+    returns-8
+    returns-9
+    returns-10)
