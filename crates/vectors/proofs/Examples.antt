@@ -4,7 +4,7 @@ use mathlib.Core.Logic.{Dec·and}
 use mathlib.Core.Option.{bind, orElse}
 use native.Mathlib.Decide.{ℕ-discrete, decLe, decLt}
 use Rattle.calculus.specs.Decide.{both₃, isTag?, startsAbove?, rising?, everywhere?, tagged?, scoped?, accepted?}
-use Rattle.calculus.specs.Read.{takeTerm, takeTerms, takeBranches, readLam, readApp, readCon, readCase, readBranch, item, items as readItems, oneTerm, read}
+use Rattle.calculus.specs.Read.{takeTerm, takeTerms, takeBranches, readLam, readApp, readCon, readCase, readBranch, item, items as readItems, oneTerm, read, onlyTerm, anyTerm}
 use Rattle.calculus.specs.Step.{firstStep}
 use Rattle.calculus.specs.Leftmost.{leftmost}
 use Rattle.calculus.specs.Equality.{tree, from-trees, equal?}
@@ -12,7 +12,7 @@ use Rattle.calculus.specs.Workspace.{termAt}
 use Rattle.calculus.specs.Rounds.{same, roundsIn, roundsBy}
 use Rattle.claim.specs.Press.{press}
 use Rattle.press.specs.Showing.{show}
-use Rattle.notation.specs.Reader.{sign, isIndex, settle, onDigit, onClose, popped, onBegun, step, scan, finish, lineWords, onlyTerm, lineTerm}
+use Rattle.notation.specs.Reader.{sign, isIndex, settle, onDigit, onClose, popped, onBegun, step, scan, finish, lineWords, lineTerm}
 use Rattle.notation.specs.Reading.{readLine}
 use Rattle.records.specs.Header.{wrongLength, wrongHeader}
 use Rattle.records.specs.Values.{valueFits, wrongValue}
@@ -26,8 +26,13 @@ use Rattle.vector_text.specs.Text.{pastSpace, startsWith, after, digits, number
 use Rattle.vector_text.specs.Lists.{itemAt, withMore, items, listAt, comparedAt}
 use Rattle.vector_text.specs.Compared.{agree, areWords}
 use Rattle.vectors.specs.Pair.{verdictAt, givenAt, lentAt, refusedAfter, countedAfter, checked, pressStep, shownAfter, stepped, stepsFrom, openedAt, pairRun, pairHolds}
-use Rattle.vectors.specs.Stored.{chainFrom, tableAt, isTable, writesInto, writesBack, broughtAs, loadedAs, loading, loadHolds, writesWords, writeHolds}
+use Rattle.vectors.specs.Stored.{chainFrom, tableAt, isLast, isTable, writesInto, writesBack, broughtAs, loadedAs, loading, loadHolds, writesWords, writeHolds}
 use Rattle.vectors.specs.Typed.{reading, lineHolds}
+use Rattle.encoding.specs.Decoding.{wordsIn, decode}
+use Rattle.encoding.specs.Card.{combinator?}
+use Rattle.encoding.specs.Import.{import}
+use Rattle.encoding.specs.Export.{export}
+use Rattle.vectors.specs.Carded.{exportsBack, importedAs, importing, importHolds, exportedAs, exportsWords, exportHolds}
 use Rattle.vectors.specs.Vector.{passes, shareOf}
 use Rattle.vectors.specs.Examples.{Read-examples, Passing-examples}
 
@@ -54,7 +59,7 @@ read-examples =
     }
 
 pub passing-examples : Passing-examples
-unfolding pastSpace startsWith after digits numberAt settingAt itemAt withMore items listAt comparedAt agree areWords verdictAt givenAt lentAt refusedAfter countedAfter checked pressStep shownAfter stepped stepsFrom openedAt pairRun pairHolds chainFrom tableAt isTable writesInto writesBack broughtAs loadedAs loading loadHolds writesWords writeHolds reading lineHolds passes areBytes readLine lineTerm lineWords scan step settle sign onDigit onClose isIndex onBegun finish popped onlyTerm loadStored write wrongLength wrongHeader valueFits wrongValue namings wrongLink childrenFit wrongChildren termOf meantTerm meantTerms meantBranch meantBranches meant meaning press show termAt read readItems item takeTerm takeTerms takeBranches readLam readApp readCon readCase readBranch oneTerm accepted? scoped? everywhere? tagged? both₃ isTag? startsAbove? rising? Dec·and decLe decLt bind orElse firstStep leftmost tree from-trees equal? ℕ-discrete same roundsIn roundsBy
+unfolding pastSpace startsWith after digits numberAt settingAt itemAt withMore items listAt comparedAt agree areWords verdictAt givenAt lentAt refusedAfter countedAfter checked pressStep shownAfter stepped stepsFrom openedAt pairRun pairHolds chainFrom tableAt isLast isTable writesInto writesBack broughtAs loadedAs loading loadHolds writesWords writeHolds reading lineHolds import export wordsIn decode combinator? exportsBack importedAs importing importHolds exportedAs exportsWords exportHolds passes areBytes readLine lineTerm lineWords scan step settle sign onDigit onClose isIndex onBegun finish popped anyTerm onlyTerm loadStored write wrongLength wrongHeader valueFits wrongValue namings wrongLink childrenFit wrongChildren termOf meantTerm meantTerms meantBranch meantBranches meant meaning press show termAt read readItems item takeTerm takeTerms takeBranches readLam readApp readCon readCase readBranch oneTerm accepted? scoped? everywhere? tagged? both₃ isTag? startsAbove? rising? Dec·and decLe decLt bind orElse firstStep leftmost tree from-trees equal? ℕ-discrete same roundsIn roundsBy
 passing-examples =
     record {
       pressed-right = refl;
@@ -91,6 +96,25 @@ passing-examples =
       not-unread = refl;
       above-read = refl;
       above-unread = refl;
+      imported-right = refl;
+      other-imported = refl;
+      fewer-imported = refl;
+      nothing-imported = refl;
+      surplus-imported = refl;
+      unimported-right = refl;
+      other-unimported = refl;
+      surplus-unimported = refl;
+      not-unimported = refl;
+      exported-right = refl;
+      other-count = refl;
+      other-exported = refl;
+      nothing-exported = refl;
+      surplus-exported = refl;
+      unexported-right = refl;
+      other-unexported = refl;
+      not-unexported = refl;
+      above-imported = refl;
+      above-unimported = refl;
       written-right = refl;
       other-written = refl;
       surplus-written = refl;
@@ -123,6 +147,19 @@ passing-examples =
       unloaded-changed = refl;
       unread-kept = refl;
       unread-changed = refl;
+      unimported-kept = refl;
+      unimported-changed = refl;
+      card-written = refl;
+      card-count = refl;
+      card-byte = refl;
+      card-longer = refl;
+      card-missing = refl;
+      card-again = refl;
+      card-again-count = refl;
+      card-again-byte = refl;
+      card-again-missing = refl;
+      unexported-kept = refl;
+      unexported-changed = refl;
       unwritten-kept = refl;
       unwritten-changed = refl;
     }

@@ -1,5 +1,6 @@
 pub mod StepLaws
 pub mod StoredLaws
 pub mod TypedLaws
+pub mod CardedLaws
 pub mod TallyLaws
 pub mod Examples

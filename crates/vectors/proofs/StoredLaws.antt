@@ -12,10 +12,8 @@ use Rattle.calculus.specs.Bringing.{Brought}
 use Rattle.tables.specs.Write.{Written}
 use Rattle.vector_text.specs.Text.{nowhere, after, numberAt}
 use Rattle.vectors.specs.Keywords.{refusedWord, givesWord}
-use Rattle.vector_text.specs.Compared.{areWords}
 use Rattle.vector_text.specs.Lists.{Listed, comparedAt}
 use Rattle.vectors.specs.Answers.{isReturned}
-use Rattle.vectors.specs.Pair.{junk}
 use Rattle.vectors.specs.Stored.{refusedLast, chainWord, chainFrom, chain, isTable, writtenAs, junkTable, writesInto, writesBack, refusedAs, givenAs, broughtAs, endsAs, loadedAs, writesListed}
 use Rattle.vector_text.specs.declared.Compared.{Compared}
 use Rattle.vector_text.specs.declared.Number.{Number}
@@ -51,7 +49,7 @@ module _ (records index : ℕ) where
       rw none
 
 module _ (line : List ℕ) (at : ℕ) (loaded : List ℕ) (len : ℕ) (w : Written) (from : ℕ) (is : from ≡ after line at refusedWord) where
-  pub write-refused : (from ≡ nowhere → ⊥) → writtenAs line at loaded len w ≡ record { holds = refusedLast line from (w .answer) && areWords (w .table) (w .table) 0 junk; words = w .table }
+  pub write-refused : (from ≡ nowhere → ⊥) → writtenAs line at loaded len w ≡ record { holds = refusedLast line from (w .answer) (w .table); words = w .table }
   write-refused n = rw (← is, ne-eqb from nowhere n)
 
   pub write-given : from ≡ nowhere → writtenAs line at loaded len w ≡ record { holds = isReturned (w .answer) len && isTable line at (w .table) loaded; words = w .table }

@@ -31,7 +31,7 @@ abbrev pub isRefused : press.Answer → ℕ → Bool
 isRefused (press.refused why) k = eqb (number why) k
 isRefused (press.shown a) k = false
 
--- Loading or writing returned this number.
+-- A call that brings a term in or writes one returned this number.
 abbrev pub isReturned : bring.Answer → ℕ → Bool
 isReturned (bring.refused n) k = false
 isReturned (bring.returned n) k = eqb n k

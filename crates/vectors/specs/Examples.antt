@@ -12,13 +12,14 @@ use Rattle.claim.specs.State.{Session, fresh}
 use Rattle.claim.specs.Answer.{Answer, refused, shown}
 use Rattle.calculus.specs.Bringing as bring
 use Rattle.vector_text.specs.Text.{nowhere, after, numberAt, settingAt}
-use Rattle.vectors.specs.Keywords.{pairWord, loadWord, lineWord, writeWord, leftWord, pressWord, showWord}
+use Rattle.vectors.specs.Keywords.{pairWord, loadWord, lineWord, importWord, exportWord, writeWord, leftWord, pressWord, showWord}
 use Rattle.vectors.specs.Keywords.{sameWord, differentWord, atWord, refusedWord, givesWord, writesWord}
 use Rattle.vector_text.specs.Lists.{listAt}
 use Rattle.vectors.specs.Answers.{isSession, isShown, isRefused}
 use Rattle.vectors.specs.Pair.{junk, lentAt, Stage, refusedAfter, countedAfter}
 use Rattle.vectors.specs.Stored.{chain, writtenAs, loadedAs}
 use Rattle.vectors.specs.Typed.{readAs}
+use Rattle.vectors.specs.Carded.{isCard, importedAs, exportedAs}
 use Rattle.vectors.specs.declared.pair.Lent.{Lent}
 use Rattle.vectors.specs.Vector.{nothing, counted, passes, shareOf}
 
@@ -134,6 +135,40 @@ readingNothing = lining ++ nothingGiven
 abbrev pub outside : List ℕ
 outside = spaced refusedWord ++ (32 ∷ 49 ∷ 49 ∷ [])
 
+-- The numbers ` 2`, ` 4`, ` 12` and ` 32`.
+abbrev pub n2 : List ℕ
+n2 = 32 ∷ 50 ∷ []
+
+abbrev pub n4 : List ℕ
+n4 = 32 ∷ 52 ∷ []
+
+abbrev pub n12 : List ℕ
+n12 = 32 ∷ 49 ∷ 50 ∷ []
+
+abbrev pub n32 : List ℕ
+n32 = 32 ∷ 51 ∷ 50 ∷ []
+
+-- `import 16 4`, and with it the byte of the card of `\0`, and a byte whose first four bits end early
+abbrev pub importing : List ℕ
+importing = importWord ++ (n16 ++ n4)
+
+abbrev pub importingIdentity : List ℕ
+importingIdentity = importing ++ n32
+
+abbrev pub importingPart : List ℕ
+importingPart = importing ++ n0
+
+-- `export 16 1,0 2 1`, and `export 16 0 1 1`, of a term that is not closed
+abbrev pub exportingIdentity : List ℕ
+exportingIdentity = exportWord ++ (n16 ++ (identity ++ (n2 ++ n1)))
+
+abbrev pub exportingFree : List ℕ
+exportingFree = exportWord ++ (n16 ++ (n0 ++ (n1 ++ n1)))
+
+-- `import 16 4 288`: 256 more than the byte of the card of `\0`
+abbrev pub importingAbove : List ℕ
+importingAbove = importing ++ (32 ∷ 50 ∷ 56 ∷ 56 ∷ [])
+
 -- `write 16 0 1 8`
 abbrev pub writing : List ℕ
 writing = writeWord ++ (n16 ++ (n0 ++ (n1 ++ n8)))
@@ -163,15 +198,29 @@ refusedStage equal session = refusedAfter n1 0 (lentAs equal) (refused WrongLeng
 abbrev pub countedStage : Bool → Session → ℕ
 countedStage equal session = countedAfter Different 3 4 0 (lentAs equal) answered session stage .at
 
--- Whether ` Refused 1` holds of a loading, a reading and a writing that were refused so and left this word in what was lent.
+-- Whether ` Refused 1` holds of a loading, a reading, an importing, an exporting and a writing that were refused so and left this word in what was lent.
 abbrev pub unloadedFrom : ℕ → Bool
 unloadedFrom w = loadedAs (spaced refusedWord ++ n1) 0 [] (record { answer = bring.refused WrongLength; workspace = w ∷ [] })
 
 abbrev pub unreadFrom : ℕ → Bool
 unreadFrom w = readAs (spaced refusedWord ++ n1) 0 (record { answer = bring.refused WrongLength; workspace = w ∷ [] })
 
+abbrev pub unimportedFrom : ℕ → Bool
+unimportedFrom w = importedAs (spaced refusedWord ++ n1) 0 0 [] (record { answer = bring.refused WrongLength; workspace = w ∷ [] })
+
+abbrev pub unexportedFrom : ℕ → Bool
+unexportedFrom w = exportedAs (spaced refusedWord ++ n1) 0 (record { answer = bring.refused WrongLength; bytes = w ∷ [] })
+
 abbrev pub unwrittenFrom : ℕ → Bool
 unwrittenFrom w = writtenAs (spaced refusedWord ++ n1) 0 [] 0 (record { answer = bring.refused WrongLength; table = w ∷ [] }) .holds
+
+-- Whether an exporting that returned this bit count and left these bytes is as ` writes 4 32` says, and is the card of 4 bits and the byte 32 again.
+abbrev pub writtenFrom : (count : ℕ) (bytes : List ℕ) → Bool
+writtenFrom count bytes =
+    exportedAs (spaced writesWord ++ (32 ∷ 52 ∷ 32 ∷ 51 ∷ 50 ∷ [])) 0 (record { answer = bring.returned count; bytes = bytes })
+
+abbrev pub againFrom : (count : ℕ) (bytes : List ℕ) → Bool
+againFrom count bytes = isCard 4 (32 ∷ []) (record { answer = bring.returned count; bytes = bytes })
 
 pub record Passing-examples : Type 0 where
   pub pressed-right : passes (pressing differentWord n0 n0 n8) ≡ true
@@ -208,6 +257,25 @@ pub record Passing-examples : Type 0 where
   pub not-unread : passes (readingIdentity ++ outside) ≡ false
   pub above-read : passes (readingAbove ++ (spaced givesWord ++ n0)) ≡ false
   pub above-unread : passes (readingAbove ++ outside) ≡ false
+  pub imported-right : passes (importingIdentity ++ (spaced givesWord ++ identity)) ≡ true
+  pub other-imported : passes (importingIdentity ++ (spaced givesWord ++ constant)) ≡ false
+  pub fewer-imported : passes (importingIdentity ++ (spaced givesWord ++ n1)) ≡ false
+  pub nothing-imported : passes (importingIdentity ++ (spaced givesWord ++ nothingGiven)) ≡ false
+  pub surplus-imported : passes (importingIdentity ++ (spaced givesWord ++ (identity ++ n0))) ≡ false
+  pub unimported-right : passes (importingPart ++ (spaced refusedWord ++ n12)) ≡ true
+  pub other-unimported : passes (importingPart ++ (spaced refusedWord ++ n1)) ≡ false
+  pub surplus-unimported : passes (importingPart ++ (spaced refusedWord ++ (n12 ++ n0))) ≡ false
+  pub not-unimported : passes (importingIdentity ++ (spaced refusedWord ++ n12)) ≡ false
+  pub exported-right : passes (exportingIdentity ++ (spaced writesWord ++ (n4 ++ n32))) ≡ true
+  pub other-count : passes (exportingIdentity ++ (spaced writesWord ++ (n8 ++ n32))) ≡ false
+  pub other-exported : passes (exportingIdentity ++ (spaced writesWord ++ (n4 ++ n16))) ≡ false
+  pub nothing-exported : passes (exportingIdentity ++ (spaced writesWord ++ (n4 ++ nothingGiven))) ≡ false
+  pub surplus-exported : passes (exportingIdentity ++ (spaced writesWord ++ (n4 ++ (n32 ++ n0)))) ≡ false
+  pub unexported-right : passes (exportingFree ++ (spaced refusedWord ++ (32 ∷ 49 ∷ 51 ∷ []))) ≡ true
+  pub other-unexported : passes (exportingFree ++ (spaced refusedWord ++ n1)) ≡ false
+  pub not-unexported : passes (exportingIdentity ++ (spaced refusedWord ++ (32 ∷ 49 ∷ 51 ∷ []))) ≡ false
+  pub above-imported : passes (importingAbove ++ (spaced givesWord ++ identity)) ≡ false
+  pub above-unimported : passes (importingAbove ++ (spaced refusedWord ++ n12)) ≡ false
   pub written-right : passes (writing ++ (spaced writesWord ++ tableWith 48)) ≡ true
   pub other-written : passes (writing ++ (spaced writesWord ++ tableWith 56)) ≡ false
   pub surplus-written : passes (writing ++ (spaced writesWord ++ (tableWith 48 ++ n0))) ≡ false
@@ -240,5 +308,18 @@ pub record Passing-examples : Type 0 where
   pub unloaded-changed : unloadedFrom 0 ≡ false
   pub unread-kept : unreadFrom junk ≡ true
   pub unread-changed : unreadFrom 0 ≡ false
+  pub unimported-kept : unimportedFrom junk ≡ true
+  pub unimported-changed : unimportedFrom 0 ≡ false
+  pub card-written : writtenFrom 4 (32 ∷ []) ≡ true
+  pub card-count : writtenFrom 5 (32 ∷ []) ≡ false
+  pub card-byte : writtenFrom 4 (33 ∷ []) ≡ false
+  pub card-longer : writtenFrom 4 (32 ∷ 0 ∷ []) ≡ false
+  pub card-missing : writtenFrom 4 [] ≡ false
+  pub card-again : againFrom 4 (32 ∷ []) ≡ true
+  pub card-again-count : againFrom 5 (32 ∷ []) ≡ false
+  pub card-again-byte : againFrom 4 (33 ∷ []) ≡ false
+  pub card-again-missing : againFrom 4 [] ≡ false
+  pub unexported-kept : unexportedFrom junk ≡ true
+  pub unexported-changed : unexportedFrom 0 ≡ false
   pub unwritten-kept : unwrittenFrom junk ≡ true
   pub unwritten-changed : unwrittenFrom 0 ≡ false

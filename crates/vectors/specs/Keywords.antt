@@ -14,6 +14,12 @@ writeWord = 119 ∷ 114 ∷ 105 ∷ 116 ∷ 101 ∷ []
 abbrev pub lineWord : List ℕ
 lineWord = 108 ∷ 105 ∷ 110 ∷ 101 ∷ []
 
+abbrev pub importWord : List ℕ
+importWord = 105 ∷ 109 ∷ 112 ∷ 111 ∷ 114 ∷ 116 ∷ []
+
+abbrev pub exportWord : List ℕ
+exportWord = 101 ∷ 120 ∷ 112 ∷ 111 ∷ 114 ∷ 116 ∷ []
+
 abbrev pub totalWord : List ℕ
 totalWord = 116 ∷ 111 ∷ 116 ∷ 97 ∷ 108 ∷ []
 

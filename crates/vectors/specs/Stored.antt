@@ -24,10 +24,10 @@ pub record Verified : Type 0 where
 abbrev pub verifiedOf : Bool → (words : List ℕ) → Verified
 verifiedOf holds ws = record { holds = holds; words = ws }
 
--- The refusal that the line names last.
-abbrev pub refusedLast : List ℕ → (at : ℕ) → Answer → Bool
-refusedLast line at (refused why) = eqb (number why) (numberAt line at .value) && eqb (numberAt line at .next) (length line)
-refusedLast line at (returned n) = false
+-- The refusal that the line names last, and what was lent is still junk.
+abbrev pub refusedLast : List ℕ → (at : ℕ) → Answer → (lent : List ℕ) → Bool
+refusedLast line at (refused why) ws = (eqb (number why) (numberAt line at .value) && eqb (numberAt line at .next) (length line)) && areWords ws ws 0 junk
+refusedLast line at (returned n) ws = false
 
 -- The table of n - 1 abstractions around a variable, word by word. The header differs from an abstraction over the next record in the second word
 -- alone.
@@ -61,13 +61,15 @@ tableAt line at ws =
     let from = after line at chainKeyword in
     cond (eqb from nowhere) (listAt line at ws) (chainAt line from ws)
 
+-- Words are the list that comes next, and the line ends behind it.
+unfoldable pub isLast : List ℕ → (at : ℕ) → (words : List ℕ) → Bool
+isLast line at ws = let c = comparedAt line at ws junk in (c .equal && eqb (c .count) (length ws)) && eqb (c .next) (length line)
+
 -- A written table is the one that the line names after `writes`, or else the one that was loaded.
 unfoldable pub isTable : List ℕ → (at : ℕ) → (written loaded : List ℕ) → Bool
 isTable line at written loaded =
     let from = after line at writesWord in
-    let c = comparedAt line from written junk in
-    cond (eqb from nowhere) (areWords written loaded (length loaded) junk && eqb at (length line))
-    ((c .equal && eqb (c .count) (length written)) && eqb (c .next) (length line))
+    cond (eqb from nowhere) (areWords written loaded (length loaded) junk && eqb at (length line)) (isLast line from written)
 
 -- Writing a term: a refusal changes nothing, and else the table is the one that the line says.
 abbrev pub writtenAs : List ℕ → (at : ℕ) → (loaded : List ℕ) → (len : ℕ) → Written → Verified
@@ -76,7 +78,7 @@ writtenAs line at loaded len w =
     record {
       holds =
           cond (eqb from nowhere) (isReturned (w .answer) len && isTable line at (w .table) loaded)
-          (refusedLast line from (w .answer) && areWords (w .table) (w .table) 0 junk);
+          (refusedLast line from (w .answer) (w .table));
       words = w .table;
     }
 
@@ -94,7 +96,7 @@ writesBack line at loaded workspace len = writesInto line at loaded workspace le
 -- words that it gives, with zeros after them.
 abbrev pub refusedAs : List ℕ → (from : ℕ) → Brought → Compared
 refusedAs line from q =
-    record { equal = refusedLast line from (q .answer) && areWords (q .workspace) (q .workspace) 0 junk; count = 0; next = length line }
+    record { equal = refusedLast line from (q .answer) (q .workspace); count = 0; next = length line }
 
 abbrev pub givenAs : Brought → Compared → Compared
 givenAs q c = record { equal = c .equal && isReturned (q .answer) (c .count); count = c .count; next = c .next }

@@ -5,10 +5,11 @@ use mathlib.Core.List.{List, [], _∷_}
 use lib.Dec.{eqb, leb, ltb}
 use lib.ListN.{length, getD, take, drop}
 use Rattle.vector_text.specs.Text.{nowhere, after}
-use Rattle.vectors.specs.Keywords.{pairWord, loadWord, lineWord, writeWord}
+use Rattle.vectors.specs.Keywords.{pairWord, loadWord, lineWord, importWord, exportWord, writeWord}
 use Rattle.vectors.specs.Pair.{pairHolds}
 use Rattle.vectors.specs.Stored.{loadHolds, writeHolds}
 use Rattle.vectors.specs.Typed.{lineHolds}
+use Rattle.vectors.specs.Carded.{importHolds, exportHolds}
 use Rattle.vectors.specs.declared.vector.Tally.{Tally}
 
 -- Where the line that goes on at a position ends.
@@ -27,7 +28,11 @@ unfoldable pub passes : List ℕ → Bool
 passes line =
     cond (eqb (after line 0 pairWord) nowhere)
     (cond (eqb (after line 0 loadWord) nowhere)
-    (cond (eqb (after line 0 lineWord) nowhere) (writeHolds line (after line 0 writeWord)) (lineHolds line (after line 0 lineWord)))
+    (cond (eqb (after line 0 lineWord) nowhere)
+    (cond (eqb (after line 0 importWord) nowhere)
+    (cond (eqb (after line 0 exportWord) nowhere) (writeHolds line (after line 0 writeWord)) (exportHolds line (after line 0 exportWord)))
+    (importHolds line (after line 0 importWord)))
+    (lineHolds line (after line 0 lineWord)))
     (loadHolds line (after line 0 loadWord)))
     (pairHolds line (after line 0 pairWord))
 

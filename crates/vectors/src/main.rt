@@ -7,13 +7,14 @@ use crate::vector::tally_all;
 use libc::STDIN_FILENO;
 use libc::STDOUT_FILENO;
 
+mod carded;
 mod pair;
 mod stored;
 mod typed;
 mod vector;
 
 // The most bytes that are read.
-const INPUT_MOST: usize = 262144;
+const INPUT_MOST: usize = 524288;
 
 fn main() {
     let mut input = [0u8; INPUT_MOST];

@@ -31,9 +31,9 @@ ghost use lib.ListN.{length};
 ghost use Rattle.words.specs.Types.{answerOf, broughtOf};
 ghost use Rattle.vectors.specs.Answers.{isReturned};
 ghost use Rattle.vector_text.specs.Lists.{listMost, listedOf};
-ghost use Rattle.vectors.specs.Stored.{verifiedOf, refusedLast, chainWord, chain, tableAt, isTable, writesInto, writesBack, broughtAs, loading, loadHolds, writesWords, writeHolds};
+ghost use Rattle.vectors.specs.Stored.{verifiedOf, refusedLast, chainWord, chain, tableAt, isLast, isTable, writesInto, writesBack, broughtAs, loading, loadHolds, writesWords, writeHolds};
 
-fn returns_count(answer: Answer, count: usize) -> bool
+pub fn returns_count(answer: Answer, count: usize) -> bool
     ensures { λ r. ⌜ r ≡ isReturned (answerOf answer) count ⌝ }
 {
     let Answer::Returned(n) = answer else {
@@ -42,15 +42,15 @@ fn returns_count(answer: Answer, count: usize) -> bool
     n == count
 }
 
-// Whether the answer is the refusal that the line names last.
-fn refuses(line: &[u8], at: usize, answer: Answer) -> bool
-    ensures { λ r. ⌜ r ≡ refusedLast (now (line .entry)) at (answerOf answer) ⌝ }
+// Whether the answer is the refusal that the line names last, and what was lent is still junk.
+pub fn refuses(line: &[u8], at: usize, answer: Answer, lent: &[u32]) -> bool
+    ensures { λ r. ⌜ r ≡ refusedLast (now (line .entry)) at (answerOf answer) (now (lent .entry)) ⌝ }
 {
     let Answer::Refused(refusal) = answer else {
         return false;
     };
     let number = read_number(line, at);
-    (refusal.number() == number.value) & (number.next == line.len())
+    (refusal.number() == number.value) & (number.next == line.len()) & filled(lent, JUNK)
 }
 
 // A word of the chain's table. The header differs from an abstraction over the next record in the second word alone.
@@ -99,6 +99,14 @@ fn read_table(line: &[u8], at: usize, table: &mut [u32]) -> List
     }
 }
 
+// Whether these words are the list that comes next, and the line ends behind it.
+pub fn is_last(line: &[u8], at: usize, words: &[u32]) -> bool
+    ensures { λ r. ⌜ r ≡ isLast (now (line .entry)) at (now (words .entry)) ⌝ }
+{
+    let list = compare(line, at, words, JUNK);
+    list.equal & (list.count == words.len()) & (list.next == line.len())
+}
+
 // Whether a written table is the one that the line names after `writes`, or else the one that was loaded.
 fn is_table(line: &[u8], at: usize, written: &[u32], loaded: &[u32]) -> bool
     ensures { λ r. ⌜ r ≡ isTable (now (line .entry)) at (now (written .entry)) (now (loaded .entry)) ⌝ }
@@ -107,8 +115,7 @@ fn is_table(line: &[u8], at: usize, written: &[u32], loaded: &[u32]) -> bool
     if from == NOWHERE {
         return holds(written, loaded, loaded.len(), JUNK) & (at == line.len());
     }
-    let table = compare(line, from, written, JUNK);
-    table.equal & (table.count == written.len()) & (table.next == line.len())
+    is_last(line, from, written)
 }
 
 // Whether writing goes as the line says, to the line's end.
@@ -125,7 +132,7 @@ fn writes_into(
     let answer = write(workspace, length, table);
     let from = after(line, at, b"Refused");
     if from != NOWHERE {
-        return refuses(line, from, answer) & filled(table, JUNK);
+        return refuses(line, from, answer, table);
     }
     returns_count(answer, length) & is_table(line, at, table, loaded)
 }
@@ -147,7 +154,7 @@ pub fn brings(line: &[u8], at: usize, answer: Answer, workspace: &[u32]) -> Comp
     let from = after(line, at, b"Refused");
     if from != NOWHERE {
         return Compared {
-            equal: refuses(line, from, answer) & filled(workspace, JUNK),
+            equal: refuses(line, from, answer, workspace),
             count: 0,
             next: line.len(),
         };

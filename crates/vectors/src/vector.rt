@@ -1,4 +1,6 @@
-// Vectors, one to a line. What a line means is said at the top of pair.rt (pair), stored.rt (load, write) and typed.rt (line).
+// Vectors, one to a line. What a line means is said at the top of pair.rt (pair), stored.rt (load, write), typed.rt (line) and carded.rt (import, export).
+use crate::carded::export_holds;
+use crate::carded::import_holds;
 use crate::pair::pair_holds;
 use crate::stored::load_holds;
 use crate::stored::write_holds;
@@ -31,6 +33,14 @@ fn passes(line: &[u8]) -> bool
     let typed = after(line, 0, b"line");
     if typed != NOWHERE {
         return line_holds(line, typed);
+    }
+    let import = after(line, 0, b"import");
+    if import != NOWHERE {
+        return import_holds(line, import);
+    }
+    let export = after(line, 0, b"export");
+    if export != NOWHERE {
+        return export_holds(line, export);
     }
     write_holds(line, after(line, 0, b"write"))
 }

@@ -1,5 +1,5 @@
 -- `brings` meets its contract.
-use mathlib.Core.Path.{sym, _∙_, ap, ap₂}
+use mathlib.Core.Path.{sym, _∙_, ap}
 use mathlib.Core.Bool.{_&&_}
 use lib.ListN.{length}
 use Rattle.vectors.proofs.StoredLaws.{brought-refused, brought-given}
@@ -16,13 +16,10 @@ after-requires c κs = search needs
 refuses-requires : tie.Need-refuses-requires
 refuses-requires c κs = search needs
 
-filled-requires : tie.Need-filled-requires
-filled-requires c κs = search needs
-
 returns : tie.Need-returns
 returns c =
-    ap₂ (λ a b. record { equal = a && b; count = 0; next = length (c .before .before .before .before .before .before .before .args .line .now) }) (c .before .refuses .ensures) (c .filled .ensures)
-    ∙ sym (brought-refused _ _ _ _ (c .before .before .before .after .ensures) (c .before .before .if1 .taken))
+    ap (λ b. record { equal = b; count = 0; next = length (c .before .before .before .before .before .before .args .line .now) }) (c .refuses .ensures)
+    ∙ sym (brought-refused _ _ _ _ (c .before .before .after .ensures) (c .before .if1 .taken))
 
 slice-aggregate-after-2 : tie.Need-slice-aggregate-after-2
 slice-aggregate-after-2 c = search needs
@@ -49,7 +46,6 @@ brings-spec =
     slice-aggregate-after
     after-requires
     refuses-requires
-    filled-requires
     returns
     slice-aggregate-after-2
     after-requires-2

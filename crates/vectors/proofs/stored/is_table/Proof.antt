@@ -18,12 +18,12 @@ returns : tie.Need-returns
 unfolding isTable
 returns c = rw (← (c .before .before .after .ensures), eq-eqb _ _ (c .before .if1 .taken), ← (c .holds .ensures))
 
-compare-requires : tie.Need-compare-requires
-compare-requires c κs = search needs
+is-last-requires : tie.Need-is-last-requires
+is-last-requires c κs = search needs
 
 returns-2 : tie.Need-returns-2
 unfolding isTable
-returns-2 c = rw (← (c .before .before .before .before .before .after .ensures), ne-eqb _ _ (c .before .before .before .before .if1 .left), ← (c .before .before .before .compare .ensures))
+returns-2 c = rw (← (c .before .before .after .ensures), ne-eqb _ _ (c .before .if1 .left), ← (c .is-last .ensures))
 
 pub is-table-spec : {M : Type 1} → statement M
 is-table-spec =
@@ -33,5 +33,5 @@ is-table-spec =
     after-requires
     holds-requires
     returns
-    compare-requires
+    is-last-requires
     returns-2)

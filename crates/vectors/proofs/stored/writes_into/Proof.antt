@@ -1,7 +1,7 @@
 -- `writes_into` meets its contract.
 use mathlib.Core.Path.{sym, _∙_, ap}
 use Rattle.tables.specs.Types.{writtenOf}
-use Rattle.vectors.specs.Stored.{writtenAs, writesInto}
+use Rattle.vectors.specs.Stored.{verifiedOf, writtenAs, writesInto}
 use Rattle.vectors.proofs.StoredLaws.{write-refused, write-given}
 use borrow.Author.Needs.{needs}
 use Rattle.vectors.proofs.stored.writes_into.Statement.{statement}
@@ -19,15 +19,17 @@ after-requires c κs = search needs
 refuses-requires : tie.Need-refuses-requires
 refuses-requires c κs = search needs
 
-filled-requires : tie.Need-filled-requires
-filled-requires c κs = search needs
-
 same-length : tie.Need-same-length
 same-length c = search needs
 
 returns : tie.Need-returns
 unfolding writesInto
-returns c = rw (c .filled .ensures, c .before .before .refuses .ensures) (sym (write-refused (c .before .before .before .before .before .before .before .before .before .before .before .before .before .before .args .line .now) (c .before .before .before .before .before .before .before .before .before .before .before .before .before .before .args .at) (c .before .before .before .before .before .before .before .before .before .before .before .before .before .before .args .loaded .now) (c .before .before .before .before .before .before .before .before .before .before .before .before .before .before .args .length) (writtenOf (c .before .before .before .before .before .before .before .before .write .result) (c .before .before .before .before .before .before .before .before .write .last .1 .1 .0)) _ (c .before .before .before .before .after .ensures) (c .before .before .before .if1 .taken)) ∙ ap (writtenAs (c .before .before .before .before .before .before .before .before .before .before .before .before .before .before .args .line .now) (c .before .before .before .before .before .before .before .before .before .before .before .before .before .before .args .at) (c .before .before .before .before .before .before .before .before .before .before .before .before .before .before .args .loaded .now) (c .before .before .before .before .before .before .before .before .before .before .before .before .before .before .args .length)) (c .before .before .before .before .before .before .before .before .write .ensures))
+returns c =
+    let start = c .before .before .before .before .before .before .before .before .before .before .before .before .before .args in
+    let write = c .before .before .before .before .before .before .before .write in
+    ap (λ b. verifiedOf b (write .last .1 .1 .0)) (c .refuses .ensures)
+    ∙ sym (write-refused (start .line .now) (start .at) (start .loaded .now) (start .length) (writtenOf (write .result) (write .last .1 .1 .0)) _ (c .before .before .before .after .ensures) (c .before .before .if1 .taken))
+    ∙ ap (writtenAs (start .line .now) (start .at) (start .loaded .now) (start .length)) (write .ensures)
 
 returns-count-requires : tie.Need-returns-count-requires
 returns-count-requires c κs = search needs
@@ -50,7 +52,6 @@ writes-into-spec =
     slice-aggregate-after
     after-requires
     refuses-requires
-    filled-requires
     same-length
     returns
     returns-count-requires

@@ -50,12 +50,38 @@ slice-aggregate-after-4 c = search needs
 after-requires-4 : tie.Need-after-requires-4
 after-requires-4 c κs = search needs
 
-write-holds-requires : tie.Need-write-holds-requires
-write-holds-requires c κs = search needs
+import-holds-requires : tie.Need-import-holds-requires
+import-holds-requires c κs = search needs
 
 returns-4 : tie.Need-returns-4
 unfolding passes
-returns-4 c = rw (c .write-holds .ensures, ← (c .before .before .before .before .before .before .before .before .before .before .after .ensures), eq-eqb _ _ (c .before .before .before .before .before .before .before .before .before .if1 .left), ← (c .before .before .before .before .before .before .before .after2 .ensures), eq-eqb _ _ (c .before .before .before .before .before .before .if2 .left), ← (c .before .before .before .before .after3 .ensures), eq-eqb _ _ (c .before .before .before .if3 .left), ← (c .before .after4 .ensures))
+returns-4 c = rw (c .import-holds .ensures, ← (c .before .before .before .before .before .before .before .before .before .before .before .after .ensures), eq-eqb _ _ (c .before .before .before .before .before .before .before .before .before .before .if1 .left), ← (c .before .before .before .before .before .before .before .before .after2 .ensures), eq-eqb _ _ (c .before .before .before .before .before .before .before .if2 .left), ← (c .before .before .before .before .before .after3 .ensures), eq-eqb _ _ (c .before .before .before .before .if3 .left), ← (c .before .before .after4 .ensures), ne-eqb _ _ (c .before .if4 .taken))
+
+slice-aggregate-after-5 : tie.Need-slice-aggregate-after-5
+slice-aggregate-after-5 c = search needs
+
+after-requires-5 : tie.Need-after-requires-5
+after-requires-5 c κs = search needs
+
+export-holds-requires : tie.Need-export-holds-requires
+export-holds-requires c κs = search needs
+
+returns-5 : tie.Need-returns-5
+unfolding passes
+returns-5 c = rw (c .export-holds .ensures, ← (c .before .before .before .before .before .before .before .before .before .before .before .before .before .before .after .ensures), eq-eqb _ _ (c .before .before .before .before .before .before .before .before .before .before .before .before .before .if1 .left), ← (c .before .before .before .before .before .before .before .before .before .before .before .after2 .ensures), eq-eqb _ _ (c .before .before .before .before .before .before .before .before .before .before .if2 .left), ← (c .before .before .before .before .before .before .before .before .after3 .ensures), eq-eqb _ _ (c .before .before .before .before .before .before .before .if3 .left), ← (c .before .before .before .before .before .after4 .ensures), eq-eqb _ _ (c .before .before .before .before .if4 .left), ← (c .before .before .after5 .ensures), ne-eqb _ _ (c .before .if5 .taken))
+
+slice-aggregate-after-6 : tie.Need-slice-aggregate-after-6
+slice-aggregate-after-6 c = search needs
+
+after-requires-6 : tie.Need-after-requires-6
+after-requires-6 c κs = search needs
+
+write-holds-requires : tie.Need-write-holds-requires
+write-holds-requires c κs = search needs
+
+returns-6 : tie.Need-returns-6
+unfolding passes
+returns-6 c = rw (c .write-holds .ensures, ← (c .before .before .before .before .before .before .before .before .before .before .before .before .before .before .before .before .after .ensures), eq-eqb _ _ (c .before .before .before .before .before .before .before .before .before .before .before .before .before .before .before .if1 .left), ← (c .before .before .before .before .before .before .before .before .before .before .before .before .before .after2 .ensures), eq-eqb _ _ (c .before .before .before .before .before .before .before .before .before .before .before .before .if2 .left), ← (c .before .before .before .before .before .before .before .before .before .before .after3 .ensures), eq-eqb _ _ (c .before .before .before .before .before .before .before .before .before .if3 .left), ← (c .before .before .before .before .before .before .before .after4 .ensures), eq-eqb _ _ (c .before .before .before .before .before .before .if4 .left), ← (c .before .before .before .before .after5 .ensures), eq-eqb _ _ (c .before .before .before .if5 .left), ← (c .before .after6 .ensures))
 
 pub passes-spec : {M : Type 1} → statement M
 passes-spec =
@@ -75,5 +101,13 @@ passes-spec =
     returns-3
     slice-aggregate-after-4
     after-requires-4
+    import-holds-requires
+    returns-4
+    slice-aggregate-after-5
+    after-requires-5
+    export-holds-requires
+    returns-5
+    slice-aggregate-after-6
+    after-requires-6
     write-holds-requires
-    returns-4)
+    returns-6)
