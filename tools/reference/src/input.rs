@@ -30,12 +30,12 @@ impl Words<'_> {
     }
 
     /// A count within the same limit, and that many words, each a byte.
-    pub fn line(&mut self) -> Option<Vec<u8>> {
+    pub fn bytes(&mut self) -> Option<Vec<u8>> {
         let words = self.table()?.into_iter();
         words.map(|word| u8::try_from(word).ok()).collect()
     }
 
-    /// A word that gives the length of a table.
+    /// A word that gives the length of a table, or a number of bytes.
     pub fn length(&mut self) -> Option<usize> {
         let length = self.word()? as usize;
         (length <= LONGEST_TABLE).then_some(length)

@@ -1,13 +1,15 @@
 //! The replaying program as a function from a script to its printed text.
 
+use crate::card::{export, import};
 use crate::input::{workspace, Words};
 use crate::line::read_line;
 use crate::press::{press, show, Answer, Session, Side, Verdict};
 use crate::refusal::Refusal;
 use crate::table::{load, write};
 
-/// Every word of a scratch or of a table to be written, before the call.
-const FILLING: u32 = 7;
+/// Every word of a scratch or of a table to be written, and every byte of a
+/// card to be exported, before the call.
+const FILLING: u8 = 7;
 /// The verdicts in the order of their numbers in a script.
 pub const VERDICTS: [Verdict; 4] = [
     Verdict::Same,
@@ -47,6 +49,16 @@ pub enum Operation {
         side: Side,
         line: Vec<u8>,
     },
+    Import {
+        side: Side,
+        count: u32,
+        bytes: Vec<u8>,
+    },
+    Export {
+        side: Side,
+        length: u32,
+        bytes: usize,
+    },
 }
 
 /// What came of one operation, or of a script that breaks off.
@@ -60,6 +72,8 @@ pub enum Event {
     Store,
     Print,
     Line(Result<u32, Refusal>),
+    Import(Result<u32, Refusal>),
+    Export(Result<u32, Refusal>),
     Script,
 }
 
@@ -158,7 +172,17 @@ impl Script<'_> {
             7 => Operation::Print,
             8 => Operation::Line {
                 side: side(words)?,
-                line: words.line()?,
+                line: words.bytes()?,
+            },
+            9 => Operation::Import {
+                side: side(words)?,
+                count: words.word()?,
+                bytes: words.bytes()?,
+            },
+            10 => Operation::Export {
+                side: side(words)?,
+                length: words.word()?,
+                bytes: words.length()?,
             },
             _ => return None,
         })
@@ -229,6 +253,12 @@ impl Machine {
             }
             Operation::Print => self.print(text),
             Operation::Line { side, line } => self.read_line(*side, line, text),
+            Operation::Import { side, count, bytes } => self.import(*side, *count, bytes, text),
+            Operation::Export {
+                side,
+                length,
+                bytes,
+            } => self.export(*side, *length, *bytes, text),
         }
     }
 
@@ -245,7 +275,7 @@ impl Machine {
         budget: u32,
         text: &mut String,
     ) -> Event {
-        self.scratch = vec![FILLING; scratch];
+        self.scratch = vec![u32::from(FILLING); scratch];
         let answer = press(
             &mut self.left,
             &mut self.right,
@@ -273,7 +303,7 @@ impl Machine {
     }
 
     fn write(&mut self, side: Side, length: u32, table: usize, text: &mut String) -> Event {
-        let mut table = vec![FILLING; table];
+        let mut table = vec![u32::from(FILLING); table];
         let answer = write(self.workspace(side), length, &mut table);
         row(text, &returned("write", answer), &table);
         Event::Write(answer)
@@ -301,6 +331,20 @@ impl Machine {
         let answer = read_line(line, self.workspace(side));
         row(text, &returned("line", answer), &[]);
         Event::Line(answer)
+    }
+
+    fn import(&mut self, side: Side, count: u32, bytes: &[u8], text: &mut String) -> Event {
+        let answer = import(bytes, count, self.workspace(side));
+        row(text, &returned("import", answer), &[]);
+        Event::Import(answer)
+    }
+
+    fn export(&mut self, side: Side, length: u32, bytes: usize, text: &mut String) -> Event {
+        let mut bytes = vec![FILLING; bytes];
+        let answer = export(self.workspace(side), length, &mut bytes);
+        let bytes: Vec<u32> = bytes.into_iter().map(u32::from).collect();
+        row(text, &returned("export", answer), &bytes);
+        Event::Export(answer)
     }
 }
 

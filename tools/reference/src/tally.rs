@@ -2,6 +2,7 @@
 
 use crate::choice;
 use crate::default;
+use crate::exchange;
 use crate::line::{term_of, Fault};
 use crate::part;
 use crate::refusal::Refusal;
@@ -46,8 +47,9 @@ const VERDICT_KINDS: [&str; 29] = [
 ];
 
 /// Answers that the calls of a script can give, the parts that numerals and
-/// defaults have in them, what decides showings, and the faults of lines.
-const REPLAY_KINDS: [&str; 70] = [
+/// defaults have in them, what decides showings, imports and exports, and the
+/// faults of lines.
+const REPLAY_KINDS: [&str; 107] = [
     "replay: load",
     "replay: load refused 1",
     "replay: load refused 2",
@@ -79,6 +81,16 @@ const REPLAY_KINDS: [&str; 70] = [
     "replay: line refused 7",
     "replay: line refused 8",
     "replay: line refused 11",
+    "replay: import",
+    "replay: import refused 7",
+    "replay: import refused 8",
+    "replay: import refused 12",
+    "replay: import refused 13",
+    "replay: export",
+    "replay: export refused 7",
+    "replay: export refused 8",
+    "replay: export refused 10",
+    "replay: export refused 13",
     "replay: Script",
     "replay, load of a numeral",
     "replay, load refused 3 by a numeral",
@@ -118,6 +130,33 @@ const REPLAY_KINDS: [&str; 70] = [
     "replay, line refused 11 by a space",
     "replay, line refused 11 by a parenthesis",
     "replay, line refused 11 by a missing item",
+    "replay, import of C words",
+    "replay, import with bytes to spare",
+    "replay, import of a run of 64 ones or more",
+    "replay, import of a run up to a multiple of 64 bits",
+    "replay, import of what is exported",
+    "replay, import refused 12 by a count past the bytes",
+    "replay, import refused 12 by an early end",
+    "replay, import refused 12 by bits left over",
+    "replay, import refused 12 by the padding",
+    "replay, import refused 8 by one word",
+    "replay, import refused 13 by one binder",
+    "replay, import refused 7, not 12",
+    "replay, import refused 12, not 8",
+    "replay, import refused 12, not 13",
+    "replay, import refused 8, not 13",
+    "replay, export into bytes just enough",
+    "replay, export with bytes to spare",
+    "replay, export of a run of 64 ones or more",
+    "replay, export refused 8 by one byte",
+    "replay, export refused 13 by a free variable",
+    "replay, export refused 13 by a constructor",
+    "replay, export refused 13 by a case",
+    "replay, export refused 13 by a numeral",
+    "replay, export refused 7, not 10",
+    "replay, export refused 10, not 13",
+    "replay, export refused 10, not 8",
+    "replay, export refused 13, not 8",
 ];
 
 /// Each kind of answer has to be seen once in so many cases.
@@ -158,13 +197,18 @@ impl Tally {
             Event::Print => "print".to_string(),
             Event::Line(Ok(_)) => "line".to_string(),
             Event::Line(Err(refusal)) => format!("line refused {refusal}"),
+            Event::Import(Ok(_)) => "import".to_string(),
+            Event::Import(Err(refusal)) => format!("import refused {refusal}"),
+            Event::Export(Ok(_)) => "export".to_string(),
+            Event::Export(Err(refusal)) => format!("export refused {refusal}"),
             Event::Script => "Script".to_string(),
         };
         self.count(format!("replay: {kind}"), 1);
     }
 
     /// What a call of the program has to do with numerals, defaults and
-    /// positions, what decides a showing, and what is wrong with a line.
+    /// positions, what decides a showing, an import or an export, and what is
+    /// wrong with a line.
     pub fn call(&mut self, program: &str, before: &Machine, operation: &Operation) {
         for part in part::of_call(before, operation) {
             self.count(format!("{program}, {part}"), 1);
@@ -177,6 +221,9 @@ impl Tally {
         }
         if let Some(choice) = choice::of_call(before, operation) {
             self.count(format!("{program}, {choice}"), 1);
+        }
+        for exchange in exchange::of_call(before, operation) {
+            self.count(format!("{program}, {exchange}"), 1);
         }
         if let Some(fault) = fault(before, operation) {
             self.count(format!("{program}, line refused 11 by {fault}"), 1);

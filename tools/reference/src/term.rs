@@ -132,6 +132,11 @@ impl Term {
         }
     }
 
+    /// Whether no variable is free in the term.
+    pub fn is_closed(&self) -> bool {
+        self.largest_free().is_none()
+    }
+
     /// Whether every free number is within its limit.
     pub fn frees_fit(&self) -> bool {
         self.largest_free().is_none_or(|free| free <= LARGEST_FREE)

@@ -69,6 +69,10 @@ fn the_report_counts_every_case() {
     assert!(report.contains("replay, show Right at equal lengths\n"));
     assert!(report.contains("replay: line refused 6\n"));
     assert!(report.contains("replay, line refused 11 by a space\n"));
+    assert!(report.contains("replay: import refused 12\n"));
+    assert!(report.contains("replay: export refused 13\n"));
+    assert!(report.contains("replay, import refused 12 by the padding\n"));
+    assert!(report.contains("replay, export refused 13, not 8\n"));
 }
 
 #[test]
@@ -165,13 +169,14 @@ fn kinds_that_are_not_seen_are_named() {
     let none = Tally::default();
     // Four verdicts, refusals 1 to 9, Input, five parts of numerals and ten of
     // defaults; in scripts nine answers of load, seven of press, three of show,
-    // four of write, five of lines, four others, ten parts of numerals, fifteen
-    // of defaults, seven choices of a form to show and six faults of lines. In
+    // four of write, five each of lines, imports and exports, four others, ten
+    // parts of numerals, fifteen of defaults, seven choices of a form to show,
+    // six faults of lines, and what fifteen imports and twelve exports meet. In
     // both, nine shapes of forms, which may be less frequent.
-    assert_eq!(none.too_few(80, BOTH).len(), 29 + 70);
+    assert_eq!(none.too_few(80, BOTH).len(), 29 + 107);
     assert_eq!(none.too_few(79, BOTH).len(), 0);
-    assert_eq!(none.too_few(120, BOTH).len(), 29 + 70 + 2 * 9);
-    assert_eq!(none.too_few(119, BOTH).len(), 29 + 70);
+    assert_eq!(none.too_few(120, BOTH).len(), 29 + 107 + 2 * 9);
+    assert_eq!(none.too_few(119, BOTH).len(), 29 + 107);
     let verdict = Halves {
         replay: false,
         ..BOTH

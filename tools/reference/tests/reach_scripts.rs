@@ -207,6 +207,14 @@ fn called(before: &Machine, operation: &Operation, event: Event) -> String {
         (Operation::Line { side, .. }, Event::Line(Err(refusal))) => {
             format!("line {}, {refusal}", name(*side))
         }
+        (Operation::Import { side, .. }, Event::Import(Ok(_))) => format!("import {}", name(*side)),
+        (Operation::Import { side, .. }, Event::Import(Err(refusal))) => {
+            format!("import {}, {refusal}", name(*side))
+        }
+        (Operation::Export { side, .. }, Event::Export(Ok(_))) => format!("export {}", name(*side)),
+        (Operation::Export { side, .. }, Event::Export(Err(refusal))) => {
+            format!("export {}, {refusal}", name(*side))
+        }
         other => panic!("another event than the call's: {other:?}"),
     }
 }
@@ -436,6 +444,10 @@ fn scripts_reach_every_call_and_answer() {
         features.extend((1..=8).map(|number| format!("load {side}, {number}")));
         features.push(format!("line {side}"));
         features.extend([6, 7, 8, 11].map(|number| format!("line {side}, {number}")));
+        features.push(format!("import {side}"));
+        features.extend([7, 8, 12, 13].map(|number| format!("import {side}, {number}")));
+        features.push(format!("export {side}"));
+        features.extend([7, 8, 10, 13].map(|number| format!("export {side}, {number}")));
         features.push(format!("write {side}"));
         let lengths = ["1 by one less", "1 by fewer", "1 by one more", "1 by more"];
         features.extend(lengths.map(|length| format!("write {side}, {length}")));
@@ -470,24 +482,28 @@ fn broken(bytes: &[u8]) -> String {
         8 => beyond("side", 1, 1)
             .or_else(|| beyond("count", 2, 8_196))
             .or_else(|| (3..bytes.len() / 4).find_map(|place| beyond("byte", place, 255))),
+        9 => beyond("side", 1, 1)
+            .or_else(|| beyond("count", 3, 8_196))
+            .or_else(|| (4..bytes.len() / 4).find_map(|place| beyond("byte", place, 255))),
+        10 => beyond("side", 1, 1).or_else(|| beyond("count", 3, 8_196)),
         _ => None,
     };
     wrong.unwrap_or_else(|| match code {
         0 => "operation 0".to_string(),
-        9 => "operation 9".to_string(),
-        10.. => "far operation".to_string(),
+        11 => "operation 11".to_string(),
+        12.. => "far operation".to_string(),
         _ => format!("{code}: cut"),
     })
 }
 
 /// Ways in which a script breaks off, and long scripts.
-const BREAKS: [&str; 34] = [
+const BREAKS: [&str; 46] = [
     "long",
     "long and broken",
     "no start",
     "some bytes",
     "operation 0",
-    "operation 9",
+    "operation 11",
     "far operation",
     "1: side 2",
     "1: far side",
@@ -516,15 +532,27 @@ const BREAKS: [&str; 34] = [
     "8: byte 256",
     "8: far byte",
     "8: cut",
+    "9: side 2",
+    "9: far side",
+    "9: count 8197",
+    "9: far count",
+    "9: byte 256",
+    "9: far byte",
+    "9: cut",
+    "10: side 2",
+    "10: far side",
+    "10: count 8197",
+    "10: far count",
+    "10: cut",
 ];
 
 #[test]
 fn broken_scripts_are_broken_in_every_way() {
     let census = on_large_stack(|| {
         let mut census = Census::default();
-        for case in 0..13_200 {
-            // Scripts that may break are those of five cases in twenty-four.
-            if !matches!(case / 11 % 24, 1 | 6 | 11 | 16 | 21 | 3) {
+        for case in 0..14_400 {
+            // Scripts that may break are those of six cases in twenty-four.
+            if !matches!(case / 12 % 24, 1 | 6 | 11 | 16 | 21 | 3) {
                 continue;
             }
             let input = scripts::script(43, case);
@@ -556,6 +584,10 @@ fn look_at_limits(before: &Machine, operation: &Operation, event: Event, census:
         (Operation::Line { side, .. }, Event::Line(Ok(length))) => {
             let mut behind = workspace(before, *side)[length as usize..].iter();
             census.meet_if(behind.any(|word| *word != 0), "a line over other words");
+        }
+        (Operation::Import { side, .. }, Event::Import(Ok(length))) => {
+            let mut behind = workspace(before, *side)[length as usize..].iter();
+            census.meet_if(behind.any(|word| *word != 0), "a card over other words");
         }
         (
             Operation::Press {
@@ -621,6 +653,7 @@ fn scripts_reach_the_limits_of_a_press() {
         &[
             "loaded over other words",
             "a line over other words",
+            "a card over other words",
             "a tail becomes zeros",
             "a tail becomes zeros without a round",
             "a tail kept by a refusal",

@@ -257,6 +257,97 @@ fn words_of_a_line_are_bytes() {
     assert_eq!(text(&[&[0, 0], &[8, 0, 0]]), "refused 7\n");
 }
 
+/// A card for a side.
+fn card(side: u32, count: u32, bytes: &[u8]) -> Vec<u32> {
+    let words = bytes.iter().map(|byte| u32::from(*byte));
+    let head = [9, side, count, bytes.len() as u32];
+    head.into_iter().chain(words).collect()
+}
+
+#[test]
+fn cards_bring_terms_in_and_carry_them_out() {
+    let printed = text(&[
+        &[16, 16],
+        &[6, 0, 9, 55],
+        &[6, 1, 9, 66],
+        &card(0, 7, &[12]), // 0000110 is 1,1,8
+        &card(1, 7, &[13]), // the padding
+        &card(1, 6, &[12]), // the run does not end
+        &card(1, 8, &[12]), // a bit is left over
+        &card(1, 9, &[12]), // a bit that is not lent
+        &card(1, 5, &[48]), // 00110 is \ f0
+        &[7],
+        &card(1, 34, &[0, 0, 0, 0, 128]), // 17 words
+        &card(1, 4, &[32, 0, 0]),         // 0010 is 1,0
+        &[10, 1, 2, 3],
+        &[10, 1, 2, 1],
+        &[10, 1, 2, 0],
+        &[10, 1, 3, 2], // \ 0 and one word more
+        &[10, 0, 3, 1],
+        &[2, 16, 3, 2, 0],
+        &card(1, 7, &[12]),
+        &[2, 16, 3, 3, 0],
+        &[7],
+    ]);
+    let expected = [
+        "store\nstore\nimport 3\nrefused 12\nrefused 12\nrefused 12\nrefused 12\nrefused 13\n",
+        // Zeros after the term on the left, the right as it was.
+        &row("left", &[1, 1, 8], 13, "0"),
+        &row("right", &[0, 0, 0, 0, 0, 0, 0, 0, 0, 66], 6, "0"),
+        "scratch\nsession 0 0 0 Budget\n",
+        "refused 8\nimport 2\nexport 4 32 0 0\nexport 4 32\nrefused 8\nrefused 10 7 7\n",
+        "export 7 12\nDifferent 0 3 2 1\nimport 3\nSame 0 3 3 0\n",
+        &row("left", &[1, 1, 8], 13, "0"),
+        &row("right", &[1, 1, 8], 13, "0"),
+        &row("scratch", &[], 16, "0"),
+        // A card is none of the session's business.
+        "session 0 3 3 Same\n",
+    ];
+    assert_eq!(printed, expected.concat());
+}
+
+#[test]
+fn exporting_prints_all_bytes() {
+    // An empty workspace holds f0 as its first word, which is not closed.
+    let start = [16, 15];
+    assert_eq!(text(&[&start, &[10, 0, 1, 3]]), "refused 13 7 7 7\n");
+    assert_eq!(text(&[&start, &[10, 0, 1, 0]]), "refused 13\n");
+    assert_eq!(text(&[&start, &[10, 0, 0, 2]]), "refused 10 7 7\n");
+    assert_eq!(text(&[&start, &[10, 1, 1, 1]]), "refused 7 7\n");
+    let identity = [16, 16, 6, 0, 0, 1];
+    let long = text(&[&identity, &[10, 0, 2, 8_196]]);
+    let bytes = row("export", &[4, 32], 8_195, "0");
+    assert_eq!(long, "store\n".to_string() + &bytes);
+    let longer = text(&[&identity, &[10, 0, 2, 8_197]]);
+    assert_eq!(longer, "store\nScript\n");
+}
+
+#[test]
+fn each_side_is_carried_by_its_own_length() {
+    let printed = text(&[&[15, 16], &card(0, 4, &[32]), &card(1, 4, &[32])]);
+    assert_eq!(printed, "refused 7\nimport 2\n");
+    assert_eq!(text(&[&[16, 2_049], &card(1, 9, &[])]), "refused 7\n");
+}
+
+#[test]
+fn words_of_a_card_are_bytes() {
+    let start = [16, 16];
+    assert_eq!(text(&[&start, &card(0, 0, &[])]), "refused 12\n");
+    assert_eq!(text(&[&start, &card(0, u32::MAX, &[])]), "refused 12\n");
+    assert_eq!(text(&[&start, &[9, 0, 4, 1, 255]]), "refused 12\n");
+    assert_eq!(text(&[&start, &[9, 0, 4, 1, 256]]), "Script\n");
+    // Cut to eight bits this would be a card.
+    assert_eq!(text(&[&start, &[9, 0, 4, 1, 256 + 32]]), "Script\n");
+    assert_eq!(text(&[&start, &[9, 0, 4, 2, 32, u32::MAX]]), "Script\n");
+    // The longest card is lent, a longer one is not.
+    let zeros = |count: usize| card(0, 4, &[&[32][..], &vec![0; count - 1]].concat());
+    assert_eq!(text(&[&start, &zeros(8_196)]), "import 2\n");
+    assert_eq!(text(&[&start, &zeros(8_197)]), "Script\n");
+    // A byte that is none comes before a wrong workspace.
+    assert_eq!(text(&[&[0, 0], &[9, 0, 4, 1, 256]]), "Script\n");
+    assert_eq!(text(&[&[0, 0], &[9, 0, 4, 0]]), "refused 7\n");
+}
+
 #[test]
 fn storing_outside_does_nothing() {
     let printed = text(&[&[2, 1, 6, 0, 1, 9, 6, 0, 2, 9, 6, 1, 1, 9, 7]]);
@@ -269,7 +360,7 @@ fn a_broken_operation_ends_the_run() {
     // What was printed before it stays.
     for end in [
         &[0][..],
-        &[9],
+        &[11],
         &[u32::MAX],
         &[1],
         &[1, 2, 0],
@@ -288,12 +379,24 @@ fn a_broken_operation_ends_the_run() {
         &[8, 0, 2, 48],
         &[8, 0, 8_197],
         &[8, 0, 1, 256],
+        &[9],
+        &[9, 0],
+        &[9, 0, 4],
+        &[9, 2, 4, 1, 32],
+        &[9, 0, 4, 2, 32],
+        &[9, 0, 4, 8_197],
+        &[9, 0, 4, 1, 256],
+        &[10],
+        &[10, 0],
+        &[10, 0, 1],
+        &[10, 2, 1, 1],
+        &[10, 0, 1, 8_197],
     ] {
         let printed = text(&[&[16, 16, 6, 0, 0, 8], end]);
         assert_eq!(printed, "store\nScript\n", "{end:?}");
     }
     // Nothing after it is done.
-    assert_eq!(text(&[&[16, 16, 9, 6, 0, 0, 8]]), "Script\n");
+    assert_eq!(text(&[&[16, 16, 11, 6, 0, 0, 8]]), "Script\n");
 }
 
 #[test]

@@ -1,5 +1,7 @@
 //! Inputs for the programs, made from seeds alone.
 
+pub mod card_damage;
+pub mod cards;
 pub mod damage;
 pub mod families;
 pub mod inputs;

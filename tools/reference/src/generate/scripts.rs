@@ -1,5 +1,7 @@
 //! Scripts for the replaying program.
 
+mod exchange;
+
 use crate::default;
 use crate::generate::damage::{
     changed_word, faulty_default, faulty_default_words, faulty_numeral, faulty_table, faulty_words,
@@ -38,11 +40,12 @@ const SUBJECTS: [fn(&mut Random) -> Composer; 12] = [
     defaults,
 ];
 
-/// The script of one case of a run.
+/// The script of one case of a run; every one has cards at its end.
 pub fn script(seed: u64, case: u64) -> Vec<u8> {
     let mut random = Random::new(seed, case);
     let subjects = SUBJECTS.len() as u64;
-    let composer = SUBJECTS[(case % subjects) as usize](&mut random);
+    let mut composer = SUBJECTS[(case % subjects) as usize](&mut random);
+    exchange::exchange(&mut random, &mut composer);
     match (case / subjects) % 24 {
         1 | 6 | 11 | 16 | 21 => broken_script(&mut random, composer),
         3 => long_script(&mut random, composer),
@@ -85,7 +88,8 @@ impl Composer {
         ) {
             (Event::Press(Ok(answer)), _) => self.lengths = (answer.left, answer.right),
             (Event::Load(Ok(length)), Operation::Load { side, .. })
-            | (Event::Line(Ok(length)), Operation::Line { side, .. }) => match side {
+            | (Event::Line(Ok(length)), Operation::Line { side, .. })
+            | (Event::Import(Ok(length)), Operation::Import { side, .. }) => match side {
                 Side::Left => self.lengths.0 = length,
                 Side::Right => self.lengths.1 = length,
             },
@@ -266,6 +270,16 @@ fn encoded(operation: &Operation) -> Vec<u32> {
             words.extend(line.iter().map(|byte| u32::from(*byte)));
             words
         }
+        Operation::Import { side, count, bytes } => {
+            let mut words = vec![9, *side as u32, *count, bytes.len() as u32];
+            words.extend(bytes.iter().map(|byte| u32::from(*byte)));
+            words
+        }
+        Operation::Export {
+            side,
+            length,
+            bytes,
+        } => vec![10, *side as u32, *length, *bytes as u32],
     }
 }
 
@@ -706,9 +720,9 @@ fn broken_script(random: &mut Random, composer: Composer) -> Vec<u8> {
     let mut words = composer.words;
     let over = LONGEST_TABLE as u32 + 1;
     let large = random.pick(&[over, over + 3, 1 << 30, u32::MAX]);
-    let end: Vec<u32> = match random.below(20) {
+    let end: Vec<u32> = match random.below(25) {
         0 => vec![0],
-        1 => vec![9],
+        1 => vec![11],
         2 => vec![random.pick(&[256 + 7, 1 << 31, u32::MAX])],
         3 => vec![1, random.pick(&[2, 3, u32::MAX]), 0],
         4 => vec![1, 0, large],
@@ -719,13 +733,18 @@ fn broken_script(random: &mut Random, composer: Composer) -> Vec<u8> {
         9 => vec![6, random.pick(&[2, 258]), 0, 0],
         10 => vec![8, random.pick(&[2, 3, u32::MAX]), 0],
         11 => vec![8, 0, large],
-        12 => wrong_byte(random),
-        13 => {
+        12 => wrong_byte(random, &[8]),
+        13 => vec![9, random.pick(&[2, 3, u32::MAX]), 4, 0],
+        14 => vec![9, 0, 4, large],
+        15 => wrong_byte(random, &[9, 4]),
+        16 => vec![10, random.pick(&[2, 258, u32::MAX]), 1, 1],
+        17 => vec![10, 1, 1, large],
+        18 => {
             let any = random.below(words.len());
             words.truncate(random.pick(&[0, 1, any]));
             Vec::new()
         }
-        14 | 15 => {
+        19 | 20 => {
             words.extend(cut_operation(random));
             return bytes(&words);
         }
@@ -742,11 +761,14 @@ fn broken_script(random: &mut Random, composer: Composer) -> Vec<u8> {
     bytes(&words)
 }
 
-/// A line with a word that is no byte; cut to eight bits it would be one.
-fn wrong_byte(random: &mut Random) -> Vec<u32> {
+/// A line, or a card of so many bits, with a word that is no byte; cut to eight
+/// bits it would be one.
+fn wrong_byte(random: &mut Random, operation: &[u32]) -> Vec<u32> {
     let digit = u32::from(b'0');
     let count = random.between(1, 5);
-    let mut words = vec![8, random.below(2) as u32, count as u32];
+    let side = random.below(2) as u32;
+    let mut words = [&operation[..1], &[side], &operation[1..]].concat();
+    words.push(count as u32);
     words.extend(vec![digit; count]);
     let at = words.len() - random.between(1, count);
     words[at] = random.pick(&[256, 256, 256 + digit, (1 << 16) + digit, u32::MAX]);
@@ -755,7 +777,7 @@ fn wrong_byte(random: &mut Random) -> Vec<u32> {
 
 /// The start of an operation that has more words.
 fn cut_operation(random: &mut Random) -> Vec<u32> {
-    let whole: [&[u32]; 7] = [
+    let whole: [&[u32]; 9] = [
         &[1, 0, 4, 1, 1, 1, 0],
         &[2, 16, 1, 1, 0],
         &[3, 1, 1],
@@ -763,6 +785,8 @@ fn cut_operation(random: &mut Random) -> Vec<u32> {
         &[5, 0, 0, 0, 0],
         &[6, 0, 0, 0],
         &[8, 0, 3, 48, 32, 48],
+        &[9, 0, 18, 3, 70, 134, 128],
+        &[10, 0, 1, 8],
     ];
     let operation = random.pick(&whole);
     operation[..random.between(1, operation.len() - 1)].to_vec()
@@ -772,7 +796,7 @@ fn cut_operation(random: &mut Random) -> Vec<u32> {
 fn long_script(random: &mut Random, mut composer: Composer) -> Vec<u8> {
     while composer.words.len() < LONG {
         let (side, at) = (any_side(random), u32::MAX);
-        let operation = match random.below(9) {
+        let operation = match random.below(11) {
             0 => Operation::Load {
                 side,
                 table: vec![2; random.below(LONGEST_TABLE + 1)],
@@ -782,6 +806,16 @@ fn long_script(random: &mut Random, mut composer: Composer) -> Vec<u8> {
             3 => Operation::Line {
                 side,
                 line: vec![b'1'; random.below(LONGEST_TABLE + 1)],
+            },
+            4 => Operation::Import {
+                side,
+                count: 0,
+                bytes: vec![1; random.below(LONGEST_TABLE + 1)],
+            },
+            5 => Operation::Export {
+                side,
+                length: 0,
+                bytes: random.below(9),
             },
             _ => Operation::Store { side, at, word: 1 },
         };

@@ -1,10 +1,12 @@
 //! Short ways to say what the tests expect.
 #![allow(dead_code)]
 
+pub mod cards;
 pub mod census;
 pub mod lines;
 pub mod presses;
 
+use reference::card::import;
 use reference::contraction::step;
 use reference::line::read_line;
 use reference::press::{press, Answer, Session, Verdict};
@@ -101,5 +103,13 @@ pub fn loaded(table: &[u32], capacity: usize) -> (Result<u32, Refusal>, Vec<u32>
 pub fn typed(line: &[u8], capacity: usize) -> (Result<u32, Refusal>, Vec<u32>) {
     let mut workspace = vec![77; capacity];
     let answer = read_line(line, &mut workspace);
+    (answer, workspace)
+}
+
+/// Imports a card into a workspace of `capacity` words; the answer and the
+/// words.
+pub fn carried(bytes: &[u8], count: u32, capacity: usize) -> (Result<u32, Refusal>, Vec<u32>) {
+    let mut workspace = vec![77; capacity];
+    let answer = import(bytes, count, &mut workspace);
     (answer, workspace)
 }

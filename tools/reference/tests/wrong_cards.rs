@@ -1,0 +1,585 @@
+//! Importers and exporters of cards with one mistake each: the generated
+//! scripts have to tell every one of them from the reference. Those without a
+//! mistake must agree.
+
+mod common;
+
+use common::cards::{of_scripts, Exported, Imported};
+use reference::card;
+use reference::on_large_stack;
+use reference::words::read;
+
+#[derive(Clone, Copy, Debug, PartialEq, Eq)]
+enum Mistake {
+    Nothing,
+    // Other bits.
+    LowestBitFirst,
+    KindsExchanged,
+    IndexFromOne,
+    RunEndsAtWindow,
+    RunOfOneWindow,
+    RunBehindAWindowIsNew,
+    RunInOneByte,
+    RunInSixteenBits,
+    WindowWithoutItsLastBit,
+    // Other cards are accepted or refused.
+    CountNotTested,
+    CountMayPassByOne,
+    CountIsBelowTheBytes,
+    CountInSixteenBits,
+    CountTimesEight,
+    LastZeroNotNeeded,
+    EndIsZeros,
+    LeftOverNotTested,
+    LeftOverZerosAllowed,
+    LeftOverUpToAByte,
+    PaddingNotTested,
+    PaddingOfLastByteOnly,
+    PaddingOfOtherBytesOnly,
+    PaddingFirstBitNotTested,
+    PaddingLastBitNotTested,
+    SpareBytesRefused,
+    EmptyIsVariable,
+    // Free variables and room.
+    ClosedNotTested,
+    FreeNumberUpTo255,
+    ClosedByOneMore,
+    BindersStayBehindAbstractions,
+    FitsBelowC,
+    FitsByOneMore,
+    // The order of the checks.
+    CardBeforeWorkspace,
+    RoomBeforeWorkspace,
+    ClosedBeforeWorkspace,
+    RoomBeforeCard,
+    ClosedBeforeCard,
+    ClosedBeforeRoom,
+    // What is left in the workspace, and the answer.
+    ZerosLeftOut,
+    ClearedWhenRefused,
+    WrittenThoughOpen,
+    WrittenThoughTooLong,
+    AnswersBits,
+}
+
+const MISTAKES: [Mistake; 43] = [
+    Mistake::LowestBitFirst,
+    Mistake::KindsExchanged,
+    Mistake::IndexFromOne,
+    Mistake::RunEndsAtWindow,
+    Mistake::RunOfOneWindow,
+    Mistake::RunBehindAWindowIsNew,
+    Mistake::RunInOneByte,
+    Mistake::RunInSixteenBits,
+    Mistake::WindowWithoutItsLastBit,
+    Mistake::CountNotTested,
+    Mistake::CountMayPassByOne,
+    Mistake::CountIsBelowTheBytes,
+    Mistake::CountInSixteenBits,
+    Mistake::CountTimesEight,
+    Mistake::LastZeroNotNeeded,
+    Mistake::EndIsZeros,
+    Mistake::LeftOverNotTested,
+    Mistake::LeftOverZerosAllowed,
+    Mistake::LeftOverUpToAByte,
+    Mistake::PaddingNotTested,
+    Mistake::PaddingOfLastByteOnly,
+    Mistake::PaddingOfOtherBytesOnly,
+    Mistake::PaddingFirstBitNotTested,
+    Mistake::PaddingLastBitNotTested,
+    Mistake::SpareBytesRefused,
+    Mistake::EmptyIsVariable,
+    Mistake::ClosedNotTested,
+    Mistake::FreeNumberUpTo255,
+    Mistake::ClosedByOneMore,
+    Mistake::BindersStayBehindAbstractions,
+    Mistake::FitsBelowC,
+    Mistake::FitsByOneMore,
+    Mistake::CardBeforeWorkspace,
+    Mistake::RoomBeforeWorkspace,
+    Mistake::ClosedBeforeWorkspace,
+    Mistake::RoomBeforeCard,
+    Mistake::ClosedBeforeCard,
+    Mistake::ClosedBeforeRoom,
+    Mistake::ZerosLeftOut,
+    Mistake::ClearedWhenRefused,
+    Mistake::WrittenThoughOpen,
+    Mistake::WrittenThoughTooLong,
+    Mistake::AnswersBits,
+];
+
+/// A reader without recursion: bits from the first to the last, with a list of
+/// the binders around each term that is still to come.
+struct Reader<'a> {
+    mistake: Mistake,
+    bytes: &'a [u8],
+    count: u64,
+    at: u64,
+    words: Vec<u32>,
+    open: bool,
+}
+
+impl Reader<'_> {
+    fn is(&self, mistake: Mistake) -> bool {
+        self.mistake == mistake
+    }
+
+    /// The bit at a place; past the bytes it is 0.
+    fn bit_at(&self, at: u64) -> bool {
+        let Some(byte) = self.bytes.get((at / 8) as usize) else {
+            return false;
+        };
+        match self.is(Mistake::LowestBitFirst) {
+            true => byte >> (at % 8) & 1 == 1,
+            false => byte << (at % 8) & 128 == 128,
+        }
+    }
+
+    fn bit(&mut self) -> Option<bool> {
+        // Past the bytes nothing but zeros would come, without an end.
+        let last = self.at > 8 * self.bytes.len() as u64 + 64;
+        let zeros = self.is(Mistake::EndIsZeros) && !last;
+        if self.at >= self.count && !zeros || last {
+            return None;
+        }
+        self.at += 1;
+        Some(self.at <= self.count && self.bit_at(self.at - 1))
+    }
+
+    /// Whether the bits begin with a whole term.
+    fn whole(&mut self) -> bool {
+        if self.count == 0 && self.is(Mistake::EmptyIsVariable) {
+            self.words.push(0);
+            self.open = true;
+            return true;
+        }
+        let mut waiting = vec![0];
+        while let Some(binders) = waiting.pop() {
+            let Some(first) = self.bit() else {
+                return false;
+            };
+            if first {
+                let Some(ones) = self.run() else {
+                    return false;
+                };
+                self.variable(ones, binders, &mut waiting);
+                continue;
+            }
+            let Some(second) = self.bit() else {
+                return false;
+            };
+            match second != self.is(Mistake::KindsExchanged) {
+                false => {
+                    self.words.push(1);
+                    waiting.push(binders + 1);
+                }
+                true => {
+                    self.words.push(2);
+                    waiting.extend([binders, binders]);
+                }
+            }
+        }
+        true
+    }
+
+    /// The ones of a run of which the first is read, and its zero.
+    fn run(&mut self) -> Option<u64> {
+        let start = self.at - 1;
+        let mut ones = 1;
+        loop {
+            let edge = self.at.is_multiple_of(64);
+            match self.mistake {
+                Mistake::RunEndsAtWindow if edge => return Some(ones),
+                Mistake::RunOfOneWindow if self.at - start == 64 => return Some(ones),
+                Mistake::RunBehindAWindowIsNew if edge => ones = 0,
+                Mistake::WindowWithoutItsLastBit if self.at % 64 == 63 => {
+                    // The last bit of the window is taken for the zero.
+                    self.bit()?;
+                    return Some(ones);
+                }
+                _ => {}
+            }
+            match self.bit() {
+                Some(true) => ones += 1,
+                Some(false) => return Some(ones),
+                None if self.is(Mistake::LastZeroNotNeeded) => return Some(ones),
+                None => return None,
+            }
+        }
+    }
+
+    fn variable(&mut self, ones: u64, binders: u64, waiting: &mut [u64]) {
+        let index = match self.mistake {
+            Mistake::IndexFromOne => ones,
+            Mistake::RunInOneByte => ones.wrapping_sub(1) % 256,
+            Mistake::RunInSixteenBits => ones.wrapping_sub(1) % 65_536,
+            _ => ones.wrapping_sub(1),
+        };
+        let bound = match self.mistake {
+            Mistake::FreeNumberUpTo255 => index < binders + 256,
+            Mistake::ClosedByOneMore => index <= binders,
+            Mistake::ClosedNotTested => true,
+            _ => index < binders,
+        };
+        self.open |= !bound;
+        self.words.push((index as u32).wrapping_mul(8));
+        if let (Some(next), true) = (
+            waiting.last_mut(),
+            self.is(Mistake::BindersStayBehindAbstractions),
+        ) {
+            *next = binders.max(*next);
+        }
+    }
+
+    /// Whether a bit past the count is 1 among those that are tested.
+    fn breaks_padding(&self) -> bool {
+        let lent = 8 * self.bytes.len() as u64;
+        let byte_end = self.count.next_multiple_of(8);
+        let (from, to) = match self.mistake {
+            Mistake::PaddingNotTested => (lent, lent),
+            Mistake::PaddingOfLastByteOnly => (self.count, byte_end.min(lent)),
+            Mistake::PaddingOfOtherBytesOnly => (byte_end, lent),
+            Mistake::PaddingFirstBitNotTested => (self.count + 1, lent),
+            Mistake::PaddingLastBitNotTested => (self.count, lent.saturating_sub(1)),
+            _ => (self.count, lent),
+        };
+        (from..to).any(|at| self.bit_at(at))
+    }
+}
+
+/// The answer, with the numbers of refusals, and the workspace after it.
+fn import(mistake: Mistake, imported: &Imported) -> (Result<u32, u32>, Vec<u32>) {
+    let is = |other| mistake == other;
+    let Imported { bytes, count, .. } = imported;
+    let lent = 8 * bytes.len() as u64;
+    let count = match mistake {
+        Mistake::CountInSixteenBits => u64::from(*count % 65_536),
+        Mistake::CountTimesEight => u64::from(*count % (1 << 29)),
+        Mistake::CountNotTested => u64::from(*count).min(lent),
+        _ => u64::from(*count),
+    };
+    let past = match mistake {
+        Mistake::CountMayPassByOne => count > lent + 1,
+        Mistake::CountIsBelowTheBytes => count >= lent,
+        _ => count > lent,
+    };
+    let mut reader = Reader {
+        mistake,
+        bytes,
+        count: count.min(lent + 1),
+        at: 0,
+        words: Vec::new(),
+        open: false,
+    };
+    let whole = reader.whole();
+    let rest = reader.at..reader.count;
+    let left_over = match mistake {
+        Mistake::LeftOverNotTested => false,
+        Mistake::LeftOverZerosAllowed => rest.clone().any(|at| reader.bit_at(at)),
+        Mistake::LeftOverUpToAByte => rest.end.saturating_sub(rest.start) >= 8,
+        _ => rest.start < rest.end,
+    };
+    let spare = is(Mistake::SpareBytesRefused) && lent >= count + 8;
+    let fault = past || !whole || left_over || spare || reader.breaks_padding();
+    let mut workspace = imported.workspace.clone();
+    let capacity = workspace.len();
+    let words = &reader.words;
+    let room = match mistake {
+        Mistake::FitsBelowC => words.len() + 1 > capacity,
+        Mistake::FitsByOneMore => words.len() > capacity + 1,
+        _ => words.len() > capacity,
+    };
+    let open = reader.open;
+    let mut found = Vec::new();
+    let mut meets = |met: bool, number: u32| {
+        if met {
+            found.push(number);
+        }
+    };
+    // The checks in the reader's order; the first that is met counts.
+    meets(is(Mistake::CardBeforeWorkspace) && fault, 12);
+    meets(is(Mistake::RoomBeforeWorkspace) && !fault && room, 8);
+    meets(is(Mistake::ClosedBeforeWorkspace) && !fault && open, 13);
+    meets(!(16..=2_048).contains(&capacity), 7);
+    meets(is(Mistake::RoomBeforeCard) && room, 8);
+    meets(is(Mistake::ClosedBeforeCard) && open, 13);
+    meets(fault, 12);
+    meets(is(Mistake::ClosedBeforeRoom) && open, 13);
+    meets(room, 8);
+    meets(open, 13);
+    let refused = found.first().copied();
+    let written = match refused {
+        None => true,
+        Some(13) => is(Mistake::WrittenThoughOpen),
+        Some(8) => is(Mistake::WrittenThoughTooLong),
+        Some(_) => false,
+    };
+    if written {
+        let zeros = match is(Mistake::ZerosLeftOut) {
+            true => 0,
+            false => capacity,
+        };
+        let all = words.iter().copied().chain(vec![0; zeros]);
+        for (place, word) in workspace.iter_mut().zip(all) {
+            *place = word;
+        }
+    }
+    if refused.is_some() && is(Mistake::ClearedWhenRefused) {
+        workspace.fill(0);
+    }
+    let answer = match is(Mistake::AnswersBits) {
+        true => count as usize,
+        false => words.len(),
+    };
+    (refused.map_or(Ok(answer as u32), Err), workspace)
+}
+
+#[derive(Clone, Copy, Debug, PartialEq, Eq)]
+enum Slip {
+    Nothing,
+    // Other bits.
+    LowestBitFirst,
+    KindsExchanged,
+    IndexWithoutItsZero,
+    RunOfIndex,
+    RunUpToAWindow,
+    RunAcrossBytesIsCut,
+    // Bytes.
+    RestKept,
+    RestOfLastByteKept,
+    RestIsOnes,
+    OneByteMoreNeeded,
+    RoundedDown,
+    RoomByWords,
+    BitsInSixteen,
+    AnswersBytes,
+    AnswersWords,
+    FilledThoughTooFew,
+    ClearedWhenRefused,
+    // What has a card.
+    FreeNotTested,
+    FreeByOneMore,
+    ConstructorLeftOut,
+    NumeralIsItsEntry,
+    CaseLeftOut,
+    LengthNotTested,
+    AllWordsTested,
+    // The order of the checks.
+    TermBeforeWorkspace,
+    RoomBeforeTerm,
+    CardBeforeTerm,
+    RoomBeforeCard,
+}
+
+const SLIPS: [Slip; 28] = [
+    Slip::LowestBitFirst,
+    Slip::KindsExchanged,
+    Slip::IndexWithoutItsZero,
+    Slip::RunOfIndex,
+    Slip::RunUpToAWindow,
+    Slip::RunAcrossBytesIsCut,
+    Slip::RestKept,
+    Slip::RestOfLastByteKept,
+    Slip::RestIsOnes,
+    Slip::OneByteMoreNeeded,
+    Slip::RoundedDown,
+    Slip::RoomByWords,
+    Slip::BitsInSixteen,
+    Slip::AnswersBytes,
+    Slip::AnswersWords,
+    Slip::FilledThoughTooFew,
+    Slip::ClearedWhenRefused,
+    Slip::FreeNotTested,
+    Slip::FreeByOneMore,
+    Slip::ConstructorLeftOut,
+    Slip::NumeralIsItsEntry,
+    Slip::CaseLeftOut,
+    Slip::LengthNotTested,
+    Slip::AllWordsTested,
+    Slip::TermBeforeWorkspace,
+    Slip::RoomBeforeTerm,
+    Slip::CardBeforeTerm,
+    Slip::RoomBeforeCard,
+];
+
+/// The bits of words from the first to the last, and whether they are those of
+/// a closed term.
+fn bits_of_words(slip: Slip, words: &[u32]) -> (Vec<bool>, bool) {
+    let mut bits = Vec::new();
+    let mut closed = true;
+    // The binders around each term that is still to come.
+    let mut waiting = vec![0];
+    for word in words {
+        let binders = waiting.pop().unwrap_or(0);
+        let (kind, payload) = (word % 8, word / 8);
+        match kind {
+            0 => {
+                let limit = binders + u32::from(slip == Slip::FreeByOneMore);
+                closed &= payload < limit || slip == Slip::FreeNotTested;
+                let mut ones = payload as usize + 1;
+                match slip {
+                    Slip::RunOfIndex => ones -= 1,
+                    Slip::RunUpToAWindow => ones = ones.min(64),
+                    Slip::RunAcrossBytesIsCut if ones > 8 => ones = 8,
+                    _ => {}
+                }
+                bits.extend(vec![true; ones]);
+                if slip != Slip::IndexWithoutItsZero {
+                    bits.push(false);
+                }
+            }
+            1 | 2 => {
+                let is_application = (kind == 2) != (slip == Slip::KindsExchanged);
+                bits.extend([false, is_application]);
+                match kind {
+                    1 => waiting.push(binders + 1),
+                    _ => waiting.extend([binders, binders]),
+                }
+            }
+            3 if slip == Slip::ConstructorLeftOut => {
+                waiting.extend(vec![binders; payload as usize % 16]);
+            }
+            4 if slip == Slip::CaseLeftOut => {
+                waiting.extend(vec![binders; payload as usize % 16 + 1]);
+            }
+            5 if slip == Slip::CaseLeftOut => waiting.push(binders + payload % 16),
+            6 if slip == Slip::NumeralIsItsEntry => {
+                bits.extend([false; 4]);
+                for _ in 0..payload {
+                    bits.extend([false, true, true, true, false]);
+                }
+                bits.extend([true, false]);
+            }
+            _ => closed = false,
+        }
+    }
+    (bits, closed)
+}
+
+/// The answer, with the numbers of refusals, and the bytes after it.
+fn export(slip: Slip, exported: &Exported) -> (Result<u32, u32>, Vec<u8>) {
+    let is = |other| slip == other;
+    let mut bytes = vec![7; exported.bytes];
+    let capacity = exported.workspace.len();
+    let given = match slip {
+        Slip::LengthNotTested => capacity.min(exported.length as usize),
+        _ => exported.length as usize,
+    };
+    let words = exported.workspace.get(..given);
+    let term = words.and_then(read);
+    let tested = match is(Slip::AllWordsTested) {
+        true => &exported.workspace[..],
+        false => words.unwrap_or(&exported.workspace),
+    };
+    let whole = words.filter(|_| term.is_some()).unwrap_or(&[]);
+    let (mut bits, mut closed) = bits_of_words(slip, whole);
+    if is(Slip::AllWordsTested) {
+        closed &= tested.iter().all(|word| word % 8 < 3);
+    }
+    let has_other = tested.iter().any(|word| word % 8 > 2);
+    let needed = match slip {
+        Slip::OneByteMoreNeeded => bits.len() / 8 + 1,
+        Slip::RoundedDown => bits.len() / 8,
+        Slip::RoomByWords => bits.len().div_ceil(8).max(given),
+        Slip::BitsInSixteen => (bits.len() % 65_536).div_ceil(8),
+        _ => bits.len().div_ceil(8),
+    };
+    let few = needed > bytes.len();
+    let mut found = Vec::new();
+    let mut meets = |met: bool, number: u32| {
+        if met {
+            found.push(number);
+        }
+    };
+    meets(is(Slip::TermBeforeWorkspace) && term.is_none(), 10);
+    meets(!(16..=2_048).contains(&capacity), 7);
+    meets(is(Slip::RoomBeforeTerm) && bytes.is_empty(), 8);
+    meets(is(Slip::CardBeforeTerm) && has_other, 13);
+    meets(term.is_none(), 10);
+    meets(is(Slip::RoomBeforeCard) && few, 8);
+    meets(!closed, 13);
+    meets(few, 8);
+    let refused = found.first().copied();
+    let too_few = refused == Some(8) && is(Slip::FilledThoughTooFew);
+    if refused.is_none() || too_few {
+        let last = bytes.len().min(needed);
+        match slip {
+            Slip::RestKept => bytes[..last].fill(0),
+            Slip::RestIsOnes => {
+                bytes.fill(0);
+                let full = bits.len().next_multiple_of(8);
+                bits.resize(full, true);
+            }
+            Slip::RestOfLastByteKept => {
+                bytes.fill(0);
+                if let (true, Some(byte)) = (bits.len() % 8 > 0, bytes.get_mut(bits.len() / 8)) {
+                    *byte = 7 & (255 >> (bits.len() % 8));
+                }
+            }
+            _ => bytes.fill(0),
+        }
+        for (at, _) in bits.iter().enumerate().filter(|(_, bit)| **bit) {
+            if let Some(byte) = bytes.get_mut(at / 8) {
+                *byte |= match is(Slip::LowestBitFirst) {
+                    true => 1 << (at % 8),
+                    false => 128 >> (at % 8),
+                };
+            }
+        }
+    }
+    if refused.is_some() && is(Slip::ClearedWhenRefused) {
+        bytes.fill(0);
+    }
+    let answer = match slip {
+        Slip::AnswersBytes => bits.len().div_ceil(8),
+        Slip::AnswersWords => given,
+        _ => bits.len(),
+    };
+    (refused.map_or(Ok(answer as u32), Err), bytes)
+}
+
+#[test]
+fn scripts_tell_wrong_importers() {
+    let counts = on_large_stack(|| {
+        let mut counts = vec![0; MISTAKES.len()];
+        let look = |imported: &Imported| {
+            let Imported { bytes, count, .. } = imported;
+            let mut workspace = imported.workspace.clone();
+            let answer = card::import(bytes, *count, &mut workspace);
+            let expected = (answer.map_err(|refusal| refusal.number()), workspace);
+            assert_eq!(import(Mistake::Nothing, imported), expected, "{bytes:?}");
+            for (mistake, count) in MISTAKES.iter().zip(&mut counts) {
+                *count += usize::from(import(*mistake, imported) != expected);
+            }
+        };
+        of_scripts(71, 1_200, look, |_| {});
+        counts
+    });
+    for (mistake, count) in MISTAKES.iter().zip(counts) {
+        assert!(count >= 6, "{mistake:?}: {count}");
+    }
+}
+
+#[test]
+fn scripts_tell_wrong_exporters() {
+    let counts = on_large_stack(|| {
+        let mut counts = vec![0; SLIPS.len()];
+        let look = |exported: &Exported| {
+            let Exported {
+                workspace, length, ..
+            } = exported;
+            let mut bytes = vec![7; exported.bytes];
+            let answer = card::export(workspace, *length, &mut bytes);
+            let expected = (answer.map_err(|refusal| refusal.number()), bytes);
+            assert_eq!(export(Slip::Nothing, exported), expected, "{workspace:?}");
+            for (slip, count) in SLIPS.iter().zip(&mut counts) {
+                *count += usize::from(export(*slip, exported) != expected);
+            }
+        };
+        of_scripts(72, 800, |_| {}, look);
+        counts
+    });
+    for (slip, count) in SLIPS.iter().zip(counts) {
+        assert!(count >= 6, "{slip:?}: {count}");
+    }
+}
