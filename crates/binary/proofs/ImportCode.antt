@@ -1,4 +1,4 @@
--- Importing, by what the code finds of a card: its padding, its words, and whether they may stand.
+-- Importing, by what the code finds of an encoding: its padding, its words, and whether they may stand.
 use Prim.Native.Nat.{ℕ, _+_, _*_, _-_, _≤_, _<_}
 use mathlib.Core.Path.{_≡_, sym, ap, _∙_}
 use mathlib.Core.Bool.{Bool, true, false, not, _&&_, false≢true, and-eq-true-iff}
@@ -20,11 +20,11 @@ use Rattle.words.proofs.BringingLaws.{brought}
 use Rattle.encoding.specs.Bits.{bits, Pure, Combinator}
 use Rattle.encoding.specs.Bytes.{byteBits, unpacked}
 use Rattle.encoding.specs.Decoding.{wordsIn, decode}
-use Rattle.encoding.specs.Card.{allZero, cardTerm}
+use Rattle.encoding.specs.Encoded.{allZero, encodedTerm}
 use Rattle.encoding.specs.Import.{import}
-use Rattle.encoding.specs.Theorems.{CardOf}
+use Rattle.encoding.specs.Theorems.{EncodingOf}
 use Rattle.encoding.proofs.DecodeLaws.{words-in-decode, decode-complete}
-use Rattle.encoding.proofs.CardLaws.{card-term, card-right, right-bits, card-is}
+use Rattle.encoding.proofs.EncodedLaws.{encoded-term, encoding-right, right-bits, encoding-is}
 use Rattle.encoding.proofs.ImportLaws.{importing-exact}
 use Rattle.binary.specs.Words.{allStand}
 use Rattle.binary.specs.Scan.{allClipped}
@@ -36,21 +36,21 @@ abbrev pub isPadded : (bytes : List ℕ) (count : ℕ) → Bool
 isPadded bytes count = not (ltb (byteBits * length bytes) count) && allZero (drop count (unpacked bytes))
 
 module _ (bytes : List ℕ) (count : ℕ) (workspace : List ℕ) (w : wrongWorkspace (length workspace) ≡ false) where
-  -- A card is padded.
-  padded-card : (t : Term) → CardOf t bytes count → isPadded bytes count ≡ true
-  padded-card t c =
-      let r = right-bits bytes count (card-right t bytes count c) in
+  -- An encoding is padded.
+  padded-encoding : (t : Term) → EncodingOf t bytes count → isPadded bytes count ≡ true
+  padded-encoding t c =
+      let r = right-bits bytes count (encoding-right t bytes count c) in
       rw (le-ltb (byteBits * length bytes) count (r .0), r .1)
 
   pub import-unpadded : isPadded bytes count ≡ false → refuse workspace WrongBits ≡ import bytes count workspace
-  import-unpadded e = sym (importing-exact bytes count workspace .wrong-bits w (λ t c. false≢true (sym e ∙ padded-card t c)))
+  import-unpadded e = sym (importing-exact bytes count workspace .wrong-bits w (λ t c. false≢true (sym e ∙ padded-encoding t c)))
 
   -- No words are found.
   pub import-none : wordsIn (take count (unpacked bytes)) 0 1 ≡ none → refuse workspace WrongBits ≡ import bytes count workspace
   unfolding decode bind
   import-none e =
       sym (importing-exact bytes count workspace .wrong-bits w
-      (λ t c. Option·none-ne-some t (sym (ap (λ o. bind o anyTerm) e) ∙ card-term t bytes count c)))
+      (λ t c. Option·none-ne-some t (sym (ap (λ o. bind o anyTerm) e) ∙ encoded-term t bytes count c)))
 
   module _ (padded : isPadded bytes count ≡ true) where
     parts : (not (ltb (byteBits * length bytes) count) ≡ true) × (allZero (drop count (unpacked bytes)) ≡ true)
@@ -73,14 +73,14 @@ module _ (bytes : List ℕ) (count : ℕ) (workspace : List ℕ) (w : wrongWorks
       words-are : words term ≡ ws
       words-are = words-in-decode (take count (unpacked bytes)) ws found .3
 
-      card : CardOf term bytes count
-      card = card-is bytes count term count-within (parts .1) (ap decode (sym bits-are) ∙ decode-complete term pure)
+      encodes : EncodingOf term bytes count
+      encodes = encoding-is bytes count term count-within (parts .1) (ap decode (sym bits-are) ∙ decode-complete term pure)
 
       size-is : size term ≡ length ws
       size-is = ap length words-are
 
       pub import-long : length workspace < length ws → refuse workspace TooLong ≡ import bytes count workspace
-      import-long h = sym (importing-exact bytes count workspace .too-long w term card (omega (arith, size-is)))
+      import-long h = sym (importing-exact bytes count workspace .too-long w term encodes (omega (arith, size-is)))
 
       -- There is room for them, in the array where they are put and in the workspace.
       module _ (before after : List ℕ) (n : ℕ) (room : length before ≡ workspaceMost) (n-is : n ≡ length ws) (fits : n ≤ length workspace)
@@ -100,7 +100,7 @@ module _ (bytes : List ℕ) (count : ℕ) (workspace : List ℕ) (w : wrongWorks
 
         pub import-free : allStand (0 ∷ []) (take n after) ≡ false → refuse workspace NoCombinator ≡ import bytes count workspace
         import-free e =
-            sym (importing-exact bytes count workspace .no-combinator w term card (omega (arith, size-is))
+            sym (importing-exact bytes count workspace .no-combinator w term encodes (omega (arith, size-is))
             (λ k. false≢true (sym e ∙ tested ∙ stands-complete 0 term k)))
 
         pub import-leaves : allStand (0 ∷ []) (take n after) ≡ true → (placed last : List ℕ) (end : ℕ) → Placed workspace 0 (slice 0 n after) placed end
@@ -110,4 +110,4 @@ module _ (bytes : List ℕ) (count : ℕ) (workspace : List ℕ) (w : wrongWorks
             let k : Combinator term = stands-sound 0 term (sym tested ∙ e) in
             let are : slice 0 n after ≡ words term = held ∙ ap allClipped (sym words-are) ∙ combinator-unclipped term 0 k (omega (arith, size-is)) in
             brought term workspace (omega (arith, size-is)) placed last end (rw are at p) q
-            ∙ sym (importing-exact bytes count workspace .leaves w term card (omega (arith, size-is)) k .1)
+            ∙ sym (importing-exact bytes count workspace .leaves w term encodes (omega (arith, size-is)) k .1)

@@ -13,7 +13,7 @@ use mir.Val.{Fits}
 use borrow.Author.Tests.{eqb-true, eqb-false, ne-eqb}
 use Rattle.calculus.specs.Words.{variableKind, abstractionKind, workspaceMost, kindOf, payloadOf}
 use Rattle.encoding.specs.Bytes.{byteBits, unpacked, packed}
-use Rattle.encoding.specs.Card.{allZero}
+use Rattle.encoding.specs.Encoded.{allZero}
 use Rattle.encoding.proofs.BytesLaws.{length-packed, length-unpacked, packed-padded}
 use Rattle.bits.specs.Runs.{positionBound}
 use Rattle.bits.proofs.WindowLaws.{AllBytes}

@@ -1,4 +1,4 @@
--- A scan of the bits of a card.
+-- A scan of the bits of an encoding.
 use Prim.Native.Nat.{ℕ, zero, suc, _+_, _*_, _-_, _≤_, _<_}
 use mathlib.Core.Path.{_≡_, refl, sym, ap, _∙_}
 use mathlib.Core.Bool.{Bool, true, false, cond}
@@ -81,13 +81,13 @@ sets-more ws i v (u ∷ vs) =
     let e : suc i + length vs ≡ i + suc (length vs) = omega arith in
     sets-more (set ws i u) (suc i) v vs ∙ ap (λ k. set (sets (set ws i u) (suc i) vs) k v) e
 
--- The scan stands at a bit: the words before it are put, so many terms are still to come, and the bits from there on tell what the whole card tells.
-pub record Scanning (card : List Bool) (bits : ℕ) (words₀ words : List ℕ) (at terms count : ℕ) : Type 0 where
-  pub card-length : length card ≡ bits
+-- The scan stands at a bit: the words before it are put, so many terms are still to come, and the bits from there on tell what the whole encoding tells.
+pub record Scanning (code : List Bool) (bits : ℕ) (words₀ words : List ℕ) (at terms count : ℕ) : Type 0 where
+  pub code-length : length code ≡ bits
   pub done : List ℕ
   pub length-is : length done ≡ count
   pub put : words ≡ sets words₀ 0 (allClipped done)
-  pub tells : wordsIn card 0 1 ≡ Option·map (λ ws. done ++ ws) (wordsIn (drop at card) 0 terms)
+  pub tells : wordsIn code 0 1 ≡ Option·map (λ ws. done ++ ws) (wordsIn (drop at code) 0 terms)
   pub inside : at ≤ bits
   pub counted : 2 * count ≤ at
   pub few : terms ≤ count + 1
@@ -95,7 +95,7 @@ pub record Scanning (card : List Bool) (bits : ℕ) (words₀ words : List ℕ) 
 pub scanning-start : (bytes : List ℕ) (bits : ℕ) (words : List ℕ) → bits ≤ byteBits * length bytes → Scanning (take bits (unpacked bytes)) bits words words 0 1 0
 scanning-start bytes bits words h =
     record {
-      card-length = length-take-le bits (unpacked bytes) (omega (arith, length-unpacked bytes));
+      code-length = length-take-le bits (unpacked bytes) (omega (arith, length-unpacked bytes));
       done = [];
       length-is = refl;
       put = refl;
@@ -109,17 +109,17 @@ scanning-start bytes bits words h =
     start none = refl
     start (some ws) = refl
 
-module _ {card : List Bool} {bits : ℕ} {words₀ words : List ℕ} {at terms count : ℕ} (v : Scanning card bits words₀ words at terms count) where
+module _ {code : List Bool} {bits : ℕ} {words₀ words : List ℕ} {at terms count : ℕ} (v : Scanning code bits words₀ words at terms count) where
   pub scanning-length : length words ≡ length words₀
   scanning-length = ap length (v .put) ∙ length-sets words₀ 0 (allClipped (v .done))
 
   -- One more word.
-  next : (w terms′ step : ℕ) → wordsIn (drop at card) 0 terms ≡ Option·map (_∷_ w) (wordsIn (drop step (drop at card)) 0 terms′)
-      → 2 ≤ step → step ≤ length (drop at card) → terms′ ≤ terms + 1 → (after : List ℕ) → after ≡ set words count (clipped w)
-      → Scanning card bits words₀ after (at + step) terms′ (count + 1)
+  next : (w terms′ step : ℕ) → wordsIn (drop at code) 0 terms ≡ Option·map (_∷_ w) (wordsIn (drop step (drop at code)) 0 terms′)
+      → 2 ≤ step → step ≤ length (drop at code) → terms′ ≤ terms + 1 → (after : List ℕ) → after ≡ set words count (clipped w)
+      → Scanning code bits words₀ after (at + step) terms′ (count + 1)
   next w terms′ step e two room t after s =
       record {
-        card-length = v .card-length;
+        code-length = v .code-length;
         done = v .done ++ (w ∷ []);
         length-is = length-append (v .done) (w ∷ []) ∙ omega (arith, v .length-is);
         put =
@@ -131,9 +131,9 @@ module _ {card : List Bool} {bits : ℕ} {words₀ words : List ℕ} {at terms c
         tells =
             v .tells
             ∙ ap (Option·map (λ ws. v .done ++ ws)) e
-            ∙ onto (wordsIn (drop step (drop at card)) 0 terms′)
-            ∙ ap (λ bs. Option·map (λ ws. (v .done ++ (w ∷ [])) ++ ws) (wordsIn bs 0 terms′)) (drop-drop step at card);
-        inside = omega (arith, length-drop at card, v .card-length, v .inside);
+            ∙ onto (wordsIn (drop step (drop at code)) 0 terms′)
+            ∙ ap (λ bs. Option·map (λ ws. (v .done ++ (w ∷ [])) ++ ws) (wordsIn bs 0 terms′)) (drop-drop step at code);
+        inside = omega (arith, length-drop at code, v .code-length, v .inside);
         counted = omega (arith, v .counted);
         few = omega (arith, v .few);
       }
@@ -146,21 +146,21 @@ module _ {card : List Bool} {bits : ℕ} {words₀ words : List ℕ} {at terms c
       onto (some ws) = ap some (sym (append-assoc (v .done) (w ∷ []) ws))
 
   -- No bits are left, or none are wanted.
-  rest-none : bits ≤ at → drop at card ≡ []
-  rest-none h = drop-of-length-le card {i = at} (omega (arith, v .card-length))
+  rest-none : bits ≤ at → drop at code ≡ []
+  rest-none h = drop-of-length-le code {i = at} (omega (arith, v .code-length))
 
-  all-told : {o : Option (List ℕ)} → wordsIn (drop at card) 0 terms ≡ o → wordsIn card 0 1 ≡ Option·map (λ ws. v .done ++ ws) o
+  all-told : {o : Option (List ℕ)} → wordsIn (drop at code) 0 terms ≡ o → wordsIn code 0 1 ≡ Option·map (λ ws. v .done ++ ws) o
   all-told e = v .tells ∙ ap (Option·map (λ ws. v .done ++ ws)) e
 
-  pub left-over : terms ≡ 0 → at < bits → wordsIn card 0 1 ≡ none
+  pub left-over : terms ≡ 0 → at < bits → wordsIn code 0 1 ≡ none
   unfolding wordsIn
-  left-over z h = all-told (go (drop at card) (omega (arith, length-drop at card, v .card-length)))
+  left-over z h = all-told (go (drop at code) (omega (arith, length-drop at code, v .code-length)))
     where
       go : (bs : List Bool) → 0 < length bs → wordsIn bs 0 terms ≡ none
       go [] l = absurd (omega arith)
       go (b ∷ bs) l = rw z
 
-  pub ended-early : (terms ≡ 0 → ⊥) → bits ≤ at → wordsIn card 0 1 ≡ none
+  pub ended-early : (terms ≡ 0 → ⊥) → bits ≤ at → wordsIn code 0 1 ≡ none
   unfolding wordsIn
   ended-early n h = all-told {o = none} (rw (rest-none h) (go terms n))
     where
@@ -168,35 +168,35 @@ module _ {card : List Bool} {bits : ℕ} {words₀ words : List ℕ} {at terms c
       go zero m = absurd (m refl)
       go (suc k) m = refl
 
-  pub whole : terms ≡ 0 → bits ≤ at → wordsIn card 0 1 ≡ some (v .done)
+  pub whole : terms ≡ 0 → bits ≤ at → wordsIn code 0 1 ≡ some (v .done)
   unfolding wordsIn
   whole z h = all-told {o = some []} (rw (rest-none h, z)) ∙ ap some (append-nil (v .done))
 
   -- What the next token says.
   module _ (some-left : terms ≡ 0 → ⊥) where
-    said : (t : Token) → t ≡ token (drop at card) → Says t (drop at card) (terms - 1)
-    said t e = rw e (says (drop at card) (terms - 1))
+    said : (t : Token) → t ≡ token (drop at code) → Says t (drop at code) (terms - 1)
+    said t e = rw e (says (drop at code) (terms - 1))
 
     again : suc (terms - 1) ≡ terms
     again = omega (arith, some-left)
 
-    pub said-early : early ≡ token (drop at card) → wordsIn card 0 1 ≡ none
+    pub said-early : early ≡ token (drop at code) → wordsIn code 0 1 ≡ none
     said-early e = all-told (rw again at (said early e))
 
-    pub said-abstraction : abstraction ≡ token (drop at card) → (after : List ℕ) → after ≡ set words count 1 → Scanning card bits words₀ after (at + 2) terms (count + 1)
+    pub said-abstraction : abstraction ≡ token (drop at code) → (after : List ℕ) → after ≡ set words count 1 → Scanning code bits words₀ after (at + 2) terms (count + 1)
     said-abstraction e after s =
         let t = said abstraction e in
         next (word abstractionKind 0) terms 2 (rw again at (t .1)) (omega arith) (t .0) (omega arith) after (s ∙ ap (set words count) (clipped-plain 1 (omega arith)))
 
-    pub said-application : application ≡ token (drop at card) → (after : List ℕ) → after ≡ set words count 2
-        → Scanning card bits words₀ after (at + 2) (terms + 1) (count + 1)
+    pub said-application : application ≡ token (drop at code) → (after : List ℕ) → after ≡ set words count 2
+        → Scanning code bits words₀ after (at + 2) (terms + 1) (count + 1)
     said-application e after s =
         let t = said application e in
         let more : suc (suc (terms - 1)) ≡ terms + 1 = omega (arith, some-left) in
         next (word applicationKind 0) (terms + 1) 2 (rw (more, again) at (t .1)) (omega arith) (t .0) (omega arith) after (s ∙ ap (set words count) (clipped-plain 2 (omega arith)))
 
-    pub said-variable : (i : ℕ) → variable i ≡ token (drop at card) → (after : List ℕ) → after ≡ set words count (clipped (word variableKind i))
-        → Scanning card bits words₀ after (at + (i + 2)) (terms - 1) (count + 1)
+    pub said-variable : (i : ℕ) → variable i ≡ token (drop at code) → (after : List ℕ) → after ≡ set words count (clipped (word variableKind i))
+        → Scanning code bits words₀ after (at + (i + 2)) (terms - 1) (count + 1)
     said-variable i e after s =
         let t = said (variable i) e in
         next (word variableKind i) (terms - 1) (i + 2) (rw again at (t .1)) (omega arith) (t .0) (omega arith) after s

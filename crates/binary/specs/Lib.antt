@@ -1,4 +1,4 @@
--- What the contracts of importing and exporting cards cite beside the cards themselves.
+-- What the contracts of importing and exporting cite beside the encodings themselves.
 pub mod Types
 pub mod Words
 pub mod Scan

@@ -1,4 +1,4 @@
--- What a scan of a card's bits leaves.
+-- What a scan of an encoding's bits leaves.
 use Prim.Native.Nat.{ℕ}
 use mathlib.Core.Path.{_≡_}
 use mathlib.Core.Bool.{cond}

@@ -1,4 +1,4 @@
-// Cards of the binary lambda calculus: imported into a workspace, and exported from one.
+// Terms encoded in the binary lambda calculus: imported into a workspace, and exported from one.
 mod combinator;
 mod putting;
 mod scan;
@@ -24,8 +24,8 @@ ghost use Rattle.encoding.specs.Import.{import};
 ghost use Rattle.encoding.specs.Export.{export};
 ghost use Rattle.binary.specs.Types.{exportedOf};
 
-// Puts the term of a card, its bytes and how many of their bits are meant, into a workspace, with zeros after it, and returns its length. A refusal changes
-// nothing: the words stand in an array of their own until every check has passed.
+// Puts the term of an encoding, its bytes and how many of their bits are meant, into a workspace, with zeros after it, and returns its length. A refusal
+// changes nothing: the words stand in an array of their own until every check has passed.
 pub fn import(bytes: &[u8], bits: usize, workspace: &mut [u32]) -> Answer
     ensures { λ r. ⌜ broughtOf r (now (workspace .exit)) ≡ import (now (bytes .entry)) bits (now (workspace .entry)) ⌝ }
 {

@@ -8,7 +8,7 @@ ghost use Prim.Native.Nat.{_+_, _*_, _≤_, _<_};
 ghost use lib.ListN.{length, take, drop, replicate};
 ghost use Rattle.calculus.specs.Words.{kindOf, payloadOf, workspaceMost};
 ghost use Rattle.encoding.specs.Bytes.{byteBits, unpacked, packed};
-ghost use Rattle.encoding.specs.Card.{allZero};
+ghost use Rattle.encoding.specs.Encoded.{allZero};
 ghost use Rattle.bits.specs.Runs.{positionBound};
 ghost use Rattle.binary.specs.Words.{wordBits, wordsBits};
 

@@ -1,4 +1,4 @@
-// The words that the bits of a card stand for.
+// The words that the bits of an encoding stand for.
 use bits::reading::Token;
 use bits::reading::first_token;
 use words::Word;

@@ -12,9 +12,9 @@ use lib.Seq.{drop-append-le, take-append-le, take-length, drop-append-seam, leng
 use mir.Syntax.{w8}
 use mir.Val.{Fits}
 use Rattle.encoding.specs.Bytes.{byteBits, unpacked, digit, number, packed, Bytes}
-use Rattle.encoding.specs.Card.{allZero}
+use Rattle.encoding.specs.Encoded.{allZero}
 use Rattle.encoding.proofs.BytesLaws.{number-nil, number-below, length-packed, length-unpacked, packed-unpacked, unpacked-packed, packed-padded}
-use Rattle.encoding.proofs.CardLaws.{zeros, all-zeros}
+use Rattle.encoding.proofs.EncodedLaws.{zeros, all-zeros}
 use Rattle.bits.proofs.WindowLaws.{AllBytes}
 use Rattle.bits.proofs.ZeroLaws.{power-shifted}
 

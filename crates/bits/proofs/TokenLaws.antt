@@ -1,4 +1,4 @@
--- What the bits of a card start with, by the first of them and the run.
+-- What the bits of an encoding start with, by the first of them and the run.
 use Prim.Native.Nat.{ℕ, suc, _+_, _-_, _≤_, _<_}
 use mathlib.Core.Path.{_≡_, refl, sym, ap, _∙_}
 use mathlib.Core.Bool.{Bool, true, false}

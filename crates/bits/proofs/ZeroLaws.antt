@@ -14,7 +14,7 @@ use lib.Seq.{drop-cons, drop-drop, drop-append-le}
 use mir.Syntax.{w8}
 use mir.Val.{Fits}
 use Rattle.encoding.specs.Bytes.{byteBits, digits, unpacked, number}
-use Rattle.encoding.specs.Card.{allZero}
+use Rattle.encoding.specs.Encoded.{allZero}
 use Rattle.encoding.proofs.BytesLaws.{length-digits, number-digits, drop-unpacked}
 
 all-zero-append : (xs ys : List Bool) → allZero (xs ++ ys) ≡ (allZero xs && allZero ys)

@@ -1,3 +1,3 @@
--- What the contracts of reading and putting bits cite beside the cards.
+-- What the contracts of reading and putting bits cite beside the encodings.
 pub mod Runs
 pub mod Tokens

@@ -1,4 +1,4 @@
-// Bits in lent bytes, highest first in each byte: read for the words of a card, and put.
+// Bits in lent bytes, highest first in each byte: read for the words of an encoding, and put.
 pub mod reading;
 pub mod writing;
 pub mod zeros;

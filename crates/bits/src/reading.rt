@@ -1,4 +1,4 @@
-// The bits of a card, read as the words that they stand for.
+// The bits of an encoding, read as the words that they stand for.
 use crate::BYTE_BITS;
 use crate::WINDOW_BITS;
 ghost use mathlib.Core.Path.{_≡_};

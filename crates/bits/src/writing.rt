@@ -6,7 +6,7 @@ ghost use mathlib.Core.List.{_++_};
 ghost use Prim.Native.Nat.{_+_, _*_, _%_, _≤_, _<_};
 ghost use lib.ListN.{length, take, drop, replicate};
 ghost use Rattle.encoding.specs.Bytes.{byteBits, unpacked, packed};
-ghost use Rattle.encoding.specs.Card.{allZero};
+ghost use Rattle.encoding.specs.Encoded.{allZero};
 ghost use Rattle.bits.specs.Runs.{positionBound};
 
 // Puts so many ones from a position on, as far as its byte goes.

@@ -6,7 +6,7 @@ ghost use Prim.Native.Nat.{_*_};
 ghost use lib.Dec.{ltb};
 ghost use lib.ListN.{length, drop, replicate};
 ghost use Rattle.encoding.specs.Bytes.{byteBits, unpacked};
-ghost use Rattle.encoding.specs.Card.{allZero};
+ghost use Rattle.encoding.specs.Encoded.{allZero};
 
 // Whether every byte from a position on is 0.
 fn zero_from(bytes: &[u8], from: usize) -> bool

@@ -37,7 +37,7 @@ pub record State : Type 0 where
   pub memory : Memory
   pub scratch : List ℕ
 
--- What an operation tells: what a call answers, the part that is shown, a table that was written, a card that was exported.
+-- What an operation tells: what a call answers, the part that is shown, a table that was written, an encoding that was exported.
 pub data Told : Type 0 where
   ofLoad : bring.Answer → Told
   ofPress : press.Answer → Told
@@ -47,7 +47,7 @@ pub data Told : Type 0 where
   ofLine ofImport : bring.Answer → Told
   ofExport : bring.Answer → (bytes : List ℕ) → Told
 
--- The state that an operation leaves, what it tells, and the words that it leaves at the start of the room for tables; those of a card are its bytes.
+-- The state that an operation leaves, what it tells, and the words that it leaves at the start of the room for tables; those of an encoding are its bytes.
 pub record Performed : Type 0 where
   pub state : State
   pub told : Told
@@ -65,7 +65,7 @@ changed side.Right l r new = (l, new)
 abbrev pub replaced : Memory → List ℕ × List ℕ → Memory
 replaced m ws = record { left = ws .0; right = ws .1; session = m .session }
 
--- A scratch, a table and a card are first filled with this number.
+-- A scratch, a table and an encoding are first filled with this number.
 abbrev pub filler : ℕ
 filler = 7
 
@@ -142,15 +142,15 @@ performed words (operation.Set session) s =
 performed words (operation.Store side at word) s = performStore s side at word
 performed words operation.Print s = record { state = s; told = ofPrint; front = [] }
 performed words (operation.Line side at n) s = performBringing s side (readLine (take n (drop at words))) ofLine
-performed words (operation.Import card) s =
-    performBringing s (card .side) (import (take (card .bytes) (drop (card .at) words)) (card .bits)) ofImport
+performed words (operation.Import encoded) s =
+    performBringing s (encoded .side) (import (take (encoded .bytes) (drop (encoded .at) words)) (encoded .bits)) ofImport
 performed words (operation.Export side len n) s = performExport s side len n
 
 -- The state in lent slices: the scratch is the first words of a longer slice.
 abbrev pub stateOf : (left right scratch : List ℕ) → Kept → State
 stateOf l r s k = record { memory = memoryOf l r (k .session); scratch = take (k .scratch) s }
 
--- What a report stands for. A table that was written is the first words of the room, and so are a card's bytes.
+-- What a report stands for. A table that was written is the first words of the room, and so are an encoding's bytes.
 abbrev pub sideOf : Side → shown.Side
 sideOf side.Left = shown.left
 sideOf side.Right = shown.right

@@ -5,7 +5,7 @@ use press::answer::Pressed;
 use press::shows_right;
 use press::state::Session;
 use script::Call;
-use script::Card;
+use script::Encoded;
 use script::Operation;
 use script::Side;
 use script::TABLE_MOST;
@@ -31,7 +31,7 @@ ghost use Rattle.script.specs.Script.{tableLimit, Bytes, Fits};
 ghost use Rattle.calls.specs.Calls.{filler, chosen, changed, sideShown, partOf};
 ghost use Rattle.calls.specs.Calls.{performPress, performed, stateOf, Does, Brings, Lent};
 
-// A scratch, a table and a card are first filled with this number.
+// A scratch, a table and an encoding are first filled with this number.
 const FILLER: u32 = 7;
 
 const FILLER_BYTE: u8 = FILLER as u8;
@@ -48,7 +48,7 @@ pub struct Part {
     pub words: usize,
 }
 
-// What an operation tells. A table that was written is the first words of the room, and so are the bytes of a card that was exported.
+// What an operation tells. A table that was written is the first words of the room, and so are the bytes of an encoding that was exported.
 pub enum Report {
     Loaded(words::answer::Answer),
     Pressed(Answer),
@@ -208,7 +208,7 @@ fn line(
     read_into(side, left, right, &read[..count])
 }
 
-// Imports a card into the workspace of a side.
+// Imports an encoding into the workspace of a side.
 fn import_into(
     side: Side,
     left: &mut [u32],
@@ -224,17 +224,22 @@ fn import_into(
     }
 }
 
-// The same with a card whose bytes stand in the room.
-fn import(card: Card, left: &mut [u32], right: &mut [u32], room: &[u32]) -> words::answer::Answer
-    requires { ⌜ Bytes (now room) (card .at) (card .bytes) ⌝ }
-    ensures { λ r. ⌜ Brings (card .side) (import (take (card .bytes) (drop (card .at) (now (room .entry)))) (card .bits)) (now (left .entry)) (now (right .entry)) (now (left .exit)) (now (right .exit)) r ⌝ }
+// The same with an encoding whose bytes stand in the room.
+fn import(
+    encoded: Encoded,
+    left: &mut [u32],
+    right: &mut [u32],
+    room: &[u32],
+) -> words::answer::Answer
+    requires { ⌜ Bytes (now room) (encoded .at) (encoded .bytes) ⌝ }
+    ensures { λ r. ⌜ Brings (encoded .side) (import (take (encoded .bytes) (drop (encoded .at) (now (room .entry)))) (encoded .bits)) (now (left .entry)) (now (right .entry)) (now (left .exit)) (now (right .exit)) r ⌝ }
 {
-    let side = card.side;
-    let at = card.at;
-    let end = at + card.bytes;
+    let side = encoded.side;
+    let at = encoded.at;
+    let end = at + encoded.bytes;
     let mut bytes = [0u8; TABLE_MOST];
     let count = narrow(&room[at..end], &mut bytes);
-    import_into(side, left, right, &bytes[..count], card.bits)
+    import_into(side, left, right, &bytes[..count], encoded.bits)
 }
 
 // The workspace of a side.
@@ -331,7 +336,12 @@ pub fn perform(
         Operation::Line { side, at, bytes } => {
             kept.tell(Report::LineRead(line(side, left, right, room, at, bytes)))
         }
-        Operation::Import(card) => kept.tell(Report::Imported(import(card, left, right, room))),
+        Operation::Import(encoded) => kept.tell(Report::Imported(import(
+            encoded,
+            left,
+            right,
+            room,
+        ))),
         Operation::Export { side, len, bytes } => {
             let answer = export(side, len, left, right, &mut room[..bytes]);
             kept.tell(Report::Exported { answer, bytes })

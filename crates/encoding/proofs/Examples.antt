@@ -7,7 +7,7 @@ use Rattle.calculus.specs.Decide.{both₃, isTag?, startsAbove?, rising?, every
 use Rattle.calculus.specs.Read.{takeTerm, takeTerms, takeBranches, readLam, readApp, readCon, readCase, readBranch, item, items, oneTerm, read, onlyTerm, anyTerm}
 use Rattle.calculus.specs.Workspace.{termAt}
 use Rattle.encoding.specs.Decoding.{wordsIn, decode}
-use Rattle.encoding.specs.Card.{combinator?}
+use Rattle.encoding.specs.Encoded.{combinator?}
 use Rattle.encoding.specs.Import.{import}
 use Rattle.encoding.specs.Export.{export}
 use Rattle.encoding.specs.Examples.{Bits-examples, Bytes-examples, Decoding-examples, Import-examples, Export-examples}

@@ -15,14 +15,14 @@ use Rattle.calculus.specs.Bringing.{refused, returned}
 use Rattle.encoding.specs.Bits.{bits, Pure, Combinator}
 use Rattle.encoding.specs.Bytes.{byteBits, packed}
 use Rattle.encoding.specs.Export.{export}
-use Rattle.encoding.specs.Theorems.{CardOf, bytesKept, Exporting-exact}
+use Rattle.encoding.specs.Theorems.{EncodingOf, bytesKept, Exporting-exact}
 use Rattle.encoding.proofs.PureLaws.{combinator-pure}
 use Rattle.encoding.proofs.BytesLaws.{length-packed, bytes-packed, unpacked-packed}
-use Rattle.encoding.proofs.CardLaws.{is-combinator, is-no-combinator}
+use Rattle.encoding.proofs.EncodedLaws.{is-combinator, is-no-combinator}
 
--- Bytes with the bits of a term, and 0 after them, are its card.
-pub packed-card : (t : Term) (n : ℕ) → Pure t → length (bits t) ≤ byteBits * n → CardOf t (packed n (bits t)) (length (bits t))
-packed-card t n h g =
+-- Bytes with the bits of a term, and 0 after them, are its encoding.
+pub packed-encodes : (t : Term) (n : ℕ) → Pure t → length (bits t) ≤ byteBits * n → EncodingOf t (packed n (bits t)) (length (bits t))
+packed-encodes t n h g =
     record { pure = h; counted = refl; bits-are = rw (length-packed n (bits t)) (unpacked-packed n (bits t) g) }
 
 module _ (workspace : List ℕ) (len : ℕ) (bytes : List ℕ) (w : wrongWorkspace (length workspace) ≡ false) where
@@ -63,7 +63,7 @@ exporting-exact workspace len bytes =
       too-few-only = too-short workspace len bytes;
       leaves = λ w t given k h. rw (export-leaves workspace len bytes w t given k h) (
         refl,
-        packed-card t (length bytes) (combinator-pure t k) h,
+        packed-encodes t (length bytes) (combinator-pure t k) h,
         length-packed (length bytes) (bits t),
         bytes-packed (length bytes) (bits t),
       );

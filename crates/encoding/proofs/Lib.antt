@@ -1,7 +1,7 @@
 pub mod PureLaws
 pub mod DecodeLaws
 pub mod BytesLaws
-pub mod CardLaws
+pub mod EncodedLaws
 pub mod ImportLaws
 pub mod ExportLaws
 pub mod RoundTrips

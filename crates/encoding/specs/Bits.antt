@@ -1,5 +1,5 @@
--- The bits of a term ("Cards"): "00 then the body for an abstraction, 01 then function and argument for an application, and for index i a run of i + 1 ones
--- and a zero". The bit 1 is `true`, the bit 0 is `false`.
+-- The bits of a term ("Binary encodings"): "00 then the body for an abstraction, 01 then function and argument for an application, and for index i a run of
+-- i + 1 ones and a zero". The bit 1 is `true`, the bit 0 is `false`.
 use Prim.Native.Nat.{ℕ, suc, _<_}
 use mathlib.Core.Bool.{Bool, true, false}
 use mathlib.Core.List.{List, [], _∷_, _++_}

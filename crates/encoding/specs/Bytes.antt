@@ -1,4 +1,4 @@
--- Bits in bytes ("Cards"): "Bits come highest first in each byte".
+-- Bits in bytes ("Binary encodings"): "Bits come highest first in each byte ..".
 use Prim.Native.Nat.{ℕ, zero, suc, _+_, _*_, _/_, _%_, _^_, _<_}
 use mathlib.Core.Bool.{Bool, true, false}
 use mathlib.Core.List.{List, [], _∷_, _++_}

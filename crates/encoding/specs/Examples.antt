@@ -1,4 +1,4 @@
--- Bits of terms, bits in bytes, and what importing and exporting do with cards, worked out from the rules. Each refusal is met with everything else
+-- Bits of terms, bits in bytes, and what importing and exporting do with encodings, worked out from the rules. Each refusal is met with everything else
 -- right, and any two refusals of a call are met together.
 use Prim.Native.Nat.{ℕ}
 use mathlib.Core.Path.{_≡_}
@@ -82,7 +82,7 @@ pub record Decoding-examples : Type 0 where
 abbrev pub junk : (count : ℕ) → List ℕ
 junk n = replicate n 7
 
--- What an accepted card leaves: the length of the term, and the workspace.
+-- What an accepted encoding leaves: the length of the term, and the workspace.
 abbrev pub holding : (len : ℕ) (workspace : List ℕ) → Brought
 holding len workspace = record { answer = returned len; workspace = workspace }
 
@@ -148,37 +148,37 @@ pub record Import-examples : Type 0 where
   pub too-long-open : import (0 ∷ 0 ∷ 0 ∷ 0 ∷ 255 ∷ 255 ∷ 128 ∷ []) 50 (junk 16) ≡ unchanged (junk 16) TooLong
 
 -- What an export that is not refused leaves: the bit count, and the bytes.
-abbrev pub card : (count : ℕ) (bytes : List ℕ) → Exported
-card count bytes = record { answer = returned count; bytes = bytes }
+abbrev pub encoded : (count : ℕ) (bytes : List ℕ) → Exported
+encoded count bytes = record { answer = returned count; bytes = bytes }
 
 pub record Export-examples : Type 0 where
   -- the identity; with bytes and words after it
-  pub identity : export (1 ∷ 0 ∷ replicate 14 0) 2 (junk 1) ≡ card 4 (32 ∷ [])
-  pub zero-bytes-after : export (1 ∷ 0 ∷ replicate 14 0) 2 (junk 3) ≡ card 4 (32 ∷ 0 ∷ 0 ∷ [])
-  pub words-after : export (1 ∷ 0 ∷ junk 14) 2 (junk 1) ≡ card 4 (32 ∷ [])
+  pub identity : export (1 ∷ 0 ∷ replicate 14 0) 2 (junk 1) ≡ encoded 4 (32 ∷ [])
+  pub zero-bytes-after : export (1 ∷ 0 ∷ replicate 14 0) 2 (junk 3) ≡ encoded 4 (32 ∷ 0 ∷ 0 ∷ [])
+  pub words-after : export (1 ∷ 0 ∷ junk 14) 2 (junk 1) ≡ encoded 4 (32 ∷ [])
   -- K, S, the identity applied to K
-  pub k : export (1 ∷ 1 ∷ 8 ∷ junk 13) 3 (junk 1) ≡ card 7 (12 ∷ [])
-  pub s : export (1 ∷ 1 ∷ 1 ∷ 2 ∷ 2 ∷ 16 ∷ 0 ∷ 2 ∷ 8 ∷ 0 ∷ junk 6) 10 (junk 3) ≡ card 23 (1 ∷ 122 ∷ 116 ∷ [])
-  pub identity-of-k : export (2 ∷ 1 ∷ 0 ∷ 1 ∷ 1 ∷ 8 ∷ junk 10) 6 (junk 2) ≡ card 13 (72 ∷ 48 ∷ [])
+  pub k : export (1 ∷ 1 ∷ 8 ∷ junk 13) 3 (junk 1) ≡ encoded 7 (12 ∷ [])
+  pub s : export (1 ∷ 1 ∷ 1 ∷ 2 ∷ 2 ∷ 16 ∷ 0 ∷ 2 ∷ 8 ∷ 0 ∷ junk 6) 10 (junk 3) ≡ encoded 23 (1 ∷ 122 ∷ 116 ∷ [])
+  pub identity-of-k : export (2 ∷ 1 ∷ 0 ∷ 1 ∷ 1 ∷ 8 ∷ junk 10) 6 (junk 2) ≡ encoded 13 (72 ∷ 48 ∷ [])
   -- \\\0 is 8 bits, \\\1 is 9
-  pub bits-8 : export (1 ∷ 1 ∷ 1 ∷ 0 ∷ junk 12) 4 (junk 1) ≡ card 8 (2 ∷ [])
+  pub bits-8 : export (1 ∷ 1 ∷ 1 ∷ 0 ∷ junk 12) 4 (junk 1) ≡ encoded 8 (2 ∷ [])
   pub bits-8-no-bytes : export (1 ∷ 1 ∷ 1 ∷ 0 ∷ junk 12) 4 [] ≡ bytesKept [] TooLong
-  pub bits-8-two-bytes : export (1 ∷ 1 ∷ 1 ∷ 0 ∷ junk 12) 4 (junk 2) ≡ card 8 (2 ∷ 0 ∷ [])
-  pub bits-9 : export (1 ∷ 1 ∷ 1 ∷ 8 ∷ junk 12) 4 (junk 2) ≡ card 9 (3 ∷ 0 ∷ [])
+  pub bits-8-two-bytes : export (1 ∷ 1 ∷ 1 ∷ 0 ∷ junk 12) 4 (junk 2) ≡ encoded 8 (2 ∷ 0 ∷ [])
+  pub bits-9 : export (1 ∷ 1 ∷ 1 ∷ 8 ∷ junk 12) 4 (junk 2) ≡ encoded 9 (3 ∷ 0 ∷ [])
   pub bits-9-one-byte : export (1 ∷ 1 ∷ 1 ∷ 8 ∷ junk 12) 4 (junk 1) ≡ record { answer = refused TooLong; bytes = junk 1 }
   pub no-bytes : export (1 ∷ 0 ∷ junk 14) 2 [] ≡ bytesKept [] TooLong
   -- runs of 64 and 65 ones
-  pub ones-64 : export (replicate 64 1 ++ 504 ∷ []) 65 (junk 25) ≡ card 193 (replicate 16 0 ++ replicate 8 255 ++ 0 ∷ [])
-  pub ones-65 : export (replicate 65 1 ++ 512 ∷ []) 66 (junk 25) ≡ card 196 (replicate 16 0 ++ 63 ∷ replicate 7 255 ++ 224 ∷ [])
+  pub ones-64 : export (replicate 64 1 ++ 504 ∷ []) 65 (junk 25) ≡ encoded 193 (replicate 16 0 ++ replicate 8 255 ++ 0 ∷ [])
+  pub ones-65 : export (replicate 65 1 ++ 512 ∷ []) 66 (junk 25) ≡ encoded 196 (replicate 16 0 ++ 63 ∷ replicate 7 255 ++ 224 ∷ [])
   -- the lengths of a workspace
   pub words-15 : export (1 ∷ 0 ∷ junk 13) 2 (junk 1) ≡ bytesKept (junk 1) WrongWorkspace
-  pub words-2048 : export (1 ∷ 0 ∷ junk 2046) 2 (junk 1) ≡ card 4 (32 ∷ [])
+  pub words-2048 : export (1 ∷ 0 ∷ junk 2046) 2 (junk 1) ≡ encoded 4 (32 ∷ [])
   pub words-2049 : export (1 ∷ 0 ∷ junk 2047) 2 (junk 1) ≡ bytesKept (junk 1) WrongWorkspace
   -- lengths of the identity, and of 15 abstractions around 0, that fill the workspace
   pub length-0 : export (1 ∷ 0 ∷ junk 14) 0 (junk 1) ≡ bytesKept (junk 1) NoTerm
   pub length-one-less : export (1 ∷ 0 ∷ junk 14) 1 (junk 1) ≡ bytesKept (junk 1) NoTerm
   pub length-one-more : export (1 ∷ 0 ∷ replicate 14 0) 3 (junk 1) ≡ bytesKept (junk 1) NoTerm
-  pub length-C : export (replicate 15 1 ++ 0 ∷ []) 16 (junk 4) ≡ card 32 (0 ∷ 0 ∷ 0 ∷ 2 ∷ [])
+  pub length-C : export (replicate 15 1 ++ 0 ∷ []) 16 (junk 4) ≡ encoded 32 (0 ∷ 0 ∷ 0 ∷ 2 ∷ [])
   pub length-past-C : export (replicate 15 1 ++ 0 ∷ []) 17 (junk 4) ≡ bytesKept (junk 4) NoTerm
   -- a constructor, a case and a numeral; each under an abstraction, as a function and as an argument
   pub constructor-alone : export (131 ∷ junk 15) 1 (junk 4) ≡ bytesKept (junk 4) NoCombinator
@@ -200,7 +200,7 @@ pub record Export-examples : Type 0 where
   pub open-by-255 : export (2040 ∷ junk 15) 1 (junk 64) ≡ bytesKept (junk 64) NoCombinator
   pub open-under-one : export (1 ∷ 8 ∷ junk 14) 2 (junk 4) ≡ bytesKept (junk 4) NoCombinator
   pub open-under-two : export (1 ∷ 1 ∷ 16 ∷ junk 13) 3 (junk 4) ≡ bytesKept (junk 4) NoCombinator
-  pub bound-under-three : export (1 ∷ 1 ∷ 1 ∷ 16 ∷ junk 12) 4 (junk 2) ≡ card 10 (3 ∷ 128 ∷ [])
+  pub bound-under-three : export (1 ∷ 1 ∷ 1 ∷ 16 ∷ junk 12) 4 (junk 2) ≡ encoded 10 (3 ∷ 128 ∷ [])
   pub open-argument : export (2 ∷ 1 ∷ 0 ∷ 0 ∷ junk 12) 4 (junk 4) ≡ bytesKept (junk 4) NoCombinator
   pub open-function : export (2 ∷ 0 ∷ 1 ∷ 0 ∷ junk 12) 4 (junk 4) ≡ bytesKept (junk 4) NoCombinator
   -- 7 before 10, 13 and 8

@@ -1,4 +1,4 @@
--- Exporting a term of a workspace to a card ("Cards", "Numbers for refused calls"), as a function of everything at entry to everything at exit.
+-- Exporting the term in a workspace ("Binary encodings", "Numbers for refused calls"), as a function of everything at entry to everything at exit.
 use Prim.Native.Nat.{ℕ, _*_}
 use mathlib.Core.Bool.{not, cond}
 use mathlib.Core.List.{List}
@@ -11,7 +11,7 @@ use Rattle.calculus.specs.Refusal.{Refusal, WrongWorkspace, TooLong, NoTerm, No
 use Rattle.calculus.specs.Bringing.{Answer, refused, returned}
 use Rattle.encoding.specs.Bits.{bits}
 use Rattle.encoding.specs.Bytes.{byteBits, packed}
-use Rattle.encoding.specs.Card.{isCombinator}
+use Rattle.encoding.specs.Encoded.{isCombinator}
 
 -- Everything at exit; the workspace is only read.
 pub record Exported : Type 0 where
@@ -22,7 +22,7 @@ pub record Exported : Type 0 where
 abbrev pub refuseExport : (bytes : List ℕ) → Refusal → Exported
 refuseExport bytes why = record { answer = refused why; bytes = bytes }
 
--- "Export returns the bit count and fills the rest of the lent bytes with 0".
+-- "Export returns the bit count and fills the rest of the lent bytes with 0 .."
 abbrev pub put : (bytes : List ℕ) → Term → Exported
 put bytes t = record { answer = returned (length (bits t)); bytes = packed (length bytes) (bits t) }
 

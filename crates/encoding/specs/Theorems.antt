@@ -1,4 +1,4 @@
--- What is owed about cards: each statement is a type with a name, and its proof in proofs/ has that type.
+-- What is owed about encodings: each statement is a type with a name, and its proof in proofs/ has that type.
 use Prim.Native.Nat.{ℕ, _+_, _*_, _-_, _≤_, _<_}
 use mathlib.Core.Path.{_≡_}
 use mathlib.Core.Bool.{Bool, true, false}
@@ -26,15 +26,15 @@ Bits-prefix-free = (t u : Term) (bs cs : List Bool) → Pure t → Pure u → bi
 abbrev pub Decoding-exact : Type 0
 Decoding-exact = (bs : List Bool) (t : Term) → (decode bs ≡ some t) ↔ (Pure t × (bits t ≡ bs))
 
--- Bytes with a bit count are the card of a term: its bits, as many as the count says, and 0 in every lent bit past them.
-pub record CardOf (t : Term) (bytes : List ℕ) (count : ℕ) : Type 0 where
+-- Bytes with a bit count are the encoding of a term: its bits, as many as the count says, and 0 in every lent bit past them.
+pub record EncodingOf (t : Term) (bytes : List ℕ) (count : ℕ) : Type 0 where
   pub pure : Pure t
   pub counted : length (bits t) ≡ count
   pub bits-are : unpacked bytes ≡ bits t ++ replicate (byteBits * length bytes - count) false
 
--- They are the card of one term at most.
-abbrev pub Card-unique : Type 0
-Card-unique = (bytes : List ℕ) (count : ℕ) (t u : Term) → CardOf t bytes count → CardOf u bytes count → t ≡ u
+-- They are the encoding of one term at most.
+abbrev pub Encoding-unique : Type 0
+Encoding-unique = (bytes : List ℕ) (count : ℕ) (t u : Term) → EncodingOf t bytes count → EncodingOf u bytes count → t ≡ u
 
 -- A refusal, and what was lent as it was: written out again, so that what is owed does not lean on `bring`.
 abbrev pub unchanged : (workspace : List ℕ) → Refusal → Brought
@@ -48,14 +48,14 @@ bytesKept bytes why = record { answer = refused why; bytes = bytes }
 pub record ImportsExactly (bytes : List ℕ) (count : ℕ) (workspace : List ℕ) : Type 0 where
   pub wrong-workspace : wrongWorkspace (length workspace) ≡ true → import bytes count workspace ≡ unchanged workspace WrongWorkspace
   pub escapes : wrongWorkspace (length workspace) ≡ false
-      → (import bytes count workspace .answer ≡ refused WrongBits → ⊥) ↔ ((t : Term) × CardOf t bytes count)
-  pub wrong-bits : wrongWorkspace (length workspace) ≡ false → ((t : Term) → CardOf t bytes count → ⊥)
+      → (import bytes count workspace .answer ≡ refused WrongBits → ⊥) ↔ ((t : Term) × EncodingOf t bytes count)
+  pub wrong-bits : wrongWorkspace (length workspace) ≡ false → ((t : Term) → EncodingOf t bytes count → ⊥)
       → import bytes count workspace ≡ unchanged workspace WrongBits
-  pub too-long : wrongWorkspace (length workspace) ≡ false → (t : Term) → CardOf t bytes count → length workspace < size t
+  pub too-long : wrongWorkspace (length workspace) ≡ false → (t : Term) → EncodingOf t bytes count → length workspace < size t
       → import bytes count workspace ≡ unchanged workspace TooLong
-  pub no-combinator : wrongWorkspace (length workspace) ≡ false → (t : Term) → CardOf t bytes count → size t ≤ length workspace → (Combinator t → ⊥)
+  pub no-combinator : wrongWorkspace (length workspace) ≡ false → (t : Term) → EncodingOf t bytes count → size t ≤ length workspace → (Combinator t → ⊥)
       → import bytes count workspace ≡ unchanged workspace NoCombinator
-  pub leaves : wrongWorkspace (length workspace) ≡ false → (t : Term) → CardOf t bytes count → size t ≤ length workspace → Combinator t
+  pub leaves : wrongWorkspace (length workspace) ≡ false → (t : Term) → EncodingOf t bytes count → size t ≤ length workspace → Combinator t
       → Accepted 0 t
       × (import bytes count workspace ≡ record { answer = returned (size t); workspace = words t ++ replicate (length workspace - size t) 0 })
 
@@ -63,7 +63,7 @@ abbrev pub Importing-exact : Type 0
 Importing-exact = (bytes : List ℕ) (count : ℕ) (workspace : List ℕ) → ImportsExactly bytes count workspace
 
 -- What exporting does: 7 first, then 10, then 13, then 8 exactly if the lent bytes have fewer bits than the term, and nothing is changed; otherwise the
--- lent bytes are the term's card.
+-- lent bytes are the term's encoding.
 pub record ExportsExactly (workspace : List ℕ) (len : ℕ) (bytes : List ℕ) : Type 0 where
   pub wrong-workspace : wrongWorkspace (length workspace) ≡ true → export workspace len bytes ≡ bytesKept bytes WrongWorkspace
   pub no-term : wrongWorkspace (length workspace) ≡ false → termAt workspace len ≡ none → export workspace len bytes ≡ bytesKept bytes NoTerm
@@ -76,7 +76,7 @@ pub record ExportsExactly (workspace : List ℕ) (len : ℕ) (bytes : List ℕ) 
   pub leaves : wrongWorkspace (length workspace) ≡ false → (t : Term) → termAt workspace len ≡ some t → Combinator t
       → length (bits t) ≤ byteBits * length bytes
       → (export workspace len bytes .answer ≡ returned (length (bits t)))
-      × CardOf t (export workspace len bytes .bytes) (length (bits t))
+      × EncodingOf t (export workspace len bytes .bytes) (length (bits t))
       × (length (export workspace len bytes .bytes) ≡ length bytes)
       × Bytes (export workspace len bytes .bytes)
 

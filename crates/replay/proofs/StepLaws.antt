@@ -54,7 +54,7 @@ module _ (room : List ℕ) (m : ℕ) (inside : m ≤ length room) where
   fits-room (operation.Store side at word) h = h
   fits-room operation.Print h = h
   fits-room (operation.Line side at n) h = bytes-room at n h
-  fits-room (operation.Import card) h = bytes-room (card .at) (card .bytes) h
+  fits-room (operation.Import encoded) h = bytes-room (encoded .at) (encoded .bytes) h
   fits-room (operation.Export side len n) h = h
 
   performed-room : (o : Operation) (s : State) → Fits (take m room) o → performed room o s ≡ performed (take m room) o s
@@ -68,8 +68,8 @@ module _ (room : List ℕ) (m : ℕ) (inside : m ≤ length room) where
   performed-room operation.Print s h = refl
   performed-room (operation.Line side at n) s h =
       ap (λ line. performBringing s side (readLine line) ofLine) (part-room at n (h .inside))
-  performed-room (operation.Import card) s h =
-      ap (λ bytes. performBringing s (card .side) (import bytes (card .bits)) ofImport) (part-room (card .at) (card .bytes) (h .inside))
+  performed-room (operation.Import encoded) s h =
+      ap (λ bytes. performBringing s (encoded .side) (import bytes (encoded .bits)) ofImport) (part-room (encoded .at) (encoded .bytes) (h .inside))
   performed-room (operation.Export side len n) s h = refl
 
 -- A further word, put behind those of the open operation.

@@ -52,7 +52,7 @@ words-most (suc (suc (suc (suc (suc (suc (suc (suc (suc zero))))))))) = omega ar
 words-most (suc (suc (suc (suc (suc (suc (suc (suc (suc (suc zero)))))))))) = omega arith
 words-most (suc (suc (suc (suc (suc (suc (suc (suc (suc (suc (suc n))))))))))) = omega arith
 
--- What the operations need of their operands: the length of a scratch, a table, a line and a card within their limits.
+-- What the operations need of their operands: the length of a scratch, a table, a line and an encoding within their limits.
 module _ (words : List ℕ) (o : Operands) (from : ℕ) where
   by-number : (P : Operation → Type 0) (n k : ℕ) {a b : Operation} → (n ≡ k → P a) → P b → P (cond (eqb n k) a b)
   by-number P n k {a} {b} here other = go (eqb n k) refl

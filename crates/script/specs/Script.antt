@@ -15,7 +15,7 @@ use Rattle.script.specs.declared.Side.{Side}
 use Rattle.script.specs.declared.Side.the-variants as side
 use Rattle.script.specs.declared.Operands.{Operands}
 use Rattle.script.specs.declared.Call.{Call}
-use Rattle.script.specs.declared.Card.{Card}
+use Rattle.script.specs.declared.Encoded.{Encoded}
 use Rattle.script.specs.declared.Operation.{Operation}
 use Rattle.script.specs.declared.Operation.the-variants as operation
 use Rattle.script.specs.declared.Read.{Read}
@@ -36,7 +36,7 @@ abbrev pub verdictNumbered : ℕ → Verdict
 verdictNumbered n =
     cond (eqb n 0) verdict.Same (cond (eqb n 1) verdict.Different (cond (eqb n 2) verdict.Budget verdict.Full))
 
--- The most words of a table and of a scratch, and bytes of a line and of a card: the words of a header and of as many records as a workspace has words.
+-- The most words of a table and of a scratch, and bytes of a line and of an encoding: the words of a header and of as many records as a workspace has words.
 abbrev pub tableLimit : ℕ
 tableLimit = form1 .recordWords * (workspaceMost + 1)
 
@@ -107,11 +107,11 @@ operandsIn words count =
       fourth = operandAt words count 4;
     }
 
--- How many words follow the operation's own: those of a load's table, and the bytes of a line and of a card, a word each.
+-- How many words follow the operation's own: those of a load's table, and the bytes of a line and of an encoding, a word each.
 abbrev pub following : (number : ℕ) → Operands → ℕ
 following n o = cond (eqb n 1) (o .second) (cond (eqb n 8) (o .second) (cond (eqb n 9) (o .third) 0))
 
--- Whether these words may follow: those of a line and of a card are bytes.
+-- Whether these words may follow: those of a line and of an encoding are bytes.
 unfoldable pub mayFollow : (number : ℕ) → (words : List ℕ) → Bool
 mayFollow n words = cond (eqb n 8) (areBytes words) (cond (eqb n 9) (areBytes words) true)
 
@@ -122,8 +122,8 @@ callIn o = record { scratch = o .first; left = o .second; right = o .third; budg
 abbrev pub sessionIn : Operands → Session
 sessionIn o = record { total = o .first; left = o .second; right = o .third; verdict = verdictNumbered (o .fourth) }
 
-abbrev pub cardIn : Operands → (from : ℕ) → Card
-cardIn o from = record { side = sideOf (o .first); bits = o .second; at = from; bytes = o .third }
+abbrev pub encodedIn : Operands → (from : ℕ) → Encoded
+encodedIn o from = record { side = sideOf (o .first); bits = o .second; at = from; bytes = o .third }
 
 -- The operation of a number, with what follows it at a position.
 abbrev pub operationOf : (number : ℕ) → Operands → (from : ℕ) → Operation
@@ -135,7 +135,7 @@ operationOf n o from =
     (cond (eqb n 5) (operation.Set (sessionIn o))
     (cond (eqb n 6) (operation.Store (sideOf (o .first)) (o .second) (o .third))
     (cond (eqb n 8) (operation.Line (sideOf (o .first)) from (o .second))
-    (cond (eqb n 9) (operation.Import (cardIn o from))
+    (cond (eqb n 9) (operation.Import (encodedIn o from))
     (cond (eqb n 10) (operation.Export (sideOf (o .first)) (o .second) (o .third)) operation.Print))))))))
 
 -- The words that follow an operation's own, which are so many.
@@ -143,7 +143,7 @@ abbrev pub followers : List ℕ → (number count : ℕ) → Operands → List �
 followers words n count o = take (following n o) (drop count words)
 
 -- What words come to that start with a number of so many words and these operands: an operand may be beyond its limit, words that follow may be still to
--- come, and a line's or a card's may be no bytes.
+-- come, and a line's or an encoding's may be no bytes.
 unfoldable pub operationWith : List ℕ → (number count : ℕ) → Operands → Read
 operationWith words n count o =
     cond (within n o)
@@ -171,7 +171,7 @@ pub record Bytes (words : List ℕ) (at n : ℕ) : Type 0 where
   pub few : n ≤ tableLimit
   pub bytes : areBytes (take n (drop at words)) ≡ true
 
--- What an operation needs lies within the words, the length of a table, a scratch, a line and a card within their limit.
+-- What an operation needs lies within the words, the length of a table, a scratch, a line and an encoding within their limit.
 abbrev pub Fits : (words : List ℕ) → Operation → Type 0
 Fits words (operation.Load side at table) = at + table ≤ length words
 Fits words (operation.Press call) = call .scratch ≤ tableLimit
@@ -181,7 +181,7 @@ Fits words (operation.Set session) = Unit {0}
 Fits words (operation.Store side at word) = Unit {0}
 Fits words operation.Print = Unit {0}
 Fits words (operation.Line side at n) = Bytes words at n
-Fits words (operation.Import card) = Bytes words (card .at) (card .bytes)
+Fits words (operation.Import encoded) = Bytes words (encoded .at) (encoded .bytes)
 Fits words (operation.Export side len n) = n ≤ tableLimit
 
 -- Words that are a whole operation have all that it needs, and there is room for a further one where one is to come.

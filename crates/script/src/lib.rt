@@ -9,7 +9,7 @@ ghost use Prim.Native.Nat.{_≤_, _<_};
 ghost use lib.ListN.{length};
 ghost use Rattle.script.specs.Script.{sideOf, verdictNumbered, tableLimit, operations, operandsMost, wordsOf, mostOf};
 ghost use Rattle.script.specs.Script.{operandAt, operandsIn, within, following, mayFollow};
-ghost use Rattle.script.specs.Script.{callIn, sessionIn, cardIn, operationOf, operationIn, roomMost, Reads};
+ghost use Rattle.script.specs.Script.{callIn, sessionIn, encodedIn, operationOf, operationIn, roomMost, Reads};
 
 // The operations' numbers. 7 is a print, and 0 is none.
 const LOAD: u32 = 1;
@@ -38,10 +38,10 @@ const WORDS: [usize; OPERATIONS] = [0, 3, 5, 3, 4, 5, 4, 1, 3, 4, 4];
 // The words of a record.
 const RECORD_WORDS: usize = 4;
 
-// The most words of a table and of a scratch, and bytes of a line and of a card: the words of a header and of as many records as a workspace has words.
+// The most words of a table and of a scratch, and bytes of a line and of an encoding: the words of a header and of as many records as a workspace has words.
 pub const TABLE_MOST: usize = RECORD_WORDS * (Word::WORKSPACE_MOST + 1);
 
-// The largest numbers of operands: of a side, of a verdict, of a length of a table, a scratch, a line or a card, and of any other.
+// The largest numbers of operands: of a side, of a verdict, of a length of a table, a scratch, a line or an encoding, and of any other.
 const SIDE: u32 = 1;
 
 const VERDICT: u32 = 3;
@@ -125,8 +125,8 @@ pub struct Call {
     pub budget: u32,
 }
 
-// A card to import: its side, its bit count, and its bytes, a word each, by the position of the first among the operation's words, and how many there are.
-pub struct Card {
+// An encoding to import: its side, its bit count, and its bytes, a word each, by the position of the first among the operation's words, and how many there are.
+pub struct Encoded {
     pub side: Side,
     pub bits: usize,
     pub at: usize,
@@ -162,7 +162,7 @@ pub enum Operation {
         at: usize,
         bytes: usize,
     },
-    Import(Card),
+    Import(Encoded),
     Export {
         side: Side,
         len: usize,
@@ -250,7 +250,7 @@ fn operands_in(words: &[u32], count: usize) -> Operands
     }
 }
 
-// How many words follow an operation's own: those of a load's table, and the bytes of a line and of a card, a word each.
+// How many words follow an operation's own: those of a load's table, and the bytes of a line and of an encoding, a word each.
 fn following(number: u32, o: Operands) -> usize
     ensures { λ r. ⌜ r ≡ following number o ⌝ }
 {
@@ -266,7 +266,7 @@ fn following(number: u32, o: Operands) -> usize
     0
 }
 
-// Whether these words may follow an operation's own: those of a line and of a card are bytes.
+// Whether these words may follow an operation's own: those of a line and of an encoding are bytes.
 fn may_follow(number: u32, words: &[u32]) -> bool
     ensures { λ r. ⌜ r ≡ mayFollow number (now (words .entry)) ⌝ }
 {
@@ -302,11 +302,11 @@ fn session_in(o: Operands) -> Session
     }
 }
 
-// The card of an import whose bytes stand at a position.
-fn card_in(o: Operands, from: usize) -> Card
-    ensures { λ r. ⌜ r ≡ cardIn o from ⌝ }
+// The encoding of an import whose bytes stand at a position.
+fn encoded_in(o: Operands, from: usize) -> Encoded
+    ensures { λ r. ⌜ r ≡ encodedIn o from ⌝ }
 {
-    Card {
+    Encoded {
         side: side_of(o.first),
         bits: o.second as usize,
         at: from,
@@ -345,7 +345,7 @@ fn operation_of(number: u32, o: Operands, from: usize) -> Operation
             at: from,
             bytes: o.second as usize,
         },
-        IMPORT => Operation::Import(card_in(o, from)),
+        IMPORT => Operation::Import(encoded_in(o, from)),
         EXPORT => Operation::Export {
             side: side_of(o.first),
             len: o.second as usize,

@@ -29,10 +29,10 @@ use Rattle.vectors.specs.Pair.{verdictAt, givenAt, lentAt, refusedAfter,
 use Rattle.vectors.specs.Stored.{chainFrom, tableAt, isLast, isTable, writesInto, writesBack, broughtAs, loadedAs, loading, loadHolds, writesWords, writeHolds}
 use Rattle.vectors.specs.Typed.{reading, lineHolds}
 use Rattle.encoding.specs.Decoding.{wordsIn, decode}
-use Rattle.encoding.specs.Card.{combinator?}
+use Rattle.encoding.specs.Encoded.{combinator?}
 use Rattle.encoding.specs.Import.{import}
 use Rattle.encoding.specs.Export.{export}
-use Rattle.vectors.specs.Carded.{exportsBack, importedAs, importing, importHolds, exportedAs, exportsWords, exportHolds}
+use Rattle.vectors.specs.Encoded.{exportsBack, importedAs, importing, importHolds, exportedAs, exportsWords, exportHolds}
 use Rattle.vectors.specs.Vector.{passes, shareOf}
 use Rattle.vectors.specs.Examples.{Read-examples, Passing-examples}
 
@@ -149,15 +149,15 @@ passing-examples =
       unread-changed = refl;
       unimported-kept = refl;
       unimported-changed = refl;
-      card-written = refl;
-      card-count = refl;
-      card-byte = refl;
-      card-longer = refl;
-      card-missing = refl;
-      card-again = refl;
-      card-again-count = refl;
-      card-again-byte = refl;
-      card-again-missing = refl;
+      encoding-written = refl;
+      encoding-count = refl;
+      encoding-byte = refl;
+      encoding-longer = refl;
+      encoding-missing = refl;
+      encoding-again = refl;
+      encoding-again-count = refl;
+      encoding-again-byte = refl;
+      encoding-again-missing = refl;
       unexported-kept = refl;
       unexported-changed = refl;
       unwritten-kept = refl;

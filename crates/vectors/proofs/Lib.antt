@@ -1,6 +1,6 @@
 pub mod StepLaws
 pub mod StoredLaws
 pub mod TypedLaws
-pub mod CardedLaws
+pub mod EncodedLaws
 pub mod TallyLaws
 pub mod Examples

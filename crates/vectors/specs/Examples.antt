@@ -19,7 +19,7 @@ use Rattle.vectors.specs.Answers.{isSession, isShown, isRefused}
 use Rattle.vectors.specs.Pair.{junk, lentAt, Stage, refusedAfter, countedAfter}
 use Rattle.vectors.specs.Stored.{chain, writtenAs, loadedAs}
 use Rattle.vectors.specs.Typed.{readAs}
-use Rattle.vectors.specs.Carded.{isCard, importedAs, exportedAs}
+use Rattle.vectors.specs.Encoded.{isEncoding, importedAs, exportedAs}
 use Rattle.vectors.specs.declared.pair.Lent.{Lent}
 use Rattle.vectors.specs.Vector.{nothing, counted, passes, shareOf}
 
@@ -148,7 +148,7 @@ n12 = 32 ∷ 49 ∷ 50 ∷ []
 abbrev pub n32 : List ℕ
 n32 = 32 ∷ 51 ∷ 50 ∷ []
 
--- `import 16 4`, and with it the byte of the card of `\0`, and a byte whose first four bits end early
+-- `import 16 4`, and with it the byte of the encoding of `\0`, and a byte whose first four bits end early
 abbrev pub importing : List ℕ
 importing = importWord ++ (n16 ++ n4)
 
@@ -165,7 +165,7 @@ exportingIdentity = exportWord ++ (n16 ++ (identity ++ (n2 ++ n1)))
 abbrev pub exportingFree : List ℕ
 exportingFree = exportWord ++ (n16 ++ (n0 ++ (n1 ++ n1)))
 
--- `import 16 4 288`: 256 more than the byte of the card of `\0`
+-- `import 16 4 288`: 256 more than the byte of the encoding of `\0`
 abbrev pub importingAbove : List ℕ
 importingAbove = importing ++ (32 ∷ 50 ∷ 56 ∷ 56 ∷ [])
 
@@ -214,13 +214,13 @@ unexportedFrom w = exportedAs (spaced refusedWord ++ n1) 0 (record { answer = br
 abbrev pub unwrittenFrom : ℕ → Bool
 unwrittenFrom w = writtenAs (spaced refusedWord ++ n1) 0 [] 0 (record { answer = bring.refused WrongLength; table = w ∷ [] }) .holds
 
--- Whether an exporting that returned this bit count and left these bytes is as ` writes 4 32` says, and is the card of 4 bits and the byte 32 again.
+-- Whether an exporting that returned this bit count and left these bytes is as ` writes 4 32` says, and is the encoding of 4 bits and the byte 32 again.
 abbrev pub writtenFrom : (count : ℕ) (bytes : List ℕ) → Bool
 writtenFrom count bytes =
     exportedAs (spaced writesWord ++ (32 ∷ 52 ∷ 32 ∷ 51 ∷ 50 ∷ [])) 0 (record { answer = bring.returned count; bytes = bytes })
 
 abbrev pub againFrom : (count : ℕ) (bytes : List ℕ) → Bool
-againFrom count bytes = isCard 4 (32 ∷ []) (record { answer = bring.returned count; bytes = bytes })
+againFrom count bytes = isEncoding 4 (32 ∷ []) (record { answer = bring.returned count; bytes = bytes })
 
 pub record Passing-examples : Type 0 where
   pub pressed-right : passes (pressing differentWord n0 n0 n8) ≡ true
@@ -310,15 +310,15 @@ pub record Passing-examples : Type 0 where
   pub unread-changed : unreadFrom 0 ≡ false
   pub unimported-kept : unimportedFrom junk ≡ true
   pub unimported-changed : unimportedFrom 0 ≡ false
-  pub card-written : writtenFrom 4 (32 ∷ []) ≡ true
-  pub card-count : writtenFrom 5 (32 ∷ []) ≡ false
-  pub card-byte : writtenFrom 4 (33 ∷ []) ≡ false
-  pub card-longer : writtenFrom 4 (32 ∷ 0 ∷ []) ≡ false
-  pub card-missing : writtenFrom 4 [] ≡ false
-  pub card-again : againFrom 4 (32 ∷ []) ≡ true
-  pub card-again-count : againFrom 5 (32 ∷ []) ≡ false
-  pub card-again-byte : againFrom 4 (33 ∷ []) ≡ false
-  pub card-again-missing : againFrom 4 [] ≡ false
+  pub encoding-written : writtenFrom 4 (32 ∷ []) ≡ true
+  pub encoding-count : writtenFrom 5 (32 ∷ []) ≡ false
+  pub encoding-byte : writtenFrom 4 (33 ∷ []) ≡ false
+  pub encoding-longer : writtenFrom 4 (32 ∷ 0 ∷ []) ≡ false
+  pub encoding-missing : writtenFrom 4 [] ≡ false
+  pub encoding-again : againFrom 4 (32 ∷ []) ≡ true
+  pub encoding-again-count : againFrom 5 (32 ∷ []) ≡ false
+  pub encoding-again-byte : againFrom 4 (33 ∷ []) ≡ false
+  pub encoding-again-missing : againFrom 4 [] ≡ false
   pub unexported-kept : unexportedFrom junk ≡ true
   pub unexported-changed : unexportedFrom 0 ≡ false
   pub unwritten-kept : unwrittenFrom junk ≡ true

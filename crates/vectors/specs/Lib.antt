@@ -4,6 +4,6 @@ pub mod Answers
 pub mod Pair
 pub mod Stored
 pub mod Typed
-pub mod Carded
+pub mod Encoded
 pub mod Vector
 pub mod Examples

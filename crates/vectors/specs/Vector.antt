@@ -9,7 +9,7 @@ use Rattle.vectors.specs.Keywords.{pairWord, loadWord, lineWord, importW
 use Rattle.vectors.specs.Pair.{pairHolds}
 use Rattle.vectors.specs.Stored.{loadHolds, writeHolds}
 use Rattle.vectors.specs.Typed.{lineHolds}
-use Rattle.vectors.specs.Carded.{importHolds, exportHolds}
+use Rattle.vectors.specs.Encoded.{importHolds, exportHolds}
 use Rattle.vectors.specs.declared.vector.Tally.{Tally}
 
 -- Where the line that goes on at a position ends.

@@ -7,7 +7,7 @@ use crate::vector::tally_all;
 use libc::STDIN_FILENO;
 use libc::STDOUT_FILENO;
 
-mod carded;
+mod encoded;
 mod pair;
 mod stored;
 mod typed;

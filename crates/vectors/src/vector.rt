@@ -1,6 +1,6 @@
-// Vectors, one to a line. What a line means is said at the top of pair.rt (pair), stored.rt (load, write), typed.rt (line) and carded.rt (import, export).
-use crate::carded::export_holds;
-use crate::carded::import_holds;
+// Vectors, one to a line. What a line means is said at the top of pair.rt (pair), stored.rt (load, write), typed.rt (line) and encoded.rt (import, export).
+use crate::encoded::export_holds;
+use crate::encoded::import_holds;
 use crate::pair::pair_holds;
 use crate::stored::load_holds;
 use crate::stored::write_holds;

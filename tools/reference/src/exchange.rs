@@ -1,7 +1,7 @@
 //! What decides the answer to an import or an export, as far as it tells wrong
 //! ones from the right one.
 
-use crate::card::{bits, bits_of, first_term, term_of, Fault};
+use crate::encoding::{bits, bits_of, first_term, term_of, Fault};
 use crate::generate::terms::subterms;
 use crate::part::made;
 use crate::press::{term_in, Side};
@@ -16,16 +16,16 @@ use std::fmt;
 pub enum Exchange {
     /// An import fills its workspace.
     ImportFull,
-    /// More bytes are lent than the bits of the card fill.
+    /// More bytes are lent than the bits of the encoding fill.
     ImportSpare,
-    /// A run of the card has at least [`WINDOW`] ones.
+    /// A run of the encoding has at least [`WINDOW`] ones.
     ImportRun,
     /// The last one of such a run, or of a shorter one, is the last of so many
     /// bits.
     ImportEdge,
     /// The term that comes in is in a workspace already.
     ImportExported,
-    /// A card is refused by nothing but this.
+    /// An encoding is refused by nothing but this.
     ImportFault(Fault),
     /// The term is one word too long.
     ImportOneWord,
@@ -37,17 +37,17 @@ pub enum Exchange {
     ExportExact,
     /// There are more bytes.
     ExportSpare,
-    /// A run of the card has at least [`WINDOW`] ones.
+    /// A run of the encoding has at least [`WINDOW`] ones.
     ExportRun,
     /// There is one byte too few.
     ExportOneByte,
-    /// The term has no card by nothing but this.
+    /// The term has no encoding by nothing but this.
     ExportOther(Other),
     /// Both refusals are met; the first one counts.
     ExportOrder(Refusal, Refusal),
 }
 
-/// What keeps a term from having a card.
+/// What keeps a term from having an encoding.
 #[derive(Clone, Copy, Debug, PartialEq, Eq)]
 pub enum Other {
     Free,
@@ -191,16 +191,16 @@ fn import_refused(workspace: &[u32], bytes: &[u8], count: u32, refusal: Refusal)
     let bits = bits(bytes);
     match (refusal, &term) {
         (Refusal::Workspace, Err(_)) => {
-            let order = Exchange::ImportOrder(Refusal::Workspace, Refusal::Card);
+            let order = Exchange::ImportOrder(Refusal::Workspace, Refusal::Bits);
             vec![(true, order)]
         }
-        (Refusal::Card, Err(fault)) => {
+        (Refusal::Bits, Err(fault)) => {
             let counted = bits.get(..count as usize);
             let padding = bits.get(count as usize..).unwrap_or(&[]);
             // Broken padding may come with another fault.
             let alone = *fault == Fault::Padding || !padding.contains(&true);
             let first = counted.and_then(first_term).map(|(term, _)| term);
-            let order = |second| Exchange::ImportOrder(Refusal::Card, second);
+            let order = |second| Exchange::ImportOrder(Refusal::Bits, second);
             let long = first
                 .as_ref()
                 .is_some_and(|term| term.size() > workspace.len());
@@ -208,15 +208,15 @@ fn import_refused(workspace: &[u32], bytes: &[u8], count: u32, refusal: Refusal)
             vec![
                 (alone, Exchange::ImportFault(*fault)),
                 (long, order(Refusal::TooLong)),
-                (open, order(Refusal::NoCard)),
+                (open, order(Refusal::NoEncoding)),
             ]
         }
         (Refusal::TooLong, Ok(term)) => {
-            let order = Exchange::ImportOrder(Refusal::TooLong, Refusal::NoCard);
+            let order = Exchange::ImportOrder(Refusal::TooLong, Refusal::NoEncoding);
             let one = term.size() == workspace.len() + 1;
             vec![(one, Exchange::ImportOneWord), (!term.is_closed(), order)]
         }
-        (Refusal::NoCard, Ok(term)) => {
+        (Refusal::NoEncoding, Ok(term)) => {
             let one = term.largest_free() == Some(0);
             vec![(one, Exchange::ImportOneBinder)]
         }
@@ -246,11 +246,11 @@ fn export_refused(workspace: &[u32], length: u32, bytes: usize, refusal: Refusal
             let mut given = workspace.iter().take(length as usize);
             let other = |word: &u32| kind_of(*word) > kind::APPLICATION;
             vec![
-                (given.any(other), order(Refusal::NoCard)),
+                (given.any(other), order(Refusal::NoEncoding)),
                 (bytes == 0, order(Refusal::TooLong)),
             ]
         }
-        (Refusal::NoCard, Ok(term)) => {
+        (Refusal::NoEncoding, Ok(term)) => {
             let mut met: Met = vec![(too_few(length, bytes), order(Refusal::TooLong))];
             let alone = |other: &Other| others(term) == [*other];
             met.extend(OTHERS.map(|other| (alone(&other), Exchange::ExportOther(other))));
@@ -269,7 +269,7 @@ fn too_few(length: u32, bytes: usize) -> bool {
     8 * bytes < 2 * length as usize
 }
 
-/// Everything that keeps the term from having a card.
+/// Everything that keeps the term from having an encoding.
 pub fn others(term: &Term) -> Vec<Other> {
     let parts = subterms(term);
     let has = |other: &Other| match other {

@@ -1,17 +1,17 @@
 //! An independent reference for the convertibility calculator.
 //!
 //! The first modules are the rules of docs/RULES.md on trees: terms, their
-//! words, contraction, positions, presses, tables, lines, cards, and the two
+//! words, contraction, positions, presses, tables, lines, encodings, and the two
 //! programs as functions from input bytes to printed text. `generate` makes
 //! inputs for the programs from fixed seeds; `part`, `default`, `shape`,
 //! `choice`, `exchange`, `tally` and `child` serve the `compare` program, which
 //! runs the built programs on those inputs.
 
-pub mod card;
 pub mod child;
 pub mod choice;
 pub mod contraction;
 pub mod default;
+pub mod encoding;
 pub mod exchange;
 pub mod generate;
 pub mod input;
@@ -30,7 +30,7 @@ pub mod verdict;
 pub mod words;
 
 /// Enough for every recursion over a term of 2,048 words, or over that of the
-/// longest card.
+/// longest encoding.
 pub const LARGE_STACK: usize = 256 << 20;
 
 /// Runs `work` on a thread whose stack holds the deepest terms.

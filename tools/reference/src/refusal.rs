@@ -27,10 +27,10 @@ pub enum Refusal {
     NotATerm = 10,
     /// The line is outside the grammar, or its length is wrong.
     Line = 11,
-    /// The bits of a card end early, are left over or break the padding.
-    Card = 12,
-    /// The term is not closed, or has a word of another kind than cards have.
-    NoCard = 13,
+    /// The bits of an encoding end early, are left over or break the padding.
+    Bits = 12,
+    /// The term is not closed, or has a word of another kind than encodings have.
+    NoEncoding = 13,
 }
 
 impl Refusal {

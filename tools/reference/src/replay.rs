@@ -1,6 +1,6 @@
 //! The replaying program as a function from a script to its printed text.
 
-use crate::card::{export, import};
+use crate::encoding::{export, import};
 use crate::input::{workspace, Words};
 use crate::line::read_line;
 use crate::press::{press, show, Answer, Session, Side, Verdict};
@@ -8,7 +8,7 @@ use crate::refusal::Refusal;
 use crate::table::{load, write};
 
 /// Every word of a scratch or of a table to be written, and every byte of a
-/// card to be exported, before the call.
+/// encoding to be exported, before the call.
 const FILLING: u8 = 7;
 /// The verdicts in the order of their numbers in a script.
 pub const VERDICTS: [Verdict; 4] = [

@@ -1,6 +1,6 @@
 //! What imports and exports meet, on calls whose answer is derived by hand.
 
-use reference::card::Fault;
+use reference::encoding::Fault;
 use reference::exchange::{of_call, Exchange, Other};
 use reference::press::Side;
 use reference::refusal::Refusal;
@@ -32,7 +32,7 @@ fn export_of(words: &[u32], length: u32, capacity: u32, bytes: usize) -> Vec<Exc
     of_call(&before, &operation)
 }
 
-/// The card of so many abstractions around a variable.
+/// The encoding of so many abstractions around a variable.
 fn under(binders: usize, index: usize) -> (Vec<u8>, u32) {
     let text = "00".repeat(binders) + &"1".repeat(index + 1) + "0";
     let bytes = text.as_bytes().chunks(8).map(|part| {
@@ -87,16 +87,16 @@ fn imports_that_are_refused() {
 #[test]
 fn imports_that_meet_two_refusals() {
     let order = Exchange::ImportOrder;
-    let of_7 = order(Refusal::Workspace, Refusal::Card);
+    let of_7 = order(Refusal::Workspace, Refusal::Bits);
     assert_eq!(import(15, &[32], 5), [of_7]);
     assert_eq!(import(15, &[32], 4), []);
     let (bytes, count) = under(17, 17);
-    let of_8 = order(Refusal::TooLong, Refusal::NoCard);
+    let of_8 = order(Refusal::TooLong, Refusal::NoEncoding);
     assert_eq!(import(16, &bytes, count), [of_8]);
     let of_12 = [
         Exchange::ImportFault(Fault::LeftOver),
-        order(Refusal::Card, Refusal::TooLong),
-        order(Refusal::Card, Refusal::NoCard),
+        order(Refusal::Bits, Refusal::TooLong),
+        order(Refusal::Bits, Refusal::NoEncoding),
     ];
     assert_eq!(import(16, &bytes, count + 1), of_12);
 }
@@ -127,14 +127,14 @@ fn exports_that_meet_two_refusals() {
     assert_eq!(export_of(&[1, 0], 1, 15, 1), [of_7]);
     assert_eq!(export_of(&[1, 0], 2, 15, 1), []);
     let of_10 = [
-        order(Refusal::NotATerm, Refusal::NoCard),
+        order(Refusal::NotATerm, Refusal::NoEncoding),
         order(Refusal::NotATerm, Refusal::TooLong),
     ];
     assert_eq!(export_of(&[131, 0], 2, 16, 0), of_10);
     assert_eq!(export_of(&[131, 0], 2, 16, 1), of_10[..1]);
     assert_eq!(export_of(&[1, 1], 2, 16, 0), of_10[1..]);
     let of_13 = [
-        order(Refusal::NoCard, Refusal::TooLong),
+        order(Refusal::NoEncoding, Refusal::TooLong),
         Exchange::ExportOther(Other::Free),
     ];
     assert_eq!(export(&[0], 0), of_13);

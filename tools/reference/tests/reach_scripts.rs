@@ -587,7 +587,10 @@ fn look_at_limits(before: &Machine, operation: &Operation, event: Event, census:
         }
         (Operation::Import { side, .. }, Event::Import(Ok(length))) => {
             let mut behind = workspace(before, *side)[length as usize..].iter();
-            census.meet_if(behind.any(|word| *word != 0), "a card over other words");
+            census.meet_if(
+                behind.any(|word| *word != 0),
+                "an encoding over other words",
+            );
         }
         (
             Operation::Press {
@@ -653,7 +656,7 @@ fn scripts_reach_the_limits_of_a_press() {
         &[
             "loaded over other words",
             "a line over other words",
-            "a card over other words",
+            "an encoding over other words",
             "a tail becomes zeros",
             "a tail becomes zeros without a round",
             "a tail kept by a refusal",

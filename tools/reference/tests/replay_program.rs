@@ -257,35 +257,35 @@ fn words_of_a_line_are_bytes() {
     assert_eq!(text(&[&[0, 0], &[8, 0, 0]]), "refused 7\n");
 }
 
-/// A card for a side.
-fn card(side: u32, count: u32, bytes: &[u8]) -> Vec<u32> {
+/// An encoding for a side.
+fn encoding(side: u32, count: u32, bytes: &[u8]) -> Vec<u32> {
     let words = bytes.iter().map(|byte| u32::from(*byte));
     let head = [9, side, count, bytes.len() as u32];
     head.into_iter().chain(words).collect()
 }
 
 #[test]
-fn cards_bring_terms_in_and_carry_them_out() {
+fn encodings_bring_terms_in_and_carry_them_out() {
     let printed = text(&[
         &[16, 16],
         &[6, 0, 9, 55],
         &[6, 1, 9, 66],
-        &card(0, 7, &[12]), // 0000110 is 1,1,8
-        &card(1, 7, &[13]), // the padding
-        &card(1, 6, &[12]), // the run does not end
-        &card(1, 8, &[12]), // a bit is left over
-        &card(1, 9, &[12]), // a bit that is not lent
-        &card(1, 5, &[48]), // 00110 is \ f0
+        &encoding(0, 7, &[12]), // 0000110 is 1,1,8
+        &encoding(1, 7, &[13]), // the padding
+        &encoding(1, 6, &[12]), // the run does not end
+        &encoding(1, 8, &[12]), // a bit is left over
+        &encoding(1, 9, &[12]), // a bit that is not lent
+        &encoding(1, 5, &[48]), // 00110 is \ f0
         &[7],
-        &card(1, 34, &[0, 0, 0, 0, 128]), // 17 words
-        &card(1, 4, &[32, 0, 0]),         // 0010 is 1,0
+        &encoding(1, 34, &[0, 0, 0, 0, 128]), // 17 words
+        &encoding(1, 4, &[32, 0, 0]),         // 0010 is 1,0
         &[10, 1, 2, 3],
         &[10, 1, 2, 1],
         &[10, 1, 2, 0],
         &[10, 1, 3, 2], // \ 0 and one word more
         &[10, 0, 3, 1],
         &[2, 16, 3, 2, 0],
-        &card(1, 7, &[12]),
+        &encoding(1, 7, &[12]),
         &[2, 16, 3, 3, 0],
         &[7],
     ]);
@@ -300,7 +300,7 @@ fn cards_bring_terms_in_and_carry_them_out() {
         &row("left", &[1, 1, 8], 13, "0"),
         &row("right", &[1, 1, 8], 13, "0"),
         &row("scratch", &[], 16, "0"),
-        // A card is none of the session's business.
+        // An encoding is none of the session's business.
         "session 0 3 3 Same\n",
     ];
     assert_eq!(printed, expected.concat());
@@ -324,23 +324,23 @@ fn exporting_prints_all_bytes() {
 
 #[test]
 fn each_side_is_carried_by_its_own_length() {
-    let printed = text(&[&[15, 16], &card(0, 4, &[32]), &card(1, 4, &[32])]);
+    let printed = text(&[&[15, 16], &encoding(0, 4, &[32]), &encoding(1, 4, &[32])]);
     assert_eq!(printed, "refused 7\nimport 2\n");
-    assert_eq!(text(&[&[16, 2_049], &card(1, 9, &[])]), "refused 7\n");
+    assert_eq!(text(&[&[16, 2_049], &encoding(1, 9, &[])]), "refused 7\n");
 }
 
 #[test]
-fn words_of_a_card_are_bytes() {
+fn words_of_a_encoding_are_bytes() {
     let start = [16, 16];
-    assert_eq!(text(&[&start, &card(0, 0, &[])]), "refused 12\n");
-    assert_eq!(text(&[&start, &card(0, u32::MAX, &[])]), "refused 12\n");
+    assert_eq!(text(&[&start, &encoding(0, 0, &[])]), "refused 12\n");
+    assert_eq!(text(&[&start, &encoding(0, u32::MAX, &[])]), "refused 12\n");
     assert_eq!(text(&[&start, &[9, 0, 4, 1, 255]]), "refused 12\n");
     assert_eq!(text(&[&start, &[9, 0, 4, 1, 256]]), "Script\n");
-    // Cut to eight bits this would be a card.
+    // Cut to eight bits this would be an encoding.
     assert_eq!(text(&[&start, &[9, 0, 4, 1, 256 + 32]]), "Script\n");
     assert_eq!(text(&[&start, &[9, 0, 4, 2, 32, u32::MAX]]), "Script\n");
-    // The longest card is lent, a longer one is not.
-    let zeros = |count: usize| card(0, 4, &[&[32][..], &vec![0; count - 1]].concat());
+    // The longest encoding is lent, a longer one is not.
+    let zeros = |count: usize| encoding(0, 4, &[&[32][..], &vec![0; count - 1]].concat());
     assert_eq!(text(&[&start, &zeros(8_196)]), "import 2\n");
     assert_eq!(text(&[&start, &zeros(8_197)]), "Script\n");
     // A byte that is none comes before a wrong workspace.

@@ -1,4 +1,4 @@
--- `import` meets its contract: the card that is imported is the words of the room, as bytes.
+-- `import` meets its contract: the encoding that is imported is the words of the room, as bytes.
 use Prim.Native.Nat.{ℕ}
 use mathlib.Core.Path.{_∙_}
 use native.Mathlib.Omega.{arith}
@@ -20,8 +20,8 @@ slice-aggregate-import-into c = put-counted (part-few _ _ _ (c .before .before .
 returns : tie.Need-returns
 returns c =
     let start = c .before .before .before .before .before .before .before .before .before .before .before .before .before .before .before .before in
-    let card = start .args .card in
-    let is = put-is (part-few _ _ _ (start .pre)) (c .before .before .before .before .before .before .before .before .before .narrow .ensures) ∙ part-is (start .args .room .now) (card .at) (card .bytes) in
+    let encoded = start .args .encoded in
+    let is = put-is (part-few _ _ _ (start .pre)) (c .before .before .before .before .before .before .before .before .before .narrow .ensures) ∙ part-is (start .args .room .now) (encoded .at) (encoded .bytes) in
     rw is at (c .before .before .before .before .import-into .ensures)
 
 pub import-spec : {M : Type 1} → statement M

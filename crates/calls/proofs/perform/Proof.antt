@@ -9,7 +9,7 @@ use Rattle.tables.specs.Types.{writtenOf}
 use Rattle.encoding.specs.Export.{Exported, export}
 use Rattle.binary.specs.Types.{exportedOf}
 use Rattle.script.specs.declared.Side.{Side}
-use Rattle.script.specs.declared.Card.{Card}
+use Rattle.script.specs.declared.Encoded.{Encoded}
 use Rattle.script.specs.declared.Operation.{Operation}
 use Rattle.script.specs.declared.Operation.the-variants as operation
 use Rattle.script.specs.Script.{Bytes, Fits}
@@ -35,18 +35,18 @@ slice-relend-prefix-write c = let start = c .before .before .before .before .bef
 slice-aggregate-write : tie.Need-slice-aggregate-write
 slice-aggregate-write c = let start = c .before .before .before .before .before .before .before .before .before .before in sym (take-full (start .args .room .now) (within-room (subst (Fits _) (c .before .before .before .before .operation4 .given .1) (start .pre .0))) (start .pre .1 .room-full))
 
--- The bytes of a line and of a card stand in the room.
+-- The bytes of a line and of an encoding stand in the room.
 line-fits : (room : List ℕ) {o : Operation} {side : Side} {at n : ℕ} → o ≡ operation.Line side at n → Fits room o → Bytes room at n
 line-fits room e fits = subst (Fits room) e fits
 
-card-fits : (room : List ℕ) {o : Operation} {card : Card} → o ≡ operation.Import card → Fits room o → Bytes room (card .at) (card .bytes)
-card-fits room e fits = subst (Fits room) e fits
+encoded-fits : (room : List ℕ) {o : Operation} {encoded : Encoded} → o ≡ operation.Import encoded → Fits room o → Bytes room (encoded .at) (encoded .bytes)
+encoded-fits room e fits = subst (Fits room) e fits
 
 line-requires : tie.Need-line-requires
 line-requires c κs = line-fits _ (c .before .before .before .before .operation7 .given .1) (c .before .before .before .before .before .before .before .before .before .before .pre .0)
 
 import-requires : tie.Need-import-requires
-import-requires c κs = card-fits _ (c .before .before .before .before .operation8 .given .1) (c .before .before .before .before .before .before .before .before .before .before .pre .0)
+import-requires c κs = encoded-fits _ (c .before .before .before .before .operation8 .given .1) (c .before .before .before .before .before .before .before .before .before .before .pre .0)
 
 slice-relend-prefix-export : tie.Need-slice-relend-prefix-export
 slice-relend-prefix-export c = let start = c .before .before .before .before .before .before .before .before .before in fits-full (start .args .room .now) (within-room (subst (Fits _) (c .before .before .before .operation9 .given .1) (start .pre .0))) (start .pre .1 .room-full)

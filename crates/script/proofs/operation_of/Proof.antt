@@ -26,7 +26,7 @@ returns-7 : tie.Need-returns-7
 returns-7 c = rw (c .before .before .match .keys7, c .before .side-of4 .ensures)
 
 returns-8 : tie.Need-returns-8
-returns-8 c = rw (c .before .match .keys8, c .card-in .ensures)
+returns-8 c = rw (c .before .match .keys8, c .encoded-in .ensures)
 
 returns-9 : tie.Need-returns-9
 returns-9 c = rw (c .before .before .before .match .keys9, c .before .before .side-of5 .ensures)

@@ -1,8 +1,8 @@
 //! Inputs for the programs, made from seeds alone.
 
-pub mod card_damage;
-pub mod cards;
 pub mod damage;
+pub mod encoding_damage;
+pub mod encodings;
 pub mod families;
 pub mod inputs;
 pub mod line_damage;

@@ -40,7 +40,7 @@ const SUBJECTS: [fn(&mut Random) -> Composer; 12] = [
     defaults,
 ];
 
-/// The script of one case of a run; every one has cards at its end.
+/// The script of one case of a run; every one has encodings at its end.
 pub fn script(seed: u64, case: u64) -> Vec<u8> {
     let mut random = Random::new(seed, case);
     let subjects = SUBJECTS.len() as u64;
@@ -761,8 +761,8 @@ fn broken_script(random: &mut Random, composer: Composer) -> Vec<u8> {
     bytes(&words)
 }
 
-/// A line, or a card of so many bits, with a word that is no byte; cut to eight
-/// bits it would be one.
+/// A line, or an encoding of so many bits, with a word that is no byte; cut to
+/// eight bits it would be one.
 fn wrong_byte(random: &mut Random, operation: &[u32]) -> Vec<u32> {
     let digit = u32::from(b'0');
     let count = random.between(1, 5);

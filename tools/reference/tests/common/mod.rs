@@ -1,13 +1,13 @@
 //! Short ways to say what the tests expect.
 #![allow(dead_code)]
 
-pub mod cards;
 pub mod census;
+pub mod encodings;
 pub mod lines;
 pub mod presses;
 
-use reference::card::import;
 use reference::contraction::step;
+use reference::encoding::import;
 use reference::line::read_line;
 use reference::press::{press, Answer, Session, Verdict};
 use reference::refusal::Refusal;
@@ -106,7 +106,7 @@ pub fn typed(line: &[u8], capacity: usize) -> (Result<u32, Refusal>, Vec<u32>) {
     (answer, workspace)
 }
 
-/// Imports a card into a workspace of `capacity` words; the answer and the
+/// Imports an encoding into a workspace of `capacity` words; the answer and the
 /// words.
 pub fn carried(bytes: &[u8], count: u32, capacity: usize) -> (Result<u32, Refusal>, Vec<u32>) {
     let mut workspace = vec![77; capacity];

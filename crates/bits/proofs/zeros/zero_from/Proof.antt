@@ -4,7 +4,7 @@ use mathlib.Core.Path.{_≡_, refl, _∙_}
 use native.Mathlib.Omega.{arith}
 use lib.ListN.{length, drop}
 use Rattle.encoding.specs.Bytes.{unpacked}
-use Rattle.encoding.specs.Card.{allZero}
+use Rattle.encoding.specs.Encoded.{allZero}
 use Rattle.bits.proofs.ZeroLaws.{zero-byte, other-byte, no-byte}
 use Rattle.bits.proofs.zeros.zero_from.Statement.{statement}
 use Rattle.bits.proofs.zeros.zero_from.Tie as tie

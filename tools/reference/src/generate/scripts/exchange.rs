@@ -1,16 +1,16 @@
-//! Cards at the end of every script, on what its other calls leave.
+//! Encodings at the end of every script, on what its other calls leave.
 
 use super::{any_side, store_changed, store_faulty, wrong_length, Composer, FEW_ROUNDS};
-use crate::card::bits_of;
+use crate::encoding::bits_of;
 use crate::exchange::OTHERS;
-use crate::generate::cards::{self, any_closed, without_card, Card};
+use crate::generate::encodings::{self, any_closed, without_encoding, Encoding};
 use crate::press::{term_in, Side};
 use crate::random::Random;
 use crate::replay::Operation;
 use crate::table::LONGEST_TABLE;
 use crate::term::{Term, WORKSPACE};
 
-/// Exports of the forms that are there, then cards and exports of every kind.
+/// Exports of the forms that are there, then encodings and exports of every kind.
 pub fn exchange(random: &mut Random, composer: &mut Composer) {
     composer.budget = composer.budget.min(FEW_ROUNDS);
     for side in [Side::Left, Side::Right] {
@@ -40,7 +40,7 @@ fn any_exchange(random: &mut Random, composer: &mut Composer) {
     let side = any_side(random);
     let room = composer.room(side);
     match random.below(20) {
-        0..=7 => composer.any_card(random),
+        0..=7 => composer.any_encoding(random),
         8..=10 => {
             let term = any_closed(random, room);
             composer.bring(random, side, &term);
@@ -53,7 +53,7 @@ fn any_exchange(random: &mut Random, composer: &mut Composer) {
         }
         12..=16 => {
             let other = random.pick(&OTHERS);
-            let term = without_card(random, other, room);
+            let term = without_encoding(random, other, room);
             composer.load_table(random, side, &term);
             composer.export(random, side, 30);
         }
@@ -82,40 +82,40 @@ impl Composer {
         length.clamp(*WORKSPACE.start(), *WORKSPACE.end())
     }
 
-    fn import(&mut self, side: Side, card: Card) {
-        let Card { bytes, count } = card;
+    fn import(&mut self, side: Side, encoding: Encoding) {
+        let Encoding { bytes, count } = encoding;
         self.add(Operation::Import { side, count, bytes });
     }
 
-    /// A card of any kind, most often one that is refused.
-    fn any_card(&mut self, random: &mut Random) {
+    /// An encoding of any kind, most often one that is refused.
+    fn any_encoding(&mut self, random: &mut Random) {
         let side = any_side(random);
-        let card = cards::any(random, self.room(side));
-        self.import(side, card);
+        let encoding = encodings::any(random, self.room(side));
+        self.import(side, encoding);
     }
 
-    /// Brings a closed term in by a card, a line or a table.
+    /// Brings a closed term in by an encoding, a line or a table.
     fn bring(&mut self, random: &mut Random, side: Side, term: &Term) {
         match random.below(4) {
             0 => self.type_in(random, side, term),
             1 => self.load_table(random, side, term),
-            _ => self.import(side, Card::of(term).with_spare(random)),
+            _ => self.import(side, Encoding::of(term).with_spare(random)),
         }
     }
 
-    /// The card of a side's term, if it has one.
-    fn card(&self, side: Side) -> Option<Card> {
+    /// The encoding of a side's term, if it has one.
+    fn encoding(&self, side: Side) -> Option<Encoding> {
         let term = term_in(self.workspace(side), self.length(side)).ok()?;
         let bits = bits_of(&term).filter(|_| term.is_closed())?;
-        Some(Card::of_bits(&bits))
+        Some(Encoding::of_bits(&bits))
     }
 
     /// Exports a side's term, with `wrong` of 100 lengths wrong, or more where
     /// the workspace is, into enough bytes, too few or more.
     fn export(&mut self, random: &mut Random, side: Side, wrong: usize) {
         let length = self.length(side);
-        let enough = match self.card(side) {
-            Some(card) => card.bytes.len(),
+        let enough = match self.encoding(side) {
+            Some(encoding) => encoding.bytes.len(),
             None => (length as usize).div_ceil(3),
         };
         let any = random.below(enough + 1);
@@ -142,19 +142,19 @@ impl Composer {
 
     /// Exports a side's term, and imports what was exported.
     fn there_and_back(&mut self, random: &mut Random, side: Side) {
-        let Some(card) = self.card(side) else {
+        let Some(encoding) = self.encoding(side) else {
             return self.export(random, side, 10);
         };
-        let card = card.with_spare(random);
-        let bytes = card.bytes.len().min(LONGEST_TABLE);
+        let encoding = encoding.with_spare(random);
+        let bytes = encoding.bytes.len().min(LONGEST_TABLE);
         let length = self.length(side);
         self.add(Operation::Export {
             side,
             length,
             bytes,
         });
-        if bytes == card.bytes.len() {
-            self.import(any_side(random), card);
+        if bytes == encoding.bytes.len() {
+            self.import(any_side(random), encoding);
         }
     }
 
@@ -163,8 +163,8 @@ impl Composer {
         // With 321 items they are 7 less, with one more they are too many.
         let items = random.between(321, 322);
         let term = match random.percent(50) {
-            true => cards::wide(random),
-            false => cards::wide_of(200, items),
+            true => encodings::wide(random),
+            false => encodings::wide_of(200, items),
         };
         if term.size() > self.room(side) {
             return self.there_and_back(random, side);

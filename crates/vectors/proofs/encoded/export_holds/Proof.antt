@@ -2,10 +2,10 @@
 use mathlib.Core.Path.{_∙_, ap}
 use Rattle.vector_text.proofs.ListLaws.{lent-words, lent-length}
 use Rattle.vectors.specs.Pair.{room, junk}
-use Rattle.vectors.specs.Carded.{exportsWords, exportHolds}
+use Rattle.vectors.specs.Encoded.{exportsWords, exportHolds}
 use borrow.Author.Needs.{needs}
-use Rattle.vectors.proofs.carded.export_holds.Statement.{statement}
-use Rattle.vectors.proofs.carded.export_holds.Tie as tie
+use Rattle.vectors.proofs.encoded.export_holds.Statement.{statement}
+use Rattle.vectors.proofs.encoded.export_holds.Tie as tie
 
 slice-aggregate-exports-words : tie.Need-slice-aggregate-exports-words
 slice-aggregate-exports-words c = lent-length junk (c .before .before .before .read-number .result .value) room _ (c .before .lent .ensures)

@@ -1,9 +1,9 @@
 // Vectors of importing and exporting.
 //
-//     import C count bytes gives words                the card of these bytes with this bit count is imported as these words, and exporting them gives the
+//     import C count bytes gives words                the encoding of these bytes with this bit count is imported as these words, and exporting them gives the
 //                                                     count and the bytes again
 //     import C count bytes Refused number             a refusal, which changes nothing
-//     export C words length size writes count bytes   exporting gives a card: this bit count and these bytes
+//     export C words length size writes count bytes   exporting gives an encoding: this bit count and these bytes
 //     export C words length size Refused number
 //
 // The workspace has C words, and the bytes that are written are `size`, or as many as were imported: all junk before the call, and every word and byte is
@@ -33,17 +33,17 @@ ghost use lib.ListN.{length};
 ghost use Rattle.binary.specs.Types.{exportedOf};
 ghost use Rattle.vector_text.specs.Lists.{listMost};
 ghost use Rattle.vectors.specs.Stored.{verifiedOf};
-ghost use Rattle.vectors.specs.Carded.{exportedInto, exportsBack, importing, importHolds, exportedAs, exportsWords, exportHolds};
+ghost use Rattle.vectors.specs.Encoded.{exportedInto, exportsBack, importing, importHolds, exportedAs, exportsWords, exportHolds};
 
 // Exports into as many bytes of junk as there are words, which then are those bytes.
-fn export_widened(workspace: &[u32], len: usize, card: &mut [u32]) -> Answer
-    requires { ⌜ length (now card) ≤ listMost ⌝ }
-    ensures { λ r. ⌜ exportedOf r (now (card .exit)) ≡ exportedInto (now (workspace .entry)) len (length (now (card .entry))) ⌝ }
+fn export_widened(workspace: &[u32], len: usize, encoded: &mut [u32]) -> Answer
+    requires { ⌜ length (now encoded) ≤ listMost ⌝ }
+    ensures { λ r. ⌜ exportedOf r (now (encoded .exit)) ≡ exportedInto (now (workspace .entry)) len (length (now (encoded .entry))) ⌝ }
 {
     let mut bytes = [JUNK as u8; LIST_MOST];
-    let n = lent(card.len(), LIST_MOST);
+    let n = lent(encoded.len(), LIST_MOST);
     let answer = export(workspace, len, &mut bytes[..n]);
-    widen(&bytes[..n], card);
+    widen(&bytes[..n], encoded);
     answer
 }
 
@@ -51,10 +51,10 @@ fn export_widened(workspace: &[u32], len: usize, card: &mut [u32]) -> Answer
 fn exports_back(workspace: &[u32], len: usize, count: usize, bytes: &[u32]) -> bool
     ensures { λ r. ⌜ r ≡ exportsBack (now (workspace .entry)) len count (now (bytes .entry)) ⌝ }
 {
-    let mut card = [0u32; LIST_MOST];
+    let mut encoded = [0u32; LIST_MOST];
     let n = lent(bytes.len(), LIST_MOST);
-    let answer = export_widened(workspace, len, &mut card[..n]);
-    returns_count(answer, count) & holds(&card[..n], bytes, bytes.len(), JUNK)
+    let answer = export_widened(workspace, len, &mut encoded[..n]);
+    returns_count(answer, count) & holds(&encoded[..n], bytes, bytes.len(), JUNK)
 }
 
 // Whether importing the bytes that these words are goes as the line says, to its end. A term that was brought is exported too.
@@ -97,28 +97,28 @@ pub fn import_holds(line: &[u8], at: usize) -> bool
 }
 
 // Whether what exporting answered and wrote is what the line says, to its end.
-fn exports(line: &[u8], at: usize, answer: Answer, card: &[u32]) -> bool
-    ensures { λ r. ⌜ r ≡ exportedAs (now (line .entry)) at (exportedOf answer (now (card .entry))) ⌝ }
+fn exports(line: &[u8], at: usize, answer: Answer, encoded: &[u32]) -> bool
+    ensures { λ r. ⌜ r ≡ exportedAs (now (line .entry)) at (exportedOf answer (now (encoded .entry))) ⌝ }
 {
     let from = after(line, at, b"Refused");
     if from != NOWHERE {
-        return refuses(line, from, answer, card);
+        return refuses(line, from, answer, encoded);
     }
     let count = read_number(line, after(line, at, b"writes"));
-    returns_count(answer, count.value as usize) & is_last(line, count.next, card)
+    returns_count(answer, count.value as usize) & is_last(line, count.next, encoded)
 }
 
 // The words in the workspace, then the length and the size that exporting gets.
 fn exports_words(line: &[u8], at: usize, workspace: &mut [u32]) -> bool
     ensures { λ r. ⌜ verifiedOf r (now (workspace .exit)) ≡ exportsWords (now (line .entry)) at (now (workspace .entry)) ⌝ }
 {
-    let mut card = [0u32; LIST_MOST];
+    let mut encoded = [0u32; LIST_MOST];
     let words = read_list(line, at, workspace);
     let length = read_number(line, words.next);
     let size = read_number(line, length.next);
     let n = lent(size.value as usize, LIST_MOST);
-    let answer = export_widened(workspace, length.value as usize, &mut card[..n]);
-    exports(line, size.next, answer, &card[..n])
+    let answer = export_widened(workspace, length.value as usize, &mut encoded[..n]);
+    exports(line, size.next, answer, &encoded[..n])
 }
 
 // Whether a line is right, from its size on.

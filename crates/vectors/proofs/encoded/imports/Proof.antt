@@ -5,12 +5,12 @@ use borrow.Author.Tests.{not-true, not-false}
 use Rattle.encoding.specs.Import.{import}
 use Rattle.words.specs.Types.{broughtOf}
 use Rattle.vectors.specs.Stored.{verifiedOf, endsAs}
-use Rattle.vectors.specs.Carded.{importingOf}
+use Rattle.vectors.specs.Encoded.{importingOf}
 use Rattle.vectors.proofs.TypedLaws.{placed-start, placed-count}
-use Rattle.vectors.proofs.CardedLaws.{import-bytes, import-others, import-ends, import-exports}
+use Rattle.vectors.proofs.EncodedLaws.{import-bytes, import-others, import-ends, import-exports}
 use borrow.Author.Needs.{needs}
-use Rattle.vectors.proofs.carded.imports.Statement.{statement}
-use Rattle.vectors.proofs.carded.imports.Tie as tie
+use Rattle.vectors.proofs.encoded.imports.Statement.{statement}
+use Rattle.vectors.proofs.encoded.imports.Tie as tie
 
 returns : tie.Need-returns
 returns c = sym (import-others _ _ _ _ _ (sym (c .before .are-bytes .ensures) ∙ not-true _ (c .if1 .taken)))

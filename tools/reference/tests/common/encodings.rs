@@ -4,14 +4,14 @@ use reference::generate::scripts;
 use reference::press::Side;
 use reference::replay::{run_watched, Machine, Operation};
 
-/// A card with the words of the workspace before it is imported.
+/// An encoding with the words of the workspace before it is imported.
 pub struct Imported {
     pub bytes: Vec<u8>,
     pub count: u32,
     pub workspace: Vec<u32>,
 }
 
-/// A workspace with the length of its term and the bytes for its card.
+/// A workspace with the length of its term and the bytes for its encoding.
 pub struct Exported {
     pub workspace: Vec<u32>,
     pub length: u32,

@@ -1,22 +1,21 @@
-//! A term as a card of bits, in Tromp's binary lambda calculus: import and
-//! export.
+//! A term as bits, in Tromp's binary lambda calculus: import and export.
 
 use crate::press::{put, term_in};
 use crate::refusal::Refusal;
 use crate::term::{abs, app, var, Term, WORKSPACE};
 use std::fmt;
 
-/// Brings the term of a card into a workspace and returns the term's length.
+/// Brings the term of an encoding into a workspace and returns the term's length.
 pub fn import(bytes: &[u8], count: u32, workspace: &mut [u32]) -> Result<u32, Refusal> {
     if !WORKSPACE.contains(&workspace.len()) {
         return Err(Refusal::Workspace);
     }
-    let term = term_of(bytes, count).map_err(|_| Refusal::Card)?;
+    let term = term_of(bytes, count).map_err(|_| Refusal::Bits)?;
     if term.size() > workspace.len() {
         return Err(Refusal::TooLong);
     }
     if !term.is_closed() {
-        return Err(Refusal::NoCard);
+        return Err(Refusal::NoEncoding);
     }
     Ok(put(workspace, &term))
 }
@@ -30,7 +29,7 @@ pub fn export(workspace: &[u32], length: u32, bytes: &mut [u8]) -> Result<u32, R
     let term = term_in(workspace, length)?;
     let bits = match bits_of(&term) {
         Some(bits) if term.is_closed() => bits,
-        _ => return Err(Refusal::NoCard),
+        _ => return Err(Refusal::NoEncoding),
     };
     let filled = packed(&bits);
     if filled.len() > bytes.len() {
@@ -41,7 +40,7 @@ pub fn export(workspace: &[u32], length: u32, bytes: &mut [u8]) -> Result<u32, R
     Ok(bits.len() as u32)
 }
 
-/// What is wrong with a card.
+/// What is wrong with an encoding.
 #[derive(Clone, Copy, Debug, PartialEq, Eq)]
 pub enum Fault {
     /// The count goes past the bytes.
@@ -67,8 +66,8 @@ impl fmt::Display for Fault {
     }
 }
 
-/// The term of a card, which need be neither closed nor short; the last fault
-/// is found only where there is no other.
+/// The term of an encoding, which need be neither closed nor short; the last
+/// fault is found only where there is no other.
 pub fn term_of(bytes: &[u8], count: u32) -> Result<Term, Fault> {
     let bits = bits(bytes);
     let (counted, padding) = bits.split_at_checked(count as usize).ok_or(Fault::Count)?;

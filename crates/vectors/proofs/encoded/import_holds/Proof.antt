@@ -6,10 +6,10 @@ use lib.ListN.{take}
 use Rattle.vector_text.specs.Lists.{listMost}
 use Rattle.vector_text.proofs.ListLaws.{lent-words, lent-length, part-length}
 use Rattle.vectors.specs.Pair.{room, junk, junkWords}
-use Rattle.vectors.specs.Carded.{importing, importHolds}
+use Rattle.vectors.specs.Encoded.{importing, importHolds}
 use borrow.Author.Needs.{needs}
-use Rattle.vectors.proofs.carded.import_holds.Statement.{statement}
-use Rattle.vectors.proofs.carded.import_holds.Tie as tie
+use Rattle.vectors.proofs.encoded.import_holds.Statement.{statement}
+use Rattle.vectors.proofs.encoded.import_holds.Tie as tie
 
 slice-aggregate-imports : tie.Need-slice-aggregate-imports
 slice-aggregate-imports c = part-length 0 (c .before .before .before .before .before .before .read-list .result .count) listMost _ (c .before .before .before .before .lent .ensures) (c .before .before .before .before .before .before .read-list .last .1 .1 .0) (c .before .before .before .before .before .before .read-list .kept .1 .1 .0)

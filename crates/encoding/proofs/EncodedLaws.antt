@@ -1,4 +1,4 @@
--- A card is one term's at most, and passes refusal 12 exactly if it is a term's.
+-- An encoding is one term's at most, and passes refusal 12 exactly if it is a term's.
 use Prim.Native.Nat.{ℕ, zero, suc, _*_, _-_, _≤_}
 use mathlib.Core.Path.{_≡_, refl, sym, ap, _∙_}
 use mathlib.Core.Bool.{Bool, true, false, not, _||_, true≢false, false≢true}
@@ -14,8 +14,8 @@ use Rattle.calculus.specs.Term.{Term}
 use Rattle.calculus.specs.Bringing.{isNone}
 use Rattle.encoding.specs.Bits.{bits, Combinator}
 use Rattle.encoding.specs.Bytes.{byteBits, unpacked}
-use Rattle.encoding.specs.Card.{cardTerm, allZero, wrongBits, combinator?, isCombinator}
-use Rattle.encoding.specs.Theorems.{CardOf, Card-unique}
+use Rattle.encoding.specs.Encoded.{encodedTerm, allZero, wrongBits, combinator?, isCombinator}
+use Rattle.encoding.specs.Theorems.{EncodingOf, Encoding-unique}
 use Rattle.encoding.proofs.DecodeLaws.{decode-complete, decode-sound, bits-prefix-free}
 use Rattle.encoding.proofs.BytesLaws.{length-unpacked}
 
@@ -32,8 +32,8 @@ combinator-is t q = go (combinator? 0 t) q
     go (yes h) e = h
     go (no h) e = absurd (false≢true e)
 
-pub card-unique : Card-unique
-card-unique bytes count t u c d = bits-prefix-free t u _ _ (c .pure) (d .pure) (sym (c .bits-are) ∙ d .bits-are) .0
+pub encoding-unique : Encoding-unique
+encoding-unique bytes count t u c d = bits-prefix-free t u _ _ (c .pure) (d .pure) (sym (c .bits-are) ∙ d .bits-are) .0
 
 pub zeros : (n : ℕ) → allZero (replicate n false) ≡ true
 zeros zero = refl
@@ -44,15 +44,15 @@ all-zeros [] h = refl
 all-zeros (true ∷ bs) h = absurd (false≢true h)
 all-zeros (false ∷ bs) h = ap (λ cs. false ∷ cs) (all-zeros bs h)
 
-module _ (t : Term) (bytes : List ℕ) (count : ℕ) (c : CardOf t bytes count) where
-  pub card-term : cardTerm bytes count ≡ some t
-  card-term = rw (c .bits-are, take-at (bits t) _ count (c .counted)) (decode-complete t (c .pure))
+module _ (t : Term) (bytes : List ℕ) (count : ℕ) (c : EncodingOf t bytes count) where
+  pub encoded-term : encodedTerm bytes count ≡ some t
+  encoded-term = rw (c .bits-are, take-at (bits t) _ count (c .counted)) (decode-complete t (c .pure))
 
   pub count-fits : count ≤ byteBits * length bytes
   count-fits = omega (arith, length-unpacked bytes, ap length (c .bits-are), length-append (bits t) (replicate (byteBits * length bytes - count) false))
 
-  pub card-right : wrongBits bytes count ≡ false
-  card-right = rw (le-ltb (byteBits * length bytes) count count-fits, card-term, c .bits-are, drop-at (bits t) _ count (c .counted), zeros)
+  pub encoding-right : wrongBits bytes count ≡ false
+  encoding-right = rw (le-ltb (byteBits * length bytes) count count-fits, encoded-term, c .bits-are, drop-at (bits t) _ count (c .counted), zeros)
 
 or-false : (a b : Bool) → (a || b) ≡ false → (a ≡ false) × (b ≡ false)
 or-false true b h = absurd (true≢false h)
@@ -60,16 +60,16 @@ or-false false b h = (refl, h)
 
 -- What refusal 12 asks, where it is not met.
 pub right-bits : (bytes : List ℕ) (count : ℕ) → wrongBits bytes count ≡ false
-    → (count ≤ byteBits * length bytes) × (allZero (drop count (unpacked bytes)) ≡ true) × (isNone (cardTerm bytes count) ≡ false)
+    → (count ≤ byteBits * length bytes) × (allZero (drop count (unpacked bytes)) ≡ true) × (isNone (encodedTerm bytes count) ≡ false)
 right-bits bytes count h =
     let p = or-false (ltb (byteBits * length bytes) count) _ h in
     let q = or-false (not (allZero (drop count (unpacked bytes)))) _ (p .1) in
     (ltb-false (byteBits * length bytes) count (p .0), not-false _ (q .0), q .1)
 
 -- Every bit past the count is 0, and the first bits are the term's.
-pub card-is : (bytes : List ℕ) (count : ℕ) (t : Term) → count ≤ byteBits * length bytes → allZero (drop count (unpacked bytes)) ≡ true
-    → cardTerm bytes count ≡ some t → CardOf t bytes count
-card-is bytes count t h z e =
+pub encoding-is : (bytes : List ℕ) (count : ℕ) (t : Term) → count ≤ byteBits * length bytes → allZero (drop count (unpacked bytes)) ≡ true
+    → encodedTerm bytes count ≡ some t → EncodingOf t bytes count
+encoding-is bytes count t h z e =
     let found = decode-sound (take count (unpacked bytes)) t e in
     let total = length-unpacked bytes in
     let past : length (drop count (unpacked bytes)) ≡ byteBits * length bytes - count = length-drop count (unpacked bytes) ∙ ap (λ n. n - count) total in
@@ -79,10 +79,10 @@ card-is bytes count t h z e =
       bits-are = sym (take-append-drop count (unpacked bytes)) ∙ cc (all-zeros (drop count (unpacked bytes)) z);
     }
 
-pub card-found : (bytes : List ℕ) (count : ℕ) → wrongBits bytes count ≡ false → (t : Term) × CardOf t bytes count
-card-found bytes count h = go (cardTerm bytes count) refl (right-bits bytes count h)
+pub encoding-found : (bytes : List ℕ) (count : ℕ) → wrongBits bytes count ≡ false → (t : Term) × EncodingOf t bytes count
+encoding-found bytes count h = go (encodedTerm bytes count) refl (right-bits bytes count h)
   where
-    go : (o : Option Term) → cardTerm bytes count ≡ o
-        → (count ≤ byteBits * length bytes) × (allZero (drop count (unpacked bytes)) ≡ true) × (isNone o ≡ false) → (t : Term) × CardOf t bytes count
+    go : (o : Option Term) → encodedTerm bytes count ≡ o
+        → (count ≤ byteBits * length bytes) × (allZero (drop count (unpacked bytes)) ≡ true) × (isNone o ≡ false) → (t : Term) × EncodingOf t bytes count
     go none e r = absurd (true≢false (r .2))
-    go (some t) e r = (t, card-is bytes count t (r .0) (r .1) e)
+    go (some t) e r = (t, encoding-is bytes count t (r .0) (r .1) e)

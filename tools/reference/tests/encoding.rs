@@ -1,17 +1,17 @@
-//! Cards of bits and their terms; expectations follow from the encoding. Words
-//! are 8 times the index for a variable, 1 for an abstraction and 2 for an
+//! Encodings and their terms; expectations follow from the rule for the bits.
+//! Words are 8 times the index for a variable, 1 for an abstraction and 2 for an
 //! application.
 
 mod common;
 
 use common::{carried, term, workspace};
-use reference::card::{bits, bits_of, export, packed, term_of, Fault, FAULTS};
+use reference::encoding::{bits, bits_of, export, packed, term_of, Fault, FAULTS};
 use reference::on_large_stack;
 use reference::refusal::Refusal;
 use reference::term::{abs, var};
 
 /// The bits as bytes, zeros at the end, and their count.
-fn card(text: &str) -> (Vec<u8>, u32) {
+fn encoding(text: &str) -> (Vec<u8>, u32) {
     let bytes = text.as_bytes().chunks(8).map(|part| {
         let place = |(at, bit): (usize, &u8)| u8::from(*bit == b'1') << (7 - at);
         part.iter().enumerate().map(place).sum()
@@ -27,7 +27,7 @@ fn assert_gives(bytes: &[u8], count: u32, capacity: usize, words: &[u32]) {
     assert_eq!(carried(bytes, count, capacity), expected, "{bytes:?}");
 }
 
-/// The card is refused, and every word stays.
+/// The encoding is refused, and every word stays.
 fn assert_refused(bytes: &[u8], count: u32, capacity: usize, refusal: Refusal) {
     let expected = (Err(refusal), vec![77; capacity]);
     assert_eq!(
@@ -38,7 +38,7 @@ fn assert_refused(bytes: &[u8], count: u32, capacity: usize, refusal: Refusal) {
 }
 
 fn assert_faulty(bytes: &[u8], count: u32, fault: Fault) {
-    assert_refused(bytes, count, 64, Refusal::Card);
+    assert_refused(bytes, count, 64, Refusal::Bits);
     assert_eq!(term_of(bytes, count), Err(fault), "{bytes:?} {count}");
 }
 
@@ -49,9 +49,9 @@ fn exported(
     capacity: usize,
     bytes: usize,
 ) -> (Result<u32, Refusal>, Vec<u8>) {
-    let mut card = vec![7; bytes];
-    let answer = export(&workspace(words, capacity), length, &mut card);
-    (answer, card)
+    let mut encoding = vec![7; bytes];
+    let answer = export(&workspace(words, capacity), length, &mut encoding);
+    (answer, encoding)
 }
 
 /// Export is refused, and every byte stays.
@@ -65,7 +65,7 @@ fn assert_kept(words: &[u32], length: u32, capacity: usize, bytes: usize, refusa
 }
 
 /// Bits, the bytes that they fill, and the words of their term.
-const CARDS: [(&str, &[u8], &[u32]); 7] = [
+const ENCODINGS: [(&str, &[u8], &[u32]); 7] = [
     // \ 0
     ("0010", &[32], &[1, 0]),
     // K is \ \ 1.
@@ -95,9 +95,9 @@ const CARDS: [(&str, &[u8], &[u32]); 7] = [
 ];
 
 #[test]
-fn cards_and_their_terms() {
-    for (text, bytes, words) in CARDS {
-        let (packed, count) = card(text);
+fn encodings_and_their_terms() {
+    for (text, bytes, words) in ENCODINGS {
+        let (packed, count) = encoding(text);
         assert_eq!(packed, bytes, "{text}");
         assert_gives(bytes, count, 16, words);
         assert_gives(bytes, count, 2_048, words);
@@ -134,7 +134,7 @@ fn bits_and_bytes() {
 fn only_three_kinds_have_bits() {
     // f0 and f1 (\ 0); f0 as argument of a constructor, as subject, numeral 0.
     let open = bits_of(&term(&[2, 8, 1, 0])).expect("a term of three kinds");
-    assert_eq!(packed(&open), card("011100010").0);
+    assert_eq!(packed(&open), encoding("011100010").0);
     for words in [&[131][..], &[139, 0], &[4, 0], &[6]] {
         assert_eq!(bits_of(&term(words)), None, "{words:?}");
     }
@@ -157,7 +157,7 @@ fn a_count_past_the_bytes() {
         assert_faulty(bytes, count, Fault::Count);
     }
     // The last bit of K is in no byte; a zero would end it.
-    assert_faulty(&card("0000000110").0[..1], 10, Fault::Count);
+    assert_faulty(&encoding("0000000110").0[..1], 10, Fault::Count);
 }
 
 #[test]
@@ -180,8 +180,8 @@ fn bits_that_end_early() {
     ] {
         assert_faulty(bytes, count, Fault::End);
     }
-    for (text, ..) in CARDS {
-        let (bytes, count) = card(&text[..text.len() - 1]);
+    for (text, ..) in ENCODINGS {
+        let (bytes, count) = encoding(&text[..text.len() - 1]);
         assert_faulty(&bytes, count, Fault::End);
     }
 }
@@ -201,9 +201,9 @@ fn bits_that_are_left_over() {
     ] {
         assert_faulty(bytes, count, Fault::LeftOver);
     }
-    for (text, ..) in CARDS {
+    for (text, ..) in ENCODINGS {
         for bit in ["0", "1"] {
-            let (bytes, count) = card(&format!("{text}{bit}"));
+            let (bytes, count) = encoding(&format!("{text}{bit}"));
             assert_faulty(&bytes, count, Fault::LeftOver);
         }
     }
@@ -233,7 +233,7 @@ fn padding_that_is_broken() {
 #[test]
 fn every_fault_is_one_of_the_list() {
     let faults = [(&[32][..], 9), (&[32], 3), (&[32], 5), (&[33], 4)];
-    let faults = faults.map(|(bytes, count)| term_of(bytes, count).expect_err("no card"));
+    let faults = faults.map(|(bytes, count)| term_of(bytes, count).expect_err("no encoding"));
     assert_eq!(faults, FAULTS);
 }
 
@@ -244,12 +244,12 @@ fn under(binders: usize, index: usize) -> String {
 
 #[test]
 fn terms_that_do_not_fit() {
-    let (bytes, count) = card(&under(16, 0));
+    let (bytes, count) = encoding(&under(16, 0));
     assert_eq!((&bytes[..], count), (&[0, 0, 0, 0, 128][..], 34));
     assert_refused(&bytes, count, 16, Refusal::TooLong);
     let words = [&[1; 16][..], &[0]].concat();
     assert_gives(&bytes, count, 17, &words);
-    let (bytes, count) = card(&under(15, 14));
+    let (bytes, count) = encoding(&under(15, 14));
     assert_gives(&bytes, count, 16, &[&[1; 15][..], &[112]].concat());
 }
 
@@ -257,31 +257,31 @@ fn terms_that_do_not_fit() {
 fn terms_that_are_not_closed() {
     // f0, f1, \ 1 and \ \ 2.
     for text in ["10", "110", "00110", "00001110"] {
-        let (bytes, count) = card(text);
-        assert_refused(&bytes, count, 16, Refusal::NoCard);
+        let (bytes, count) = encoding(text);
+        assert_refused(&bytes, count, 16, Refusal::NoEncoding);
     }
     // The binder is around the function only: (\ 0) 0.
-    let (bytes, count) = card("01001010");
-    assert_refused(&bytes, count, 16, Refusal::NoCard);
+    let (bytes, count) = encoding("01001010");
+    assert_refused(&bytes, count, 16, Refusal::NoEncoding);
     // \ 0 (\ 1) is closed, \ 0 (\ 2) is not.
-    let (bytes, count) = card("00011000110");
+    let (bytes, count) = encoding("00011000110");
     assert_gives(&bytes, count, 16, &[1, 2, 0, 1, 8]);
-    let (bytes, count) = card("000110001110");
-    assert_refused(&bytes, count, 16, Refusal::NoCard);
+    let (bytes, count) = encoding("000110001110");
+    assert_refused(&bytes, count, 16, Refusal::NoEncoding);
 }
 
 #[test]
 fn runs_of_every_length() {
     on_large_stack(|| {
         for binders in 1..=2_047 {
-            let (bytes, count) = card(&under(binders, binders - 1));
+            let (bytes, count) = encoding(&under(binders, binders - 1));
             assert_eq!(count as usize, 3 * binders + 1);
             let words = [vec![1; binders], vec![8 * (binders as u32 - 1)]].concat();
             assert_gives(&bytes, count, 2_048, &words);
             let full = exported(&words, words.len() as u32, 2_048, bytes.len());
             assert_eq!(full, (Ok(count), bytes));
-            let (bytes, count) = card(&under(binders, binders));
-            assert_refused(&bytes, count, 2_048, Refusal::NoCard);
+            let (bytes, count) = encoding(&under(binders, binders));
+            assert_refused(&bytes, count, 2_048, Refusal::NoEncoding);
         }
     });
 }
@@ -290,22 +290,22 @@ fn runs_of_every_length() {
 fn runs_above_every_index() {
     // Cut to 8 or 16 bits these indices would be 0, which is bound.
     for index in [256, 65_536] {
-        let (bytes, count) = card(&under(1, index));
-        assert_refused(&bytes, count, 16, Refusal::NoCard);
+        let (bytes, count) = encoding(&under(1, index));
+        assert_refused(&bytes, count, 16, Refusal::NoEncoding);
         assert_eq!(term_of(&bytes, count), Ok(abs(var(index as u32))));
     }
     // The longest run that a script lends: 65,568 bits.
-    let (bytes, count) = card(&("1".repeat(65_567) + "0"));
+    let (bytes, count) = encoding(&("1".repeat(65_567) + "0"));
     assert_eq!((bytes.len(), count), (8_196, 65_568));
-    assert_refused(&bytes, count, 16, Refusal::NoCard);
+    assert_refused(&bytes, count, 16, Refusal::NoEncoding);
     assert_faulty(&[255; 8_196], 65_568, Fault::End);
 }
 
 #[test]
-fn the_deepest_cards() {
+fn the_deepest_encodings() {
     on_large_stack(|| {
         // 32,783 abstractions and a variable, in 65,568 bits.
-        let (bytes, count) = card(&under(32_783, 0));
+        let (bytes, count) = encoding(&under(32_783, 0));
         assert_eq!(count, 65_568);
         assert_refused(&bytes, count, 2_048, Refusal::TooLong);
         assert_faulty(&[0; 8_196], 65_568, Fault::End);
@@ -313,7 +313,7 @@ fn the_deepest_cards() {
         assert_faulty(&[0x55; 8_196], 65_568, Fault::End);
         // A left spine of 2,047 words under an abstraction.
         let spine = "00".to_string() + &"01".repeat(1_023) + &"10".repeat(1_024);
-        let (bytes, count) = card(&spine);
+        let (bytes, count) = encoding(&spine);
         let words = [vec![1], vec![2; 1_023], vec![0; 1_024]].concat();
         assert_gives(&bytes, count, 2_048, &words);
         assert_refused(&bytes, count, 2_047, Refusal::TooLong);
@@ -328,17 +328,17 @@ fn the_deepest_cards() {
 fn the_order_of_the_checks_on_import() {
     // Seventeen words, the last one free.
     let both = under(16, 16);
-    let (bytes, count) = card(&both);
+    let (bytes, count) = encoding(&both);
     assert_refused(&bytes, count, 16, Refusal::TooLong);
-    assert_refused(&bytes, count, 17, Refusal::NoCard);
+    assert_refused(&bytes, count, 17, Refusal::NoEncoding);
     // 12 before both, by each fault.
     for capacity in [16, 17] {
-        let (over, more) = card(&format!("{both}0"));
-        assert_refused(&over, more, capacity, Refusal::Card);
-        assert_refused(&bytes, count - 1, capacity, Refusal::Card);
-        assert_refused(&bytes, 8 * bytes.len() as u32 + 1, capacity, Refusal::Card);
+        let (over, more) = encoding(&format!("{both}0"));
+        assert_refused(&over, more, capacity, Refusal::Bits);
+        assert_refused(&bytes, count - 1, capacity, Refusal::Bits);
+        assert_refused(&bytes, 8 * bytes.len() as u32 + 1, capacity, Refusal::Bits);
         let broken = [&bytes[..], &[1]].concat();
-        assert_refused(&broken, count, capacity, Refusal::Card);
+        assert_refused(&broken, count, capacity, Refusal::Bits);
     }
     // 7 before all.
     for capacity in [0, 1, 15, 2_049] {
@@ -369,7 +369,7 @@ fn lengths_that_are_no_terms() {
 }
 
 #[test]
-fn terms_that_have_no_card() {
+fn terms_that_have_no_encoding() {
     for words in [
         // Free variables: f0, \ f0, (\ 0) f0, \ f255.
         &[0][..],
@@ -388,7 +388,7 @@ fn terms_that_have_no_card() {
     ] {
         let length = words.len() as u32;
         for bytes in [0, 1, 100] {
-            assert_kept(words, length, 16, bytes, Refusal::NoCard);
+            assert_kept(words, length, 16, bytes, Refusal::NoEncoding);
         }
     }
 }
@@ -411,13 +411,13 @@ fn the_order_of_the_checks_on_export() {
 
 #[test]
 fn words_behind_the_term_do_not_matter() {
-    let (answer, card) = exported(&[1, 0, 131, 6, 0], 2, 16, 2);
-    assert_eq!((answer, card), (Ok(4), vec![32, 0]));
+    let (answer, encoding) = exported(&[1, 0, 131, 6, 0], 2, 16, 2);
+    assert_eq!((answer, encoding), (Ok(4), vec![32, 0]));
 }
 
 #[test]
 fn import_and_export_undo_each_other() {
-    // Every card of at most fifteen bits.
+    // Every encoding of at most fifteen bits.
     for count in 0..=15 {
         for value in 0..1_u16 << count {
             let bytes = (u32::from(value) << (16 - count)).to_be_bytes();
@@ -432,7 +432,7 @@ fn import_and_export_undo_each_other() {
 }
 
 #[test]
-fn cards_of_few_bits() {
+fn encodings_of_few_bits() {
     // Closed terms of so many bits; none has five: \ 0 has four, \ \ 0 six,
     // \ \ 1 seven, \ \ \ 0 and \ 0 0 eight.
     let closed = |count: u32| {

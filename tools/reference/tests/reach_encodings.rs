@@ -1,15 +1,15 @@
-//! The generated cards and exports reach every answer by every way, at the
+//! The generated encodings and exports reach every answer by every way, at the
 //! limits too, and come in scripts where all that they leave is seen.
 
 mod common;
 
-use common::cards::{of_scripts, Exported, Imported};
 use common::carried;
 use common::census::Census;
-use reference::card::{bits, bits_of, term_of, Fault, FAULTS};
+use common::encodings::{of_scripts, Exported, Imported};
+use reference::encoding::{bits, bits_of, term_of, Fault, FAULTS};
 use reference::exchange::{others, OTHERS};
-use reference::generate::card_damage::with_fault;
-use reference::generate::cards::{self, Card};
+use reference::generate::encoding_damage::with_fault;
+use reference::generate::encodings::{self, Encoding};
 use reference::generate::scripts;
 use reference::on_large_stack;
 use reference::random::Random;
@@ -31,22 +31,22 @@ fn longest_run(bits: &[bool]) -> (usize, usize) {
     longest
 }
 
-fn look_at_accepted(card: &Imported, term: &Term, census: &mut Census) {
-    let count = card.count as usize;
+fn look_at_accepted(encoding: &Imported, term: &Term, census: &mut Census) {
+    let count = encoding.count as usize;
     let size = term.size();
-    census.meet_if(size == card.workspace.len(), "as many words as C");
+    census.meet_if(size == encoding.workspace.len(), "as many words as C");
     census.meet_if(size == 2, "two words");
     census.meet_if(size == 2_048, "2,048 words");
     census.meet_if(count.is_multiple_of(8), "bits that fill their bytes");
     census.meet_if(count.is_multiple_of(64), "bits that fill machine words");
-    let spare = card.bytes.len() - count.div_ceil(8);
+    let spare = encoding.bytes.len() - count.div_ceil(8);
     census.meet(match spare {
         0 => "no byte to spare",
         1 => "one byte to spare",
         2..=7 => "some bytes to spare",
         _ => "a machine word to spare",
     });
-    let (start, ones) = longest_run(&bits(&card.bytes));
+    let (start, ones) = longest_run(&bits(&encoding.bytes));
     match ones {
         63 => census.meet("63 ones"),
         64 => census.meet("64 ones"),
@@ -91,8 +91,8 @@ const ACCEPTED: [&str; 21] = [
     "a zero before the edge of 64 bits",
 ];
 
-fn look_at_fault(card: &Imported, fault: Fault, census: &mut Census) {
-    let Imported { bytes, count, .. } = card;
+fn look_at_fault(encoding: &Imported, fault: Fault, census: &mut Census) {
+    let Imported { bytes, count, .. } = encoding;
     let count = *count as usize;
     let lent = 8 * bytes.len();
     census.meet(format!("12 by {fault}"));
@@ -108,7 +108,7 @@ fn look_at_fault(card: &Imported, fault: Fault, census: &mut Census) {
             let run = all[..count].ends_with(&[true]);
             census.meet_if(run, "an end in a run");
             let longer = [&all[..count], &[false]].concat();
-            let bytes = reference::card::packed(&longer);
+            let bytes = reference::encoding::packed(&longer);
             let whole = term_of(&bytes, longer.len() as u32).is_ok();
             census.meet_if(whole, "an end by one bit");
         }
@@ -140,13 +140,13 @@ const FAULTY: [&str; 13] = [
     "the last bit of the padding",
 ];
 
-fn look_at_import(card: &Imported, census: &mut Census) {
-    let capacity = card.workspace.len();
-    let of_card = Card {
-        bytes: card.bytes.clone(),
-        count: card.count,
+fn look_at_import(encoding: &Imported, census: &mut Census) {
+    let capacity = encoding.workspace.len();
+    let of_encoding = Encoding {
+        bytes: encoding.bytes.clone(),
+        count: encoding.count,
     };
-    let refusal = of_card.refusal(capacity);
+    let refusal = of_encoding.refusal(capacity);
     if !(16..=2_048).contains(&capacity) {
         census.meet(match refusal {
             None => "7 alone".to_string(),
@@ -154,9 +154,9 @@ fn look_at_import(card: &Imported, census: &mut Census) {
         });
         return;
     }
-    match (term_of(&card.bytes, card.count), refusal) {
-        (Ok(term), None) => look_at_accepted(card, &term, census),
-        (Err(fault), _) => look_at_fault(card, fault, census),
+    match (term_of(&encoding.bytes, encoding.count), refusal) {
+        (Ok(term), None) => look_at_accepted(encoding, &term, census),
+        (Err(fault), _) => look_at_fault(encoding, fault, census),
         (Ok(term), Some(Refusal::TooLong)) => {
             census.meet(match (term.size() - capacity, term.is_closed()) {
                 (1, true) => "8 by one word",
@@ -252,13 +252,13 @@ const EXPORTS: [&str; 17] = [
 ];
 
 #[test]
-fn cards_reach_every_clause() {
+fn encodings_reach_every_clause() {
     let (imports, exports) = on_large_stack(|| {
         let (mut imports, mut exports) = (Census::default(), Census::default());
         of_scripts(
             73,
             1_800,
-            |card| look_at_import(card, &mut imports),
+            |encoding| look_at_import(encoding, &mut imports),
             |export| look_at_export(export, &mut exports),
         );
         (imports, exports)
@@ -311,7 +311,7 @@ fn look_at_script(input: &[u8], census: &mut Census) {
 }
 
 #[test]
-fn scripts_show_what_cards_leave() {
+fn scripts_show_what_encodings_leave() {
     let census = on_large_stack(|| {
         let mut census = Census::default();
         for case in 0..1_100 {
@@ -333,22 +333,26 @@ fn scripts_show_what_cards_leave() {
 }
 
 #[test]
-fn cards_meet_their_wishes() {
+fn encodings_meet_their_wishes() {
     on_large_stack(|| {
         for case in 0..1_500 {
             let random = &mut Random::new(75, case);
             let capacity = random.pick(&[16, 17, 40, 300, 2_048]);
-            let card = cards::accepted(random, capacity);
-            let answer = carried(&card.bytes, card.count, capacity).0;
-            assert!(answer.is_ok(), "{card:?}");
+            let encoding = encodings::accepted(random, capacity);
+            let answer = carried(&encoding.bytes, encoding.count, capacity).0;
+            assert!(answer.is_ok(), "{encoding:?}");
             for fault in FAULTS {
-                let term = cards::any_closed(random, capacity);
-                let card = with_fault(random, fault, Card::of(&term));
-                assert_eq!(term_of(&card.bytes, card.count), Err(fault), "{card:?}");
-                assert!(card.bytes.len() <= 8_196);
+                let term = encodings::any_closed(random, capacity);
+                let encoding = with_fault(random, fault, Encoding::of(&term));
+                assert_eq!(
+                    term_of(&encoding.bytes, encoding.count),
+                    Err(fault),
+                    "{encoding:?}"
+                );
+                assert!(encoding.bytes.len() <= 8_196);
             }
             for other in OTHERS {
-                let term = cards::without_card(random, other, capacity);
+                let term = encodings::without_encoding(random, other, capacity);
                 assert_eq!(others(&term), [other], "{term:?}");
                 assert!(term.size() <= capacity);
             }

@@ -21,13 +21,13 @@ abbrev pub exportedInto : (workspace : List ℕ) (len size : ℕ) → Exported
 exportedInto workspace len size = export workspace len (junkTable size)
 
 -- What was exported is this bit count and these bytes.
-abbrev pub isCard : (count : ℕ) (bytes : List ℕ) → Exported → Bool
-isCard count bytes q = isReturned (q .answer) count && areWords (q .bytes) bytes (length bytes) junk
+abbrev pub isEncoding : (count : ℕ) (bytes : List ℕ) → Exported → Bool
+isEncoding count bytes q = isReturned (q .answer) count && areWords (q .bytes) bytes (length bytes) junk
 
 unfoldable pub exportsBack : (workspace : List ℕ) (len count : ℕ) (bytes : List ℕ) → Bool
-exportsBack workspace len count bytes = isCard count bytes (exportedInto workspace len (length bytes))
+exportsBack workspace len count bytes = isEncoding count bytes (exportedInto workspace len (length bytes))
 
--- Importing a card: what it brings is what the line says, to its end, and a term that was brought is exported too.
+-- Importing an encoding: what it brings is what the line says, to its end, and a term that was brought is exported too.
 unfoldable pub importedAs : List ℕ → (at count : ℕ) → (bytes : List ℕ) → Brought → Bool
 importedAs line at count bytes q =
     let c = broughtAs line at q in

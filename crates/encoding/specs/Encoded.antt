@@ -1,4 +1,5 @@
--- Cards ("Cards"): bytes with a bit count beside them, "and every lent bit past the count is 0". What refusals 12 and 13 ask.
+-- Encodings ("Binary encodings"): bytes with a bit count beside them, "and every lent bit past the count is 0"; those who exchange them call one a card. What
+-- refusals 12 and 13 ask.
 use Prim.Native.Nat.{ℕ, _*_, _<_}
 use mathlib.Core.Bool.{Bool, true, false, not, _&&_, _||_}
 use mathlib.Core.List.{List, [], _∷_}
@@ -15,9 +16,9 @@ use Rattle.encoding.specs.Bits.{CombinatorUnder}
 use Rattle.encoding.specs.Bytes.{byteBits, unpacked}
 use Rattle.encoding.specs.Decoding.{decode}
 
--- The term of a card, by its first `count` bits.
-abbrev pub cardTerm : (bytes : List ℕ) (count : ℕ) → Option Term
-cardTerm bytes count = decode (take count (unpacked bytes))
+-- The term of an encoding, by its first `count` bits.
+abbrev pub encodedTerm : (bytes : List ℕ) (count : ℕ) → Option Term
+encodedTerm bytes count = decode (take count (unpacked bytes))
 
 abbrev pub allZero : List Bool → Bool
 allZero [] = true
@@ -26,7 +27,7 @@ allZero (b ∷ bs) = not b && allZero bs
 -- Refusal 12: the count is past the lent bytes, a lent bit past the count is not 0, or the bits end early or are left over.
 abbrev pub wrongBits : (bytes : List ℕ) (count : ℕ) → Bool
 wrongBits bytes count =
-    ltb (byteBits * length bytes) count || (not (allZero (drop count (unpacked bytes))) || isNone (cardTerm bytes count))
+    ltb (byteBits * length bytes) count || (not (allZero (drop count (unpacked bytes))) || isNone (encodedTerm bytes count))
 
 -- Refusal 13: a term that is not closed or has another kind of word. What is no term meets an earlier refusal.
 unfoldable pub combinator? : (d : ℕ) (t : Term) → Dec (CombinatorUnder d t)

@@ -1,8 +1,9 @@
-//! Cards of closed terms, cards that are refused, and terms that have no card.
+//! Encodings of closed terms, encodings that are refused, and terms that have
+//! none.
 
-use crate::card::{bits_of, packed, term_of, Fault, FAULTS};
+use crate::encoding::{bits_of, packed, term_of, Fault, FAULTS};
 use crate::exchange::Other;
-use crate::generate::card_damage::{in_other_order, random_bits, with_fault};
+use crate::generate::encoding_damage::{in_other_order, random_bits, with_fault};
 use crate::generate::terms::{numeral, replace, subterms, term, Style};
 use crate::random::Random;
 use crate::refusal::Refusal;
@@ -14,35 +15,35 @@ pub const MOST_BITS: usize = 8 * LONGEST_TABLE;
 
 /// Bytes, and how many of their bits are counted.
 #[derive(Clone, Debug, PartialEq, Eq)]
-pub struct Card {
+pub struct Encoding {
     pub bytes: Vec<u8>,
     pub count: u32,
 }
 
-impl Card {
+impl Encoding {
     /// As few bytes as hold the bits.
     pub fn of_bits(bits: &[bool]) -> Self {
-        Card {
+        Encoding {
             bytes: packed(bits),
             count: bits.len() as u32,
         }
     }
 
     pub fn of(term: &Term) -> Self {
-        Card::of_bits(&bits_of(term).expect("only three kinds have bits"))
+        Encoding::of_bits(&bits_of(term).expect("only three kinds have bits"))
     }
 
-    /// What the card meets past 7 in a workspace of `capacity` words.
+    /// What the encoding meets past 7 in a workspace of `capacity` words.
     pub fn refusal(&self, capacity: usize) -> Option<Refusal> {
         match term_of(&self.bytes, self.count) {
-            Err(_) => Some(Refusal::Card),
+            Err(_) => Some(Refusal::Bits),
             Ok(term) if term.size() > capacity => Some(Refusal::TooLong),
-            Ok(term) if !term.is_closed() => Some(Refusal::NoCard),
+            Ok(term) if !term.is_closed() => Some(Refusal::NoEncoding),
             Ok(_) => None,
         }
     }
 
-    /// The card with bytes of zeros behind it, now and then.
+    /// The encoding with bytes of zeros behind it, now and then.
     pub fn with_spare(mut self, random: &mut Random) -> Self {
         let few = random.between(1, 9);
         let spare = random.pick(&[0, 0, 0, 0, 1, few, few, 40]);
@@ -55,14 +56,14 @@ impl Card {
     }
 }
 
-/// A card of any kind for a workspace of `capacity` words.
-pub fn any(random: &mut Random, capacity: usize) -> Card {
+/// An encoding of any kind for a workspace of `capacity` words.
+pub fn any(random: &mut Random, capacity: usize) -> Encoding {
     match random.below(44) {
         0..=9 => accepted(random, capacity),
         10..=18 => faulty(random, capacity),
         19..=22 => {
             let term = too_long(random, capacity);
-            Card::of(&term).with_spare(random)
+            Encoding::of(&term).with_spare(random)
         }
         23..=27 => {
             let term = any_closed(random, capacity);
@@ -75,41 +76,41 @@ pub fn any(random: &mut Random, capacity: usize) -> Card {
         31..=38 => faulty_twice(random, capacity),
         39 | 40 => {
             let term = any_closed(random, capacity);
-            in_other_order(random, Card::of(&term))
+            in_other_order(random, Encoding::of(&term))
         }
         41 | 42 => random_bits(random),
         _ => huge(random),
     }
 }
 
-/// A card that is accepted in a workspace of `capacity` words.
-pub fn accepted(random: &mut Random, capacity: usize) -> Card {
+/// An encoding that is accepted in a workspace of `capacity` words.
+pub fn accepted(random: &mut Random, capacity: usize) -> Encoding {
     let term = any_closed(random, capacity);
-    Card::of(&term).with_spare(random)
+    Encoding::of(&term).with_spare(random)
 }
 
-/// A card that is refused by 12, by one fault.
-pub fn faulty(random: &mut Random, capacity: usize) -> Card {
+/// An encoding that is refused by 12, by one fault.
+pub fn faulty(random: &mut Random, capacity: usize) -> Encoding {
     let fault = random.pick(&FAULTS);
     let term = any_closed(random, capacity);
-    with_fault(random, fault, Card::of(&term))
+    with_fault(random, fault, Encoding::of(&term))
 }
 
-/// A card that is refused by 12 and would be by 8 or 13, most often with a
+/// An encoding that is refused by 12 and would be by 8 or 13, most often with a
 /// whole term.
-fn faulty_twice(random: &mut Random, capacity: usize) -> Card {
+fn faulty_twice(random: &mut Random, capacity: usize) -> Encoding {
     let whole = random.pick(&[Fault::LeftOver, Fault::Padding]);
     let any = random.pick(&FAULTS);
     let fault = random.pick(&[whole, whole, any]);
     let long = too_long(random, capacity);
-    let card = match random.percent(70) {
-        true => Card::of(&long),
+    let encoding = match random.percent(70) {
+        true => Encoding::of(&long),
         false => {
             let term = any_closed(random, capacity);
             opened(random, &term)
         }
     };
-    with_fault(random, fault, card)
+    with_fault(random, fault, encoding)
 }
 
 /// A closed term of at most `most` words, at least 16; now and then of so many.
@@ -126,7 +127,7 @@ pub fn any_closed(random: &mut Random, most: usize) -> Term {
     }
 }
 
-/// A closed term of so many words, at least 2, whose card can be lent.
+/// A closed term of so many words, at least 2, whose encoding can be lent.
 pub fn closed(random: &mut Random, size: usize) -> Term {
     loop {
         let term = match random.below(4) {
@@ -201,12 +202,12 @@ fn too_long(random: &mut Random, capacity: usize) -> Term {
     closed(random, size)
 }
 
-/// The card of the term with a variable that is free, most often by one.
-fn opened(random: &mut Random, term: &Term) -> Card {
+/// The encoding of the term with a variable that is free, most often by one.
+fn opened(random: &mut Random, term: &Term) -> Encoding {
     let term = open(random, term);
     match can_be_lent(&term) {
-        true => Card::of(&term).with_spare(random),
-        false => Card::of(&var(0)),
+        true => Encoding::of(&term).with_spare(random),
+        false => Encoding::of(&var(0)),
     }
 }
 
@@ -221,9 +222,9 @@ pub fn open(random: &mut Random, term: &Term) -> Term {
     replace(term, place, &var(parts[place].1 + free))
 }
 
-/// A term of at most `most` words, at least 16, that has no card by one thing
+/// A term of at most `most` words, at least 16, that has no encoding by one thing
 /// alone.
-pub fn without_card(random: &mut Random, other: Other, most: usize) -> Term {
+pub fn without_encoding(random: &mut Random, other: Other, most: usize) -> Term {
     loop {
         let size = random.between(2, most.min(60));
         let term = closed(random, size);
@@ -258,8 +259,8 @@ fn with_other(random: &mut Random, other: Other, term: &Term) -> Term {
     replace(term, place, &part)
 }
 
-/// A card of nearly as many bits as a script lends.
-fn huge(random: &mut Random) -> Card {
+/// An encoding of nearly as many bits as a script lends.
+fn huge(random: &mut Random) -> Encoding {
     let bits = |pair: [bool; 2], count: usize| pair.repeat(count);
     let ones = |count: usize| vec![true; count];
     let (abstraction, application) = ([false, false], [false, true]);
@@ -281,7 +282,7 @@ fn huge(random: &mut Random) -> Card {
         6 => bits(application, half),
         _ => bits_of(&wide(random)).expect("only three kinds have bits"),
     };
-    Card::of_bits(&all)
+    Encoding::of_bits(&all)
 }
 
 /// A closed term of some 2,000 words at most with nearly as many bits as a

@@ -1,4 +1,4 @@
--- Cards as the line says, and the bytes that are lent to exporting.
+-- Encodings as the line says, and the bytes that are lent to exporting.
 use Prim.Native.Nat.{ℕ, min}
 use native.Mathlib.Omega.{arith}
 use mathlib.Core.Path.{_≡_, _∙_, ap}
@@ -19,7 +19,7 @@ use Rattle.vectors.specs.Keywords.{refusedWord, writesWord}
 use Rattle.vectors.specs.Answers.{isReturned}
 use Rattle.vectors.specs.Pair.{junk}
 use Rattle.vectors.specs.Stored.{verifiedOf, refusedLast, isLast, junkTable, broughtAs, endsAs}
-use Rattle.vectors.specs.Carded.{exportedInto, exportsBack, importedAs, importingOf, importing, exportedAs, exportsListed}
+use Rattle.vectors.specs.Encoded.{exportedInto, exportsBack, importedAs, importingOf, importing, exportedAs, exportsListed}
 use Rattle.vector_text.specs.declared.Compared.{Compared}
 use Rattle.vector_text.specs.declared.Number.{Number}
 

@@ -1,11 +1,11 @@
-//! Importers and exporters of cards with one mistake each: the generated
+//! Importers and exporters of encodings with one mistake each: the generated
 //! scripts have to tell every one of them from the reference. Those without a
 //! mistake must agree.
 
 mod common;
 
-use common::cards::{of_scripts, Exported, Imported};
-use reference::card;
+use common::encodings::{of_scripts, Exported, Imported};
+use reference::encoding;
 use reference::on_large_stack;
 use reference::words::read;
 
@@ -22,7 +22,7 @@ enum Mistake {
     RunInOneByte,
     RunInSixteenBits,
     WindowWithoutItsLastBit,
-    // Other cards are accepted or refused.
+    // Other encodings are accepted or refused.
     CountNotTested,
     CountMayPassByOne,
     CountIsBelowTheBytes,
@@ -48,11 +48,11 @@ enum Mistake {
     FitsBelowC,
     FitsByOneMore,
     // The order of the checks.
-    CardBeforeWorkspace,
+    EncodingBeforeWorkspace,
     RoomBeforeWorkspace,
     ClosedBeforeWorkspace,
-    RoomBeforeCard,
-    ClosedBeforeCard,
+    RoomBeforeEncoding,
+    ClosedBeforeEncoding,
     ClosedBeforeRoom,
     // What is left in the workspace, and the answer.
     ZerosLeftOut,
@@ -95,11 +95,11 @@ const MISTAKES: [Mistake; 43] = [
     Mistake::BindersStayBehindAbstractions,
     Mistake::FitsBelowC,
     Mistake::FitsByOneMore,
-    Mistake::CardBeforeWorkspace,
+    Mistake::EncodingBeforeWorkspace,
     Mistake::RoomBeforeWorkspace,
     Mistake::ClosedBeforeWorkspace,
-    Mistake::RoomBeforeCard,
-    Mistake::ClosedBeforeCard,
+    Mistake::RoomBeforeEncoding,
+    Mistake::ClosedBeforeEncoding,
     Mistake::ClosedBeforeRoom,
     Mistake::ZerosLeftOut,
     Mistake::ClearedWhenRefused,
@@ -297,12 +297,12 @@ fn import(mistake: Mistake, imported: &Imported) -> (Result<u32, u32>, Vec<u32>)
         }
     };
     // The checks in the reader's order; the first that is met counts.
-    meets(is(Mistake::CardBeforeWorkspace) && fault, 12);
+    meets(is(Mistake::EncodingBeforeWorkspace) && fault, 12);
     meets(is(Mistake::RoomBeforeWorkspace) && !fault && room, 8);
     meets(is(Mistake::ClosedBeforeWorkspace) && !fault && open, 13);
     meets(!(16..=2_048).contains(&capacity), 7);
-    meets(is(Mistake::RoomBeforeCard) && room, 8);
-    meets(is(Mistake::ClosedBeforeCard) && open, 13);
+    meets(is(Mistake::RoomBeforeEncoding) && room, 8);
+    meets(is(Mistake::ClosedBeforeEncoding) && open, 13);
     meets(fault, 12);
     meets(is(Mistake::ClosedBeforeRoom) && open, 13);
     meets(room, 8);
@@ -356,7 +356,7 @@ enum Slip {
     AnswersWords,
     FilledThoughTooFew,
     ClearedWhenRefused,
-    // What has a card.
+    // What has an encoding.
     FreeNotTested,
     FreeByOneMore,
     ConstructorLeftOut,
@@ -367,8 +367,8 @@ enum Slip {
     // The order of the checks.
     TermBeforeWorkspace,
     RoomBeforeTerm,
-    CardBeforeTerm,
-    RoomBeforeCard,
+    EncodingBeforeTerm,
+    RoomBeforeEncoding,
 }
 
 const SLIPS: [Slip; 28] = [
@@ -398,8 +398,8 @@ const SLIPS: [Slip; 28] = [
     Slip::AllWordsTested,
     Slip::TermBeforeWorkspace,
     Slip::RoomBeforeTerm,
-    Slip::CardBeforeTerm,
-    Slip::RoomBeforeCard,
+    Slip::EncodingBeforeTerm,
+    Slip::RoomBeforeEncoding,
 ];
 
 /// The bits of words from the first to the last, and whether they are those of
@@ -494,9 +494,9 @@ fn export(slip: Slip, exported: &Exported) -> (Result<u32, u32>, Vec<u8>) {
     meets(is(Slip::TermBeforeWorkspace) && term.is_none(), 10);
     meets(!(16..=2_048).contains(&capacity), 7);
     meets(is(Slip::RoomBeforeTerm) && bytes.is_empty(), 8);
-    meets(is(Slip::CardBeforeTerm) && has_other, 13);
+    meets(is(Slip::EncodingBeforeTerm) && has_other, 13);
     meets(term.is_none(), 10);
-    meets(is(Slip::RoomBeforeCard) && few, 8);
+    meets(is(Slip::RoomBeforeEncoding) && few, 8);
     meets(!closed, 13);
     meets(few, 8);
     let refused = found.first().copied();
@@ -545,7 +545,7 @@ fn scripts_tell_wrong_importers() {
         let look = |imported: &Imported| {
             let Imported { bytes, count, .. } = imported;
             let mut workspace = imported.workspace.clone();
-            let answer = card::import(bytes, *count, &mut workspace);
+            let answer = encoding::import(bytes, *count, &mut workspace);
             let expected = (answer.map_err(|refusal| refusal.number()), workspace);
             assert_eq!(import(Mistake::Nothing, imported), expected, "{bytes:?}");
             for (mistake, count) in MISTAKES.iter().zip(&mut counts) {
@@ -569,7 +569,7 @@ fn scripts_tell_wrong_exporters() {
                 workspace, length, ..
             } = exported;
             let mut bytes = vec![7; exported.bytes];
-            let answer = card::export(workspace, *length, &mut bytes);
+            let answer = encoding::export(workspace, *length, &mut bytes);
             let expected = (answer.map_err(|refusal| refusal.number()), bytes);
             assert_eq!(export(Slip::Nothing, exported), expected, "{workspace:?}");
             for (slip, count) in SLIPS.iter().zip(&mut counts) {

@@ -1,43 +1,43 @@
-//! Cards with chosen faults, and bits that are a card only by chance.
+//! Encodings with chosen faults, and bits that are an encoding only by chance.
 
-use crate::card::{bits, Fault};
-use crate::generate::cards::{Card, MOST_BITS};
+use crate::encoding::{bits, Fault};
+use crate::generate::encodings::{Encoding, MOST_BITS};
 use crate::random::Random;
 use crate::table::LONGEST_TABLE;
 
-/// The card of a term with a change that makes the fault and no other.
-pub fn with_fault(random: &mut Random, fault: Fault, card: Card) -> Card {
+/// The encoding of a term with a change that makes the fault and no other.
+pub fn with_fault(random: &mut Random, fault: Fault, encoding: Encoding) -> Encoding {
     match fault {
-        Fault::Count => past_the_bytes(random, card),
+        Fault::Count => past_the_bytes(random, encoding),
         Fault::End => {
-            let bits = cut(random, counted(&card));
-            Card::of_bits(&bits).with_spare(random)
+            let bits = cut(random, counted(&encoding));
+            Encoding::of_bits(&bits).with_spare(random)
         }
         Fault::LeftOver => {
-            let bits = continued(random, counted(&card));
-            Card::of_bits(&bits).with_spare(random)
+            let bits = continued(random, counted(&encoding));
+            Encoding::of_bits(&bits).with_spare(random)
         }
-        Fault::Padding => with_padding(random, card),
+        Fault::Padding => with_padding(random, encoding),
     }
 }
 
-fn counted(card: &Card) -> Vec<bool> {
-    let mut bits = bits(&card.bytes);
-    bits.truncate(card.count as usize);
+fn counted(encoding: &Encoding) -> Vec<bool> {
+    let mut bits = bits(&encoding.bytes);
+    bits.truncate(encoding.count as usize);
     bits
 }
 
 /// A count past the bytes: too large, or with bytes away.
-fn past_the_bytes(random: &mut Random, mut card: Card) -> Card {
-    let lent = 8 * card.bytes.len() as u32;
-    let count = card.count;
+fn past_the_bytes(random: &mut Random, mut encoding: Encoding) -> Encoding {
+    let lent = 8 * encoding.bytes.len() as u32;
+    let count = encoding.count;
     match random.below(10) {
-        8 | 9 => return without_last_zero(card),
-        0..=2 => card.count = lent + random.pick(&[1, 1, 1, 2, 7, 8, 9, 64]),
-        3 | 4 => card.bytes.truncate((count as usize - 1) / 8),
+        8 | 9 => return without_last_zero(encoding),
+        0..=2 => encoding.count = lent + random.pick(&[1, 1, 1, 2, 7, 8, 9, 64]),
+        3 | 4 => encoding.bytes.truncate((count as usize - 1) / 8),
         5 => {
-            card.bytes.clear();
-            card.count = random.pick(&[1, 2, 8, count, u32::MAX]);
+            encoding.bytes.clear();
+            encoding.count = random.pick(&[1, 2, 8, count, u32::MAX]);
         }
         // Cut to fewer bits, or with eight bits to a byte, some are right.
         _ => {
@@ -50,22 +50,22 @@ fn past_the_bytes(random: &mut Random, mut card: Card) -> Card {
                 MOST_BITS as u32 + count,
                 (1 << 17) + count,
             ];
-            card.count = random.pick(&beyond);
+            encoding.count = random.pick(&beyond);
         }
     }
-    card
+    encoding
 }
 
-/// A card of which the last zero alone is past the bytes, if abstractions in
+/// An encoding of which the last zero alone is past the bytes, if abstractions in
 /// front can make it so.
-fn without_last_zero(card: Card) -> Card {
-    let mut bits = counted(&card);
+fn without_last_zero(encoding: Encoding) -> Encoding {
+    let mut bits = counted(&encoding);
     while bits.len() % 2 == 1 && bits.len() % 8 != 1 {
         bits.splice(0..0, [false, false]);
     }
-    let mut card = Card::of_bits(&bits);
-    card.bytes.truncate((bits.len() - 1) / 8);
-    card
+    let mut encoding = Encoding::of_bits(&bits);
+    encoding.bytes.truncate((bits.len() - 1) / 8);
+    encoding
 }
 
 /// Bits that end before their term does.
@@ -105,51 +105,51 @@ fn continued(random: &mut Random, mut bits: Vec<bool>) -> Vec<bool> {
 }
 
 /// A one among the zeros past the count.
-fn with_padding(random: &mut Random, mut card: Card) -> Card {
-    let first = card.count as usize;
+fn with_padding(random: &mut Random, mut encoding: Encoding) -> Encoding {
+    let first = encoding.count as usize;
     let few = random.between(1, 9);
     let spare = random.pick(&[0, 0, 1, few]);
     let least = first / 8 + 1;
-    let length = (card.bytes.len() + spare).max(least).min(LONGEST_TABLE);
-    card.bytes.resize(length, 0);
+    let length = (encoding.bytes.len() + spare).max(least).min(LONGEST_TABLE);
+    encoding.bytes.resize(length, 0);
     let last = 8 * length - 1;
-    // A card may fill all bytes that can be lent.
+    // An encoding may fill all bytes that can be lent.
     if first <= last {
         let any = random.between(first, last);
         let place = random.pick(&[first, first, last, last, any]);
-        card.bytes[place / 8] |= 128 >> (place % 8);
+        encoding.bytes[place / 8] |= 128 >> (place % 8);
     }
-    card
+    encoding
 }
 
-/// The card with the bits or bytes in another order, or bits exchanged.
-pub fn in_other_order(random: &mut Random, mut card: Card) -> Card {
+/// The encoding with the bits or bytes in another order, or bits exchanged.
+pub fn in_other_order(random: &mut Random, mut encoding: Encoding) -> Encoding {
     match random.below(6) {
-        0..=2 => card
+        0..=2 => encoding
             .bytes
             .iter_mut()
             .for_each(|byte| *byte = byte.reverse_bits()),
-        3 => card.bytes.chunks_mut(8).for_each(<[u8]>::reverse),
-        4 => card.bytes.reverse(),
-        _ => card.bytes.iter_mut().for_each(|byte| *byte = !*byte),
+        3 => encoding.bytes.chunks_mut(8).for_each(<[u8]>::reverse),
+        4 => encoding.bytes.reverse(),
+        _ => encoding.bytes.iter_mut().for_each(|byte| *byte = !*byte),
     }
-    card
+    encoding
 }
 
 /// A few bits, or bytes and a count, by chance.
-pub fn random_bits(random: &mut Random) -> Card {
+pub fn random_bits(random: &mut Random) -> Encoding {
     let length = random.below(25);
     let few = random.below(14);
     match random.below(3) {
         0 => {
             let bits: Vec<bool> = (0..few).map(|_| random.percent(50)).collect();
-            Card::of_bits(&bits)
+            Encoding::of_bits(&bits)
         }
-        1 => Card {
+        1 => Encoding {
             bytes: (0..length).map(|_| random.word() as u8).collect(),
             count: random.below(8 * length + 3) as u32,
         },
-        _ => Card {
+        _ => Encoding {
             bytes: vec![random.pick(&[0, 32, 128, 255]); length],
             count: random.pick(&[0, 1, 4, 8 * length as u32]),
         },

@@ -1,10 +1,10 @@
 -- `exports` meets its contract.
 use mathlib.Core.Path.{sym, _∙_, ap₂}
 use mathlib.Core.Bool.{_&&_}
-use Rattle.vectors.proofs.CardedLaws.{export-refused, export-given}
+use Rattle.vectors.proofs.EncodedLaws.{export-refused, export-given}
 use borrow.Author.Needs.{needs}
-use Rattle.vectors.proofs.carded.exports.Statement.{statement}
-use Rattle.vectors.proofs.carded.exports.Tie as tie
+use Rattle.vectors.proofs.encoded.exports.Statement.{statement}
+use Rattle.vectors.proofs.encoded.exports.Tie as tie
 
 returns : tie.Need-returns
 returns c = c .refuses .ensures ∙ sym (export-refused _ _ _ _ (c .before .before .after .ensures) (c .before .if1 .taken))
