@@ -351,11 +351,17 @@ impl Reader<'_> {
             found: match self.rest.peek() {
                 None => "the end".to_string(),
                 Some(' ') => "a space".to_string(),
-                Some(seen) if seen.is_ascii_graphic() => format!("`{seen}`"),
-                // By its number where nothing of it would be seen.
-                Some(other) => format!("`{}`", other.escape_debug()),
+                Some(other) => quoted(*other),
             },
         }
+    }
+}
+
+/// A character that was found, by its number where nothing of it would be seen.
+pub(crate) fn quoted(character: char) -> String {
+    match character.is_ascii_graphic() {
+        true => format!("`{character}`"),
+        false => format!("`{}`", character.escape_debug()),
     }
 }
 

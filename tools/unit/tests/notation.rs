@@ -1,6 +1,9 @@
 //! The notation, against expectations worked out by hand from its grammar and the rules' table of
 //! words.
 
+mod common;
+
+use common::TEXTS;
 use unit::Term;
 
 fn read(text: &str) -> Term {
@@ -107,39 +110,7 @@ fn bench_pairs_read_as_their_words() {
 
 #[test]
 fn text_with_the_fewest_parentheses_is_printed_as_it_was_read() {
-    for text in [
-        "0",
-        "32767",
-        r"\0",
-        r"\\1 0",
-        r"(\0) 1",
-        r"0 \0",
-        r"0 (\0) 1",
-        "0 1 2",
-        "0 (1 2)",
-        "0 (1 2) 3",
-        r"(\0 0) \0 0",
-        r"0 (1 \0)",
-        r"0 (1 (\0) 2) \3",
-        "#0",
-        "#255",
-        "#4294967295[0]",
-        r"#2[0 1,\0 1,#1,?0{}]",
-        "#1 #2[0] (#3 0)",
-        "?0{}",
-        "?0 1{} 2",
-        r"?\0{1.0:\0,268435455.15:0 1 2}",
-        r"(\?0{1.0:#1,2.1:#2[?0{}]}) ?1{3.3:0 (1 2)}",
-        "%0",
-        "%31",
-        r"%1 %2 (\%3) (%4 0) \%5",
-        "#1[%6,0 %7] ?%8{1.0:%9}",
-        "?0{_:1}",
-        "?#1[0]{_:0 1,1.2:2}",
-        "?0{1.0:0,_:1 2,_:%3}",
-        "?0{0.1:0,0.15:1}",
-        r"\?0{_:?1{_:\2} 3}",
-    ] {
+    for text in TEXTS {
         assert_eq!(read(text).to_string(), text);
     }
 }
