@@ -1,5 +1,7 @@
 //! Why no line was printed.
 
+use std::fmt::Display;
+
 #[derive(Debug, PartialEq, Eq)]
 pub struct Failure {
     pub status: u8,
@@ -18,8 +20,11 @@ impl Failure {
         Failure::text(format!("{reason}\nSee judge --help."))
     }
 
-    /// Text or words that are no term.
-    pub fn text(message: String) -> Failure {
-        Failure { status: 2, message }
+    /// Text, words, bits or a card that are no term, or a term without words or a card.
+    pub fn text(message: impl Display) -> Failure {
+        Failure {
+            status: 2,
+            message: message.to_string(),
+        }
     }
 }

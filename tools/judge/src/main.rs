@@ -1,6 +1,7 @@
 //! The command `judge`; `--help` describes it.
 
 mod failure;
+mod numbers;
 mod options;
 mod place;
 mod verdict;
@@ -14,7 +15,8 @@ use std::process::{Command, ExitCode};
 use failure::Failure;
 use options::{Settings, Task, Terms, STANDARD_INPUT};
 use unit::program::{ask, input};
-use unit::{repository, table, table_text, words_text, Term, TextError};
+use unit::{bits_text, card_text, read_bits, repository, table, table_text, words_text};
+use unit::{Term, TextError};
 
 const HELP: &str = include_str!("help.txt");
 /// The program that judges.
@@ -59,14 +61,21 @@ fn run(arguments: Vec<OsString>) -> Result<(String, u8), Failure> {
         Task::Help => HELP.trim_end().to_string(),
         Task::Version => concat!("judge ", env!("CARGO_PKG_VERSION")).to_string(),
         Task::Table(text) => table_text(&table(&term("term", &given(text)?)?)),
-        Task::Words(text) => match term("term", &given(text)?)?.words() {
-            Ok(words) => words_text(&words),
-            Err(error) => return Err(Failure::text(error.to_string())),
-        },
-        Task::Text(words) => match Term::from_words(&numbers(words)?) {
-            Ok(term) => term.to_string(),
-            Err(error) => return Err(Failure::text(error.to_string())),
-        },
+        Task::Words(text) => {
+            let words = term("term", &given(text)?)?.words();
+            words_text(&words.map_err(Failure::text)?)
+        }
+        Task::Text(texts) => {
+            let term = Term::from_words(&numbers::words(&all(texts)?)?);
+            term.map_err(Failure::text)?.to_string()
+        }
+        Task::Card(text) => card_text(&bits(text)?),
+        Task::FromCard(texts) => text_of(&numbers::card(&all(texts)?)?)?,
+        Task::Bits(text) => bits_text(&bits(text)?),
+        Task::FromBits(texts) => {
+            let bits = read_bits(&all(texts)?);
+            text_of(&bits.map_err(Failure::text)?)?
+        }
         Task::Judge(terms, settings) => return judge(terms, settings),
     };
     Ok((text, 0))
@@ -174,19 +183,25 @@ fn term(name: &str, text: &str) -> Result<Term, Failure> {
     })
 }
 
-/// Numbers separated by commas or blanks; a comma may have a blank after it.
-fn numbers(texts: Vec<String>) -> Result<Vec<u32>, Failure> {
+/// The bits of a term's card.
+fn bits(text: String) -> Result<Vec<bool>, Failure> {
+    let term = term("term", &given(text)?)?;
+    term.bits().map_err(Failure::text)
+}
+
+/// The text of the term that the bits make. That the unit refuses it is said beside it.
+fn text_of(bits: &[bool]) -> Result<String, Failure> {
+    let term = Term::from_bits(bits).map_err(Failure::text)?;
+    if let Err(error) = term.bits() {
+        tell(&format!(
+            "the unit refuses to import it (refusal 13): {error}"
+        ));
+    }
+    Ok(term.to_string())
+}
+
+/// The texts of several arguments, a blank between two.
+fn all(texts: Vec<String>) -> Result<String, Failure> {
     let texts: Result<Vec<String>, Failure> = texts.into_iter().map(given).collect();
-    let text = texts?.join(" ");
-    let groups = text.split_whitespace();
-    let numbers = groups.flat_map(|group| group.strip_suffix(',').unwrap_or(group).split(','));
-    let number = |(place, text): (usize, &str)| {
-        text.parse().map_err(|_| {
-            let limit = u32::MAX;
-            Failure::text(format!(
-                "word {place}: expected a number from 0 to {limit}, found `{text}`"
-            ))
-        })
-    };
-    (1..).zip(numbers).map(number).collect()
+    Ok(texts?.join(" "))
 }

@@ -21,6 +21,10 @@ pub enum Task {
     Table(String),
     Words(String),
     Text(Vec<String>),
+    Card(String),
+    FromCard(Vec<String>),
+    Bits(String),
+    FromBits(Vec<String>),
     Judge(Terms, Settings),
 }
 
@@ -52,6 +56,10 @@ enum Mode {
     Table,
     Words,
     Text,
+    Card,
+    FromCard,
+    Bits,
+    FromBits,
 }
 
 /// Reads the arguments after the command's name.
@@ -79,6 +87,10 @@ pub fn read(arguments: &[&str]) -> Result<Task, Failure> {
                 "--table" => mode = option.mode(mode, Mode::Table)?,
                 "--show-words" => mode = option.mode(mode, Mode::Words)?,
                 "--text" => mode = option.mode(mode, Mode::Text)?,
+                "--card" => mode = option.mode(mode, Mode::Card)?,
+                "--from-card" => mode = option.mode(mode, Mode::FromCard)?,
+                "--bits" => mode = option.mode(mode, Mode::Bits)?,
+                "--from-bits" => mode = option.mode(mode, Mode::FromBits)?,
                 "--exit-code" => settings.exit_code = option.is_alone()?,
                 "--budget" => settings.budget = option.number()?,
                 "--words" => settings.words = option.number()?,
@@ -143,18 +155,30 @@ impl<'a, 'r> Argument<'a, 'r> {
 }
 
 fn task(mode: Mode, texts: &[&str], settings: Settings) -> Result<Task, Failure> {
-    let found = texts.len();
-    match (mode, texts) {
-        (Mode::Judge, _) => Ok(Task::Judge(terms(texts)?, settings)),
-        (Mode::Table, [text]) => Ok(Task::Table(text.to_string())),
-        (Mode::Words, [text]) => Ok(Task::Words(text.to_string())),
-        (Mode::Text, _) => Ok(Task::Text(
-            texts.iter().map(|text| text.to_string()).collect(),
-        )),
-        (Mode::Table | Mode::Words, _) => Err(Failure::usage(format!(
-            "one term in single quotes is needed; found {found} arguments"
+    match mode {
+        Mode::Judge => Ok(Task::Judge(terms(texts)?, settings)),
+        Mode::Table => term(texts).map(Task::Table),
+        Mode::Words => term(texts).map(Task::Words),
+        Mode::Text => Ok(Task::Text(all(texts))),
+        Mode::Card => term(texts).map(Task::Card),
+        Mode::FromCard => Ok(Task::FromCard(all(texts))),
+        Mode::Bits => term(texts).map(Task::Bits),
+        Mode::FromBits => Ok(Task::FromBits(all(texts))),
+    }
+}
+
+fn term(texts: &[&str]) -> Result<String, Failure> {
+    match texts {
+        [text] => Ok(text.to_string()),
+        _ => Err(Failure::usage(format!(
+            "one term in single quotes is needed; found {} arguments",
+            texts.len()
         ))),
     }
+}
+
+fn all(texts: &[&str]) -> Vec<String> {
+    texts.iter().map(|text| text.to_string()).collect()
 }
 
 fn terms(texts: &[&str]) -> Result<Terms, Failure> {
