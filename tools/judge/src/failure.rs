@@ -20,7 +20,7 @@ impl Failure {
         Failure::text(format!("{reason}\nSee judge --help."))
     }
 
-    /// Text, words, bits or a card that are no term, or a term without words or a card.
+    /// Text, words, bits or an encoding that are no term, or a term without words or an encoding.
     pub fn text(message: impl Display) -> Failure {
         Failure {
             status: 2,

@@ -15,7 +15,7 @@ use std::process::{Command, ExitCode};
 use failure::Failure;
 use options::{Settings, Task, Terms, STANDARD_INPUT};
 use unit::program::{ask, input};
-use unit::{bits_text, card_text, read_bits, repository, table, table_text, words_text};
+use unit::{bits_text, encoding_text, read_bits, repository, table, table_text, words_text};
 use unit::{Term, TextError};
 
 const HELP: &str = include_str!("help.txt");
@@ -69,8 +69,8 @@ fn run(arguments: Vec<OsString>) -> Result<(String, u8), Failure> {
             let term = Term::from_words(&numbers::words(&all(texts)?)?);
             term.map_err(Failure::text)?.to_string()
         }
-        Task::Card(text) => card_text(&bits(text)?),
-        Task::FromCard(texts) => text_of(&numbers::card(&all(texts)?)?)?,
+        Task::Encoding(text) => encoding_text(&bits(text)?),
+        Task::FromEncoding(texts) => text_of(&numbers::encoding(&all(texts)?)?)?,
         Task::Bits(text) => bits_text(&bits(text)?),
         Task::FromBits(texts) => {
             let bits = read_bits(&all(texts)?);
@@ -183,7 +183,7 @@ fn term(name: &str, text: &str) -> Result<Term, Failure> {
     })
 }
 
-/// The bits of a term's card.
+/// The bits of a term's encoding.
 fn bits(text: String) -> Result<Vec<bool>, Failure> {
     let term = term("term", &given(text)?)?;
     term.bits().map_err(Failure::text)

@@ -191,9 +191,9 @@ fn terms_are_read_from_standard_input() {
     assert_eq!(on(" 1\n", &[r"\0 7", "-"]), line);
     assert_eq!(on("\\0", &["--table", "-"]), judge(&["--table", r"\0"]));
     assert_eq!(on("2,1,0,24\n", &["--text", "-"]), printed(r"(\0) 3"));
-    assert_eq!(on("\\0\n", &["--card", "-"]), printed("4 32"));
-    assert_eq!(on("4 32\n", &["--from-card", "-"]), printed(r"\0"));
-    assert_eq!(on("32\n", &["--from-card", "4", "-"]), printed(r"\0"));
+    assert_eq!(on("\\0\n", &["--encoding", "-"]), printed("4 32"));
+    assert_eq!(on("4 32\n", &["--from-encoding", "-"]), printed(r"\0"));
+    assert_eq!(on("32\n", &["--from-encoding", "4", "-"]), printed(r"\0"));
     assert_eq!(on("\\0\n", &["--bits", "-"]), printed("0010"));
     assert_eq!(on("00\n10\n", &["--from-bits", "-"]), printed(r"\0"));
     for (input, found) in [("", 0), ("0\n", 1), ("0\n1\n2\n", 3)] {
@@ -651,7 +651,7 @@ fn text_errors_name_the_term_and_the_place() {
     );
     assert!(refused(2, &["--table", "0 )"]).starts_with("judge: term, column 3: "));
     assert!(refused(2, &["--show-words", ""]).starts_with("judge: term, column 1: "));
-    assert!(refused(2, &["--card", "0)"]).starts_with("judge: term, column 2: "));
+    assert!(refused(2, &["--encoding", "0)"]).starts_with("judge: term, column 2: "));
     assert!(refused(2, &["--bits", "\\"]).starts_with("judge: term, column 2: "));
 }
 
@@ -708,16 +708,16 @@ fn bad_usage_is_status_2() {
             "--text and another option ask for two things at once",
         ),
         (
-            &["--card", "--bits", "0"],
+            &["--encoding", "--bits", "0"],
             "--bits and another option ask for two things at once",
         ),
         (
-            &["--from-bits", "--from-card", "0"],
-            "--from-card and another option ask for two things at once",
+            &["--from-bits", "--from-encoding", "0"],
+            "--from-encoding and another option ask for two things at once",
         ),
         (&["--from-bits=10"], "--from-bits takes no value"),
         (&["--table"], "one term in single quotes is needed"),
-        (&["--card"], "one term in single quotes is needed"),
+        (&["--encoding"], "one term in single quotes is needed"),
         (&["--bits", "0", "1"], "one term in single quotes is needed"),
         (
             &["--show-words", "0", "1"],
@@ -779,26 +779,29 @@ fn tables_words_and_text_need_no_program() {
 }
 
 #[test]
-fn cards_and_bits_need_no_program() {
+fn encodings_and_bits_need_no_program() {
     let root = Path::new("/");
-    for (text, card, bits) in [
+    for (text, encoding, bits) in [
         (r"\0", "4 32", "0010"),
         (r"\\1", "7 12", "0000110"),
         (r"\\\1", "9 3,0", "000000110"),
         (r"\\\2 0 (1 0)", "23 1,122,116", "00000001011110100111010"),
     ] {
-        assert_eq!(judge_in(root, &["--card", text]), printed(card));
-        assert_eq!(judge_in(root, &["--from-card", card]), printed(text));
+        assert_eq!(judge_in(root, &["--encoding", text]), printed(encoding));
+        assert_eq!(
+            judge_in(root, &["--from-encoding", encoding]),
+            printed(text)
+        );
         assert_eq!(judge_in(root, &["--bits", text]), printed(bits));
         assert_eq!(judge_in(root, &["--from-bits", bits]), printed(text));
     }
-    for card in [
+    for encoding in [
         &["23", "1,122,116"][..],
         &["23", "1", "122", "116"],
         &["23,1, 122", "116,"],
         &["23", "1,122,116,0,0"],
     ] {
-        let arguments = [&["--from-card"], card].concat();
+        let arguments = [&["--from-encoding"], encoding].concat();
         assert_eq!(judge_in(root, &arguments), printed(r"\\\2 0 (1 0)"));
     }
     for bits in [&["00 00 110"][..], &["00", "00", "110"], &[" 0000\t11 0"]] {
@@ -808,18 +811,18 @@ fn cards_and_bits_need_no_program() {
 }
 
 #[test]
-fn a_term_without_a_card_is_said() {
-    const KINDS: &str = "cards have only variables, abstractions and applications";
+fn a_term_without_an_encoding_is_said() {
+    const KINDS: &str = "encodings have only variables, abstractions and applications";
     for (text, reason) in [
         (
             r"\1",
-            "word 2: index 1 is the free variable 0; only closed terms have cards".to_string(),
+            "word 2: index 1 is the free variable 0; only closed terms have encodings".to_string(),
         ),
         (r"\#1[0]", format!("word 2: #1 is a constructor; {KINDS}")),
         (r"\?0{_:0}", format!("word 2: ? is a case; {KINDS}")),
         ("%8 %2", format!("word 2: %8 is a numeral; {KINDS}")),
     ] {
-        for option in ["--card", "--bits"] {
+        for option in ["--encoding", "--bits"] {
             assert_eq!(refused(2, &[option, text]), format!("judge: {reason}\n"));
         }
     }
@@ -827,14 +830,17 @@ fn a_term_without_a_card_is_said() {
 
 #[test]
 fn an_open_term_of_bits_is_printed_and_its_refusal_said() {
-    for arguments in [&["--from-bits", "00110"][..], &["--from-card", "5", "48"]] {
+    for arguments in [
+        &["--from-bits", "00110"][..],
+        &["--from-encoding", "5", "48"],
+    ] {
         assert_eq!(
             judge(arguments),
             (
                 0,
                 "\\1\n".to_string(),
                 "judge: the unit refuses to import it (refusal 13): word 2: index 1 is the free \
-                 variable 0; only closed terms have cards\n"
+                 variable 0; only closed terms have encodings\n"
                     .to_string()
             )
         );
@@ -861,35 +867,35 @@ fn bit_errors_name_the_place() {
             "bit 4: expected 0 or 1, found `2`",
         ),
         (
-            &["--from-card", "0"],
+            &["--from-encoding", "0"],
             "bit 1: the bits end before the term does",
         ),
         (
-            &["--from-card", "3", "32"],
+            &["--from-encoding", "3", "32"],
             "bit 4: the bits end before the term does",
         ),
         (
-            &["--from-card", "8", "32"],
+            &["--from-encoding", "8", "32"],
             "bit 5: from here on bits are left over after the term",
         ),
         (
-            &["--from-card", "4", "33"],
+            &["--from-encoding", "4", "33"],
             "bit 8: a 1 past the bit count, 4, where every bit is 0",
         ),
         (
-            &["--from-card", "9", "32"],
+            &["--from-encoding", "9", "32"],
             "bit 9: the bytes end before the bit count, 9",
         ),
         (
-            &["--from-card"],
+            &["--from-encoding"],
             "bit count: expected a number from 0 to 4294967295, found ``",
         ),
         (
-            &["--from-card", "x", "32"],
+            &["--from-encoding", "x", "32"],
             "bit count: expected a number from 0 to 4294967295, found `x`",
         ),
         (
-            &["--from-card", "4", "32,256"],
+            &["--from-encoding", "4", "32,256"],
             "byte 2: expected a number from 0 to 255, found `256`",
         ),
     ] {
@@ -944,8 +950,8 @@ fn help_is_short() {
         "--table",
         "--show-words",
         "--text",
-        "--card",
-        "--from-card",
+        "--encoding",
+        "--from-encoding",
         "--bits",
         "--from-bits",
     ] {

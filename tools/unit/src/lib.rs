@@ -1,11 +1,11 @@
 //! What the tools know of the unit: its words and limits, terms as text, as words, as stored tables
-//! and as cards, and the program `verdict`. The rules are those of docs/RULES.md.
+//! and as encodings, and the program `verdict`. The rules are those of docs/RULES.md.
 //!
 //! Nothing here decides anything about a term: whatever a table can hold goes to the program, which
 //! refuses what is out of range. Terms are flat and every walk is a loop, so no depth of nesting
 //! exhausts the machine stack.
 
-mod card;
+mod encoding;
 pub mod limits;
 mod notation;
 mod print;
@@ -16,7 +16,7 @@ mod term;
 pub mod word;
 mod words;
 
-pub use card::{bits_text, card_bits, card_text, read_bits, BitError};
+pub use encoding::{bits_text, encoding_bits, encoding_text, read_bits, BitError};
 pub use notation::TextError;
 pub use table::{table, table_text, FORM, RECORD};
 pub use term::Term;

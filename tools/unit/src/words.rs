@@ -6,8 +6,8 @@ use crate::limits::{MAX_COUNT, MAX_INDEX, MAX_NUMERAL};
 use crate::term::{Node, Term};
 use crate::word::*;
 
-/// Words that are no term, or a term without words or a card: the place, counted in words from 1, and
-/// why.
+/// Words that are no term, or a term without words or an encoding: the place, counted in words from
+/// 1, and why.
 #[derive(Clone, Debug, PartialEq, Eq)]
 pub struct WordError {
     pub place: usize,

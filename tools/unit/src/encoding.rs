@@ -1,5 +1,5 @@
-//! Cards of Tromp's binary lambda calculus: closed terms of variables, abstractions and applications
-//! as bits.
+//! Encodings in Tromp's binary lambda calculus: closed terms of variables, abstractions and
+//! applications as bits.
 //!
 //! ```text
 //! abstraction = 00 body
@@ -7,8 +7,8 @@
 //! index i     = i + 1 ones, 0
 //! ```
 //!
-//! A card is bytes and the count of its bits beside them. The first bit of a byte is its highest one,
-//! and every bit past the count is 0.
+//! An encoding is bytes and the count of its bits beside them. The first bit of a byte is its highest
+//! one, and every bit past the count is 0.
 
 use std::fmt;
 use std::iter::repeat_n;
@@ -20,7 +20,7 @@ use crate::words::{words_text, WordError};
 
 const BYTE: usize = 8;
 
-/// Bits that are no term, or no card: the place, counted in bits from 1, and why.
+/// Bits that are no term, or no encoding: the place, counted in bits from 1, and why.
 #[derive(Clone, Debug, PartialEq, Eq)]
 pub struct BitError {
     pub place: usize,
@@ -34,7 +34,7 @@ impl fmt::Display for BitError {
 }
 
 impl Term {
-    /// The bits of the term's card, or the first word for which it has none.
+    /// The bits of the term's encoding, or the first word for which it has none.
     pub fn bits(&self) -> Result<Vec<bool>, WordError> {
         let mut bits = Vec::new();
         // The binders around each term that is to come, the next one last.
@@ -99,7 +99,7 @@ fn node_bits(node: Node, binders: usize) -> Result<Vec<bool>, String> {
             return match index.checked_sub(binders) {
                 None => Ok([vec![true; index + 1], vec![false]].concat()),
                 Some(free) => Err(format!(
-                    "index {index} is the free variable {free}; only closed terms have cards"
+                    "index {index} is the free variable {free}; only closed terms have encodings"
                 )),
             };
         }
@@ -108,7 +108,7 @@ fn node_bits(node: Node, binders: usize) -> Result<Vec<bool>, String> {
         Node::Numeral { value } => format!("%{value} is a numeral"),
     };
     Err(format!(
-        "{other}; cards have only variables, abstractions and applications"
+        "{other}; encodings have only variables, abstractions and applications"
     ))
 }
 
@@ -122,8 +122,8 @@ fn variable(index: usize) -> Result<Node, String> {
     }
 }
 
-/// The bits of a card.
-pub fn card_bits(count: usize, bytes: &[u8]) -> Result<Vec<bool>, BitError> {
+/// The bits of an encoding.
+pub fn encoding_bits(count: usize, bytes: &[u8]) -> Result<Vec<bool>, BitError> {
     let bit = |position: usize| bytes[position / BYTE] << (position % BYTE) & 0x80 != 0;
     let mut bits: Vec<bool> = (0..bytes.len() * BYTE).map(bit).collect();
     if count > bits.len() {
@@ -153,8 +153,8 @@ fn packed(bits: &[bool]) -> Vec<u8> {
     bytes
 }
 
-/// The card of bits as the vectors write it, the count and the bytes: `23 1,122,116`.
-pub fn card_text(bits: &[bool]) -> String {
+/// The encoding of bits as the vectors write it, the count and the bytes: `23 1,122,116`.
+pub fn encoding_text(bits: &[bool]) -> String {
     let bytes: Vec<u32> = packed(bits).into_iter().map(u32::from).collect();
     format!("{} {}", bits.len(), words_text(&bytes))
 }

@@ -1,10 +1,10 @@
-//! Cards, against bits and bytes worked out by hand from the rules of the encoding.
+//! Encodings, against bits and bytes worked out by hand from the rules of the encoding.
 
 mod common;
 
 use common::TEXTS;
 use unit::limits::MAX_INDEX;
-use unit::{bits_text, card_bits, card_text, read_bits, Term};
+use unit::{bits_text, encoding_bits, encoding_text, read_bits, Term};
 
 fn term(text: &str) -> Term {
     text.parse().expect("a term")
@@ -14,44 +14,44 @@ fn read(bits: &str) -> Vec<bool> {
     read_bits(bits).unwrap_or_else(|error| panic!("{bits}: {error}"))
 }
 
-/// The bits, the card and the text belong together.
-fn assert_card(text: &str, bits: &str, card: (usize, &[u8])) {
-    let (count, bytes) = card;
+/// The bits, the encoding and the text belong together.
+fn assert_encoding(text: &str, bits: &str, encoding: (usize, &[u8])) {
+    let (count, bytes) = encoding;
     let found = term(text).bits().expect(text);
     assert_eq!(found, read(bits), "{text}");
     let numbers: Vec<String> = bytes.iter().map(u8::to_string).collect();
     assert_eq!(
-        card_text(&found),
+        encoding_text(&found),
         format!("{count} {}", numbers.join(",")),
         "{text}"
     );
-    assert_eq!(card_bits(count, bytes), Ok(found.clone()), "{text}");
+    assert_eq!(encoding_bits(count, bytes), Ok(found.clone()), "{text}");
     assert_eq!(Term::from_bits(&found), Ok(term(text)));
 }
 
 #[test]
-fn named_terms_have_these_cards() {
-    assert_card(r"\0", "00 10", (4, &[32]));
-    assert_card(r"\\0", "00 00 10", (6, &[8]));
-    assert_card(r"\\1", "00 00 110", (7, &[12]));
+fn named_terms_have_these_encodings() {
+    assert_encoding(r"\0", "00 10", (4, &[32]));
+    assert_encoding(r"\\0", "00 00 10", (6, &[8]));
+    assert_encoding(r"\\1", "00 00 110", (7, &[12]));
     // S.
     let bits = "00 00 00 01 01 1110 10 01 110 10";
-    assert_card(r"\\\2 0 (1 0)", bits, (23, &[1, 122, 116]));
+    assert_encoding(r"\\\2 0 (1 0)", bits, (23, &[1, 122, 116]));
     // Omega: 01000110 10000110 10.
     let bits = "01 00 01 10 10 00 01 10 10";
-    assert_card(r"(\0 0) \0 0", bits, (18, &[70, 134, 128]));
+    assert_encoding(r"(\0 0) \0 0", bits, (18, &[70, 134, 128]));
     // Y: 00010001 11001101 00001110 011010.
     let bits = "00 01 00 01 110 01 10 10 00 01 110 01 10 10";
     let y = r"\(\1 (0 0)) \1 (0 0)";
-    assert_card(y, bits, (30, &[17, 205, 14, 104]));
+    assert_encoding(y, bits, (30, &[17, 205, 14, 104]));
 }
 
 #[test]
 fn bits_end_with_a_byte_or_one_bit_after_it() {
-    assert_card(r"\\\0", "00000010", (8, &[2]));
-    assert_card(r"\\\1", "00000011 0", (9, &[3, 0]));
+    assert_encoding(r"\\\0", "00000010", (8, &[2]));
+    assert_encoding(r"\\\1", "00000011 0", (9, &[3, 0]));
     // Church 2.
-    assert_card(r"\\1 (1 0)", "00000111 00111010", (16, &[7, 58]));
+    assert_encoding(r"\\1 (1 0)", "00000111 00111010", (16, &[7, 58]));
 }
 
 #[test]
@@ -64,15 +64,15 @@ fn long_runs_cross_bytes() {
     // 126 zeros: 15 bytes and 6 bits; 2 ones, 7 bytes of them, 5 ones.
     let (text, bits) = run(63);
     let bytes = [&[0; 15][..], &[3], &[255; 7], &[248]].concat();
-    assert_card(&text, &bits, (190, &bytes));
+    assert_encoding(&text, &bits, (190, &bytes));
     // 128 zeros: 16 bytes; 8 bytes of ones; the zero.
     let (text, bits) = run(64);
     let bytes = [&[0; 16][..], &[255; 8], &[0]].concat();
-    assert_card(&text, &bits, (193, &bytes));
+    assert_encoding(&text, &bits, (193, &bytes));
     // 130 zeros: 16 bytes and 2 bits; 6 ones, 7 bytes of them, 3 ones.
     let (text, bits) = run(65);
     let bytes = [&[0; 16][..], &[63], &[255; 7], &[224]].concat();
-    assert_card(&text, &bits, (196, &bytes));
+    assert_encoding(&text, &bits, (196, &bytes));
 }
 
 /// The term below so many abstractions.
@@ -110,15 +110,15 @@ fn nesting_has_no_limit() {
         format!(r"\0{}", " 0".repeat(depth)),
     ] {
         let term = term(&text);
-        let bits = term.bits().expect("a card");
+        let bits = term.bits().expect("an encoding");
         assert_eq!(Term::from_bits(&bits), Ok(term));
     }
 }
 
 #[test]
-fn terms_without_a_card() {
-    const KINDS: &str = "cards have only variables, abstractions and applications";
-    const CLOSED: &str = "only closed terms have cards";
+fn terms_without_an_encoding() {
+    const KINDS: &str = "encodings have only variables, abstractions and applications";
+    const CLOSED: &str = "only closed terms have encodings";
     let error = |text: &str| term(text).bits().expect_err(text).to_string();
     for (text, place, free) in [
         ("0", 1, "index 0 is the free variable 0"),
@@ -194,8 +194,12 @@ fn bits_that_are_no_term() {
 }
 
 #[test]
-fn bytes_that_are_no_card() {
-    let error = |count, bytes: &[u8]| card_bits(count, bytes).expect_err("no card").to_string();
+fn bytes_that_are_no_encoding() {
+    let error = |count, bytes: &[u8]| {
+        encoding_bits(count, bytes)
+            .expect_err("no encoding")
+            .to_string()
+    };
     assert_eq!(
         error(1, &[]),
         "bit 1: the bytes end before the bit count, 1"
@@ -219,9 +223,9 @@ fn bytes_that_are_no_card() {
         let padding = format!("bit {place}: a 1 past the bit count, {count}, where every bit is 0");
         assert_eq!(error(count, bytes), padding);
     }
-    // Further bytes of zeros are part of the card.
-    assert_eq!(card_bits(4, &[32, 0, 0]), Ok(read("0010")));
-    assert_eq!(card_bits(0, &[]), Ok(vec![]));
+    // Further bytes of zeros are part of the encoding.
+    assert_eq!(encoding_bits(4, &[32, 0, 0]), Ok(read("0010")));
+    assert_eq!(encoding_bits(0, &[]), Ok(vec![]));
 }
 
 #[test]
@@ -297,7 +301,7 @@ fn a_term_of_random_bits_has_exactly_these() {
 }
 
 #[test]
-fn random_bytes_are_a_card_or_an_error() {
+fn random_bytes_are_an_encoding_or_an_error() {
     let mut state = 0x2545_F491_4F6C_DD1D;
     for case in 0..20_000 {
         let digits = random_bits(&mut state, 8 * (case % 5) + 6);
@@ -309,6 +313,10 @@ fn random_bytes_are_a_card_or_an_error() {
             Some((bits, past)) if !past.contains(&true) => Some(bits.to_vec()),
             _ => None,
         };
-        assert_eq!(card_bits(count, &bytes).ok(), expected, "{count} {bytes:?}");
+        assert_eq!(
+            encoding_bits(count, &bytes).ok(),
+            expected,
+            "{count} {bytes:?}"
+        );
     }
 }
