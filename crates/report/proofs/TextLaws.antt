@@ -25,7 +25,7 @@ use Rattle.calls.specs.declared.Report.the-variants as report
 use Rattle.script.specs.declared.Side.{Side}
 use Rattle.script.specs.declared.Side.the-variants as side
 use Rattle.calls.specs.Calls.{sideOf, partOf, chosen}
-use Rattle.report.specs.Text.{loadName, writeName, lineName, importName, exportName, leftName, rightName, scratchName}
+use Rattle.text.specs.Names.{loadName, writeName, lineName, importName, exportName, leftName, rightName, scratchName}
 use Rattle.report.specs.Text.{row, headMost, refusedHead, answerHead, pressHead, showHead, sideNumber, sessionHead}
 use Rattle.report.specs.Types.{stateHead, headOf, Lines-exact, Counts}
 

@@ -9,6 +9,7 @@ use Rattle.claim.specs.Answer as press
 use Rattle.press.specs.Showing.{Side, Part, left, right, partWords}
 use Rattle.calculus.specs.Bringing as bring
 use Rattle.text.specs.Decimal.{digitsMost, field, newline}
+use Rattle.text.specs.Names.{loadName, lineName, importName, writeName, exportName, showName, leftName, rightName, scratchName}
 use Rattle.verdict_text.specs.Line.{nameOf}
 use Rattle.calls.specs.Calls.{State, Told, ofLoad, ofPress, ofShow, ofWrite, ofSet, ofStore, ofPrint, ofLine, ofImport, ofExport}
 
@@ -30,39 +31,12 @@ abbrev pub textOf : List Row → List ℕ
 textOf [] = []
 textOf (r ∷ rs) = lineBytes r ++ textOf rs
 
--- The words that are printed, as ASCII.
-abbrev pub loadName : List ℕ
-loadName = 108 ∷ 111 ∷ 97 ∷ 100 ∷ []
-
-abbrev pub writeName : List ℕ
-writeName = 119 ∷ 114 ∷ 105 ∷ 116 ∷ 101 ∷ []
-
-abbrev pub showName : List ℕ
-showName = 115 ∷ 104 ∷ 111 ∷ 119 ∷ []
-
+-- Words that only replaying prints, as ASCII.
 abbrev pub sessionName : List ℕ
 sessionName = 115 ∷ 101 ∷ 115 ∷ 115 ∷ 105 ∷ 111 ∷ 110 ∷ []
 
 abbrev pub storeName : List ℕ
 storeName = 115 ∷ 116 ∷ 111 ∷ 114 ∷ 101 ∷ []
-
-abbrev pub lineName : List ℕ
-lineName = 108 ∷ 105 ∷ 110 ∷ 101 ∷ []
-
-abbrev pub importName : List ℕ
-importName = 105 ∷ 109 ∷ 112 ∷ 111 ∷ 114 ∷ 116 ∷ []
-
-abbrev pub exportName : List ℕ
-exportName = 101 ∷ 120 ∷ 112 ∷ 111 ∷ 114 ∷ 116 ∷ []
-
-abbrev pub leftName : List ℕ
-leftName = 108 ∷ 101 ∷ 102 ∷ 116 ∷ []
-
-abbrev pub rightName : List ℕ
-rightName = 114 ∷ 105 ∷ 103 ∷ 104 ∷ 116 ∷ []
-
-abbrev pub scratchName : List ℕ
-scratchName = 115 ∷ 99 ∷ 114 ∷ 97 ∷ 116 ∷ 99 ∷ 104 ∷ []
 
 abbrev pub refusedName : List ℕ
 refusedName = 114 ∷ 101 ∷ 102 ∷ 117 ∷ 115 ∷ 101 ∷ 100 ∷ []

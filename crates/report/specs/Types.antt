@@ -12,7 +12,8 @@ use Rattle.calls.specs.declared.Report.{Report}
 use Rattle.calls.specs.declared.Report.the-variants as report
 use Rattle.calls.specs.declared.Kept.{Kept}
 use Rattle.calls.specs.Calls.{chosen, partOf, reportOf, stateOf}
-use Rattle.report.specs.Text.{loadName, writeName, sessionName, storeName, lineName, importName, exportName, leftName, rightName, scratchName}
+use Rattle.text.specs.Names.{loadName, writeName, lineName, importName, exportName, leftName, rightName, scratchName}
+use Rattle.report.specs.Text.{sessionName, storeName}
 use Rattle.report.specs.Text.{Row, row, rowsOf, answerHead, pressHead, showHead, sessionHead}
 
 -- How many lines a report has.

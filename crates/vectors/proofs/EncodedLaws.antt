@@ -15,7 +15,8 @@ use Rattle.words.proofs.PlacedLaws.{sets-whole}
 use Rattle.vector_text.specs.Text.{nowhere, after, numberAt}
 use Rattle.vector_text.specs.Lists.{listMost, Listed}
 use Rattle.vector_text.proofs.ListLaws.{lent-length}
-use Rattle.vectors.specs.Keywords.{refusedWord, writesWord}
+use Rattle.text.specs.Names.{refusalName}
+use Rattle.vectors.specs.Keywords.{writesWord}
 use Rattle.vectors.specs.Answers.{isReturned}
 use Rattle.vectors.specs.Pair.{junk}
 use Rattle.vectors.specs.Stored.{verifiedOf, refusedLast, isLast, junkTable, broughtAs, endsAs}
@@ -52,7 +53,7 @@ module _ (line : List ℕ) (at count : ℕ) (bytes : List ℕ) (q : Brought) (c 
   unfolding importedAs
   import-exports n = rw (← is, ne-eqb (c .count) 0 n)
 
-module _ (line : List ℕ) (at : ℕ) (q : Exported) (from : ℕ) (is : from ≡ after line at refusedWord) where
+module _ (line : List ℕ) (at : ℕ) (q : Exported) (from : ℕ) (is : from ≡ after line at refusalName) where
   pub export-refused : (from ≡ nowhere → ⊥) → exportedAs line at q ≡ refusedLast line from (q .answer) (q .bytes)
   unfolding exportedAs
   export-refused n = rw (← is, ne-eqb from nowhere n)

@@ -11,7 +11,8 @@ use borrow.Author.Tests.{eq-eqb, ne-eqb}
 use Rattle.calculus.specs.Bringing.{Brought}
 use Rattle.tables.specs.Write.{Written}
 use Rattle.vector_text.specs.Text.{nowhere, after, numberAt}
-use Rattle.vectors.specs.Keywords.{refusedWord, givesWord}
+use Rattle.text.specs.Names.{refusalName}
+use Rattle.vectors.specs.Keywords.{givesWord}
 use Rattle.vector_text.specs.Lists.{Listed, comparedAt}
 use Rattle.vectors.specs.Answers.{isReturned}
 use Rattle.vectors.specs.Stored.{refusedLast, chainWord, chainFrom, chain, isTable, writtenAs, junkTable, writesInto, writesBack, refusedAs, givenAs, broughtAs, endsAs, loadedAs, writesListed}
@@ -48,14 +49,14 @@ module _ (records index : ℕ) where
       let none : length table - i ≡ 0 = omega arith in
       rw none
 
-module _ (line : List ℕ) (at : ℕ) (loaded : List ℕ) (len : ℕ) (w : Written) (from : ℕ) (is : from ≡ after line at refusedWord) where
+module _ (line : List ℕ) (at : ℕ) (loaded : List ℕ) (len : ℕ) (w : Written) (from : ℕ) (is : from ≡ after line at refusalName) where
   pub write-refused : (from ≡ nowhere → ⊥) → writtenAs line at loaded len w ≡ record { holds = refusedLast line from (w .answer) (w .table); words = w .table }
   write-refused n = rw (← is, ne-eqb from nowhere n)
 
   pub write-given : from ≡ nowhere → writtenAs line at loaded len w ≡ record { holds = isReturned (w .answer) len && isTable line at (w .table) loaded; words = w .table }
   write-given e = rw (← is, eq-eqb from nowhere e)
 
-module _ (line : List ℕ) (at : ℕ) (q : Brought) (from : ℕ) (is : from ≡ after line at refusedWord) where
+module _ (line : List ℕ) (at : ℕ) (q : Brought) (from : ℕ) (is : from ≡ after line at refusalName) where
   pub brought-refused : (from ≡ nowhere → ⊥) → broughtAs line at q ≡ refusedAs line from q
   unfolding broughtAs
   brought-refused n = rw (← is, ne-eqb from nowhere n)

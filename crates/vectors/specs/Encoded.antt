@@ -11,7 +11,8 @@ use Rattle.text.specs.Bytes.{areBytes}
 use Rattle.vector_text.specs.Text.{nowhere, after, numberAt}
 use Rattle.vector_text.specs.Compared.{areWords}
 use Rattle.vector_text.specs.Lists.{listMost, Listed, listAt}
-use Rattle.vectors.specs.Keywords.{refusedWord, writesWord}
+use Rattle.text.specs.Names.{refusalName}
+use Rattle.vectors.specs.Keywords.{writesWord}
 use Rattle.vectors.specs.Answers.{isReturned}
 use Rattle.vectors.specs.Pair.{junk, junkWords}
 use Rattle.vectors.specs.Stored.{Verified, verifiedOf, refusedLast, isLast, junkTable, broughtAs, endsAs}
@@ -51,7 +52,7 @@ importHolds line at =
 -- Exporting a term: a refusal changes nothing, and else the bit count and the bytes are those that the line says.
 unfoldable pub exportedAs : List ℕ → (at : ℕ) → Exported → Bool
 exportedAs line at q =
-    let from = after line at refusedWord in
+    let from = after line at refusalName in
     let count = numberAt line (after line at writesWord) in
     cond (eqb from nowhere) (isReturned (q .answer) (count .value) && isLast line (count .next) (q .bytes))
     (refusedLast line from (q .answer) (q .bytes))

@@ -12,8 +12,9 @@ use Rattle.claim.specs.State.{Session, fresh}
 use Rattle.claim.specs.Answer.{Answer, refused, shown}
 use Rattle.calculus.specs.Bringing as bring
 use Rattle.vector_text.specs.Text.{nowhere, after, numberAt, settingAt}
-use Rattle.vectors.specs.Keywords.{pairWord, loadWord, lineWord, importWord, exportWord, writeWord, leftWord, pressWord, showWord}
-use Rattle.vectors.specs.Keywords.{sameWord, differentWord, atWord, refusedWord, givesWord, writesWord}
+use Rattle.text.specs.Names.{loadName, lineName, importName, writeName, exportName, showName, leftName, sameName, differentName, refusalName}
+use Rattle.vectors.specs.Keywords.{pairWord, pressWord}
+use Rattle.vectors.specs.Keywords.{atWord, givesWord, writesWord}
 use Rattle.vector_text.specs.Lists.{listAt}
 use Rattle.vectors.specs.Answers.{isSession, isShown, isRefused}
 use Rattle.vectors.specs.Pair.{junk, lentAt, Stage, refusedAfter, countedAfter}
@@ -56,8 +57,8 @@ pub record Read-examples : Type 0 where
   pub number-none : numberAt list 3 ≡ record { value = 0; next = nowhere }
   pub number-behind-a-space : numberAt (32 ∷ 53 ∷ []) 0 ≡ record { value = 5; next = 2 }
   pub number-behind-two : numberAt (32 ∷ 32 ∷ 53 ∷ []) 0 ≡ record { value = 0; next = nowhere }
-  pub setting : settingAt given 0 leftWord 9 ≡ record { value = 3; next = 6 }
-  pub setting-default : settingAt list 0 leftWord 9 ≡ record { value = 9; next = 0 }
+  pub setting : settingAt given 0 leftName 9 ≡ record { value = 3; next = 6 }
+  pub setting-default : settingAt list 0 leftName 9 ≡ record { value = 9; next = 0 }
   pub list-fits : listAt list 0 (replicate 5 7) ≡ record { words = 8 ∷ 8 ∷ 8 ∷ 0 ∷ 7 ∷ []; count = 4; next = 5 }
   pub list-over : listAt list 0 (replicate 3 7) ≡ record { words = 8 ∷ 8 ∷ 8 ∷ []; count = 0; next = nowhere }
   pub list-empty : listAt (45 ∷ []) 0 (replicate 2 7) ≡ record { words = 7 ∷ 7 ∷ []; count = 0; next = 1 }
@@ -102,25 +103,25 @@ constant = 32 ∷ 49 ∷ 44 ∷ 56 ∷ []
 abbrev pub parting : (position : List ℕ) → List ℕ
 parting p =
     pairWord
-    ++ (n16 ++ (identity ++ (constant ++ (spaced pressWord ++ (n0 ++ (spaced differentWord ++ (n0 ++ (p ++ (identity ++ constant)))))))))
+    ++ (n16 ++ (identity ++ (constant ++ (spaced pressWord ++ (n0 ++ (spaced differentName ++ (n0 ++ (p ++ (identity ++ constant)))))))))
 
 -- `pair 16 0 8 left 0 press 0 Refused `
 abbrev pub refusing : List ℕ
-refusing = pairing ++ (spaced leftWord ++ (n0 ++ (spaced pressWord ++ (n0 ++ spaced refusedWord))))
+refusing = pairing ++ (spaced leftName ++ (n0 ++ (spaced pressWord ++ (n0 ++ spaced refusalName))))
 
 -- ` 1,1,1,0,0,v,0,0` with a digit for v, `load 16 1,1,1,0,0,0,0,0` and `load 16 -`
 abbrev pub tableWith : (digit : ℕ) → List ℕ
 tableWith v = 32 ∷ 49 ∷ 44 ∷ 49 ∷ 44 ∷ 49 ∷ 44 ∷ 48 ∷ 44 ∷ 48 ∷ 44 ∷ v ∷ 44 ∷ 48 ∷ 44 ∷ 48 ∷ []
 
 abbrev pub loading : List ℕ
-loading = loadWord ++ (n16 ++ tableWith 48)
+loading = loadName ++ (n16 ++ tableWith 48)
 
 abbrev pub loadingNothing : List ℕ
-loadingNothing = loadWord ++ (n16 ++ nothingGiven)
+loadingNothing = loadName ++ (n16 ++ nothingGiven)
 
 -- `line 16`, and with it the bytes of `\0`, 304 in place of the byte 48 of `0`, and no bytes
 abbrev pub lining : List ℕ
-lining = lineWord ++ n16
+lining = lineName ++ n16
 
 abbrev pub readingIdentity : List ℕ
 readingIdentity = lining ++ (32 ∷ 57 ∷ 50 ∷ 44 ∷ 52 ∷ 56 ∷ [])
@@ -133,7 +134,7 @@ readingNothing = lining ++ nothingGiven
 
 -- ` Refused 11`
 abbrev pub outside : List ℕ
-outside = spaced refusedWord ++ (32 ∷ 49 ∷ 49 ∷ [])
+outside = spaced refusalName ++ (32 ∷ 49 ∷ 49 ∷ [])
 
 -- The numbers ` 2`, ` 4`, ` 12` and ` 32`.
 abbrev pub n2 : List ℕ
@@ -150,7 +151,7 @@ n32 = 32 ∷ 51 ∷ 50 ∷ []
 
 -- `import 16 4`, and with it the byte of the encoding of `\0`, and a byte whose first four bits end early
 abbrev pub importing : List ℕ
-importing = importWord ++ (n16 ++ n4)
+importing = importName ++ (n16 ++ n4)
 
 abbrev pub importingIdentity : List ℕ
 importingIdentity = importing ++ n32
@@ -160,10 +161,10 @@ importingPart = importing ++ n0
 
 -- `export 16 1,0 2 1`, and `export 16 0 1 1`, of a term that is not closed
 abbrev pub exportingIdentity : List ℕ
-exportingIdentity = exportWord ++ (n16 ++ (identity ++ (n2 ++ n1)))
+exportingIdentity = exportName ++ (n16 ++ (identity ++ (n2 ++ n1)))
 
 abbrev pub exportingFree : List ℕ
-exportingFree = exportWord ++ (n16 ++ (n0 ++ (n1 ++ n1)))
+exportingFree = exportName ++ (n16 ++ (n0 ++ (n1 ++ n1)))
 
 -- `import 16 4 288`: 256 more than the byte of the encoding of `\0`
 abbrev pub importingAbove : List ℕ
@@ -171,7 +172,7 @@ importingAbove = importing ++ (32 ∷ 50 ∷ 56 ∷ 56 ∷ [])
 
 -- `write 16 0 1 8`
 abbrev pub writing : List ℕ
-writing = writeWord ++ (n16 ++ (n0 ++ (n1 ++ n8)))
+writing = writeName ++ (n16 ++ (n0 ++ (n1 ++ n8)))
 
 -- A press's answer.
 abbrev pub answered : Answer
@@ -200,19 +201,19 @@ countedStage equal session = countedAfter Different 3 4 0 (lentAs equal) answere
 
 -- Whether ` Refused 1` holds of a loading, a reading, an importing, an exporting and a writing that were refused so and left this word in what was lent.
 abbrev pub unloadedFrom : ℕ → Bool
-unloadedFrom w = loadedAs (spaced refusedWord ++ n1) 0 [] (record { answer = bring.refused WrongLength; workspace = w ∷ [] })
+unloadedFrom w = loadedAs (spaced refusalName ++ n1) 0 [] (record { answer = bring.refused WrongLength; workspace = w ∷ [] })
 
 abbrev pub unreadFrom : ℕ → Bool
-unreadFrom w = readAs (spaced refusedWord ++ n1) 0 (record { answer = bring.refused WrongLength; workspace = w ∷ [] })
+unreadFrom w = readAs (spaced refusalName ++ n1) 0 (record { answer = bring.refused WrongLength; workspace = w ∷ [] })
 
 abbrev pub unimportedFrom : ℕ → Bool
-unimportedFrom w = importedAs (spaced refusedWord ++ n1) 0 0 [] (record { answer = bring.refused WrongLength; workspace = w ∷ [] })
+unimportedFrom w = importedAs (spaced refusalName ++ n1) 0 0 [] (record { answer = bring.refused WrongLength; workspace = w ∷ [] })
 
 abbrev pub unexportedFrom : ℕ → Bool
-unexportedFrom w = exportedAs (spaced refusedWord ++ n1) 0 (record { answer = bring.refused WrongLength; bytes = w ∷ [] })
+unexportedFrom w = exportedAs (spaced refusalName ++ n1) 0 (record { answer = bring.refused WrongLength; bytes = w ∷ [] })
 
 abbrev pub unwrittenFrom : ℕ → Bool
-unwrittenFrom w = writtenAs (spaced refusedWord ++ n1) 0 [] 0 (record { answer = bring.refused WrongLength; table = w ∷ [] }) .holds
+unwrittenFrom w = writtenAs (spaced refusalName ++ n1) 0 [] 0 (record { answer = bring.refused WrongLength; table = w ∷ [] }) .holds
 
 -- Whether an exporting that returned this bit count and left these bytes is as ` writes 4 32` says, and is the encoding of 4 bits and the byte 32 again.
 abbrev pub writtenFrom : (count : ℕ) (bytes : List ℕ) → Bool
@@ -223,36 +224,36 @@ abbrev pub againFrom : (count : ℕ) (bytes : List ℕ) → Bool
 againFrom count bytes = isEncoding 4 (32 ∷ []) (record { answer = bring.returned count; bytes = bytes })
 
 pub record Passing-examples : Type 0 where
-  pub pressed-right : passes (pressing differentWord n0 n0 n8) ≡ true
-  pub other-verdict : passes (pressing sameWord n0 n0 n8) ≡ false
-  pub other-spent : passes (pressing differentWord n1 n0 n8) ≡ false
-  pub other-left : passes (pressing differentWord n0 n8 n8) ≡ false
-  pub other-right : passes (pressing differentWord n0 n0 n0) ≡ false
-  pub no-left : passes (pressing differentWord n0 nothingGiven n8) ≡ false
-  pub surplus : passes (pressing differentWord n0 n0 n8 ++ n0) ≡ false
+  pub pressed-right : passes (pressing differentName n0 n0 n8) ≡ true
+  pub other-verdict : passes (pressing sameName n0 n0 n8) ≡ false
+  pub other-spent : passes (pressing differentName n1 n0 n8) ≡ false
+  pub other-left : passes (pressing differentName n0 n8 n8) ≡ false
+  pub other-right : passes (pressing differentName n0 n0 n0) ≡ false
+  pub no-left : passes (pressing differentName n0 nothingGiven n8) ≡ false
+  pub surplus : passes (pressing differentName n0 n0 n8 ++ n0) ≡ false
   pub position-right : passes (parting (spaced atWord ++ n1)) ≡ true
   pub other-position : passes (parting (spaced atWord ++ n0)) ≡ false
   pub no-position : passes (parting []) ≡ false
   pub no-number-of-a-position : passes (parting (spaced atWord)) ≡ false
   pub refused-right : passes (refusing ++ (32 ∷ 49 ∷ 48 ∷ [])) ≡ true
   pub other-refusal : passes (refusing ++ n8) ≡ false
-  pub shown-right : passes (pairing ++ (spaced showWord ++ n8)) ≡ true
-  pub other-shown : passes (pairing ++ (spaced showWord ++ n0)) ≡ false
-  pub nothing-shown : passes (pairing ++ (spaced showWord ++ nothingGiven)) ≡ false
+  pub shown-right : passes (pairing ++ (spaced showName ++ n8)) ≡ true
+  pub other-shown : passes (pairing ++ (spaced showName ++ n0)) ≡ false
+  pub nothing-shown : passes (pairing ++ (spaced showName ++ nothingGiven)) ≡ false
   pub loaded-right : passes (loading ++ (spaced givesWord ++ n0)) ≡ true
   pub other-loaded : passes (loading ++ (spaced givesWord ++ n8)) ≡ false
   pub nothing-loaded : passes (loading ++ (spaced givesWord ++ nothingGiven)) ≡ false
   pub surplus-loaded : passes (loading ++ (spaced givesWord ++ (n0 ++ n0))) ≡ false
-  pub unloaded-right : passes (loadingNothing ++ (spaced refusedWord ++ n1)) ≡ true
-  pub other-unloaded : passes (loadingNothing ++ (spaced refusedWord ++ n8)) ≡ false
-  pub surplus-unloaded : passes (loadingNothing ++ (spaced refusedWord ++ (n1 ++ n0))) ≡ false
+  pub unloaded-right : passes (loadingNothing ++ (spaced refusalName ++ n1)) ≡ true
+  pub other-unloaded : passes (loadingNothing ++ (spaced refusalName ++ n8)) ≡ false
+  pub surplus-unloaded : passes (loadingNothing ++ (spaced refusalName ++ (n1 ++ n0))) ≡ false
   pub read-right : passes (readingIdentity ++ (spaced givesWord ++ identity)) ≡ true
   pub other-read : passes (readingIdentity ++ (spaced givesWord ++ constant)) ≡ false
   pub fewer-read : passes (readingIdentity ++ (spaced givesWord ++ n1)) ≡ false
   pub nothing-read : passes (readingIdentity ++ (spaced givesWord ++ nothingGiven)) ≡ false
   pub surplus-read : passes (readingIdentity ++ (spaced givesWord ++ (identity ++ n0))) ≡ false
   pub unread-right : passes (readingNothing ++ outside) ≡ true
-  pub other-unread : passes (readingNothing ++ (spaced refusedWord ++ n1)) ≡ false
+  pub other-unread : passes (readingNothing ++ (spaced refusalName ++ n1)) ≡ false
   pub surplus-unread : passes (readingNothing ++ (outside ++ n0)) ≡ false
   pub not-unread : passes (readingIdentity ++ outside) ≡ false
   pub above-read : passes (readingAbove ++ (spaced givesWord ++ n0)) ≡ false
@@ -262,20 +263,20 @@ pub record Passing-examples : Type 0 where
   pub fewer-imported : passes (importingIdentity ++ (spaced givesWord ++ n1)) ≡ false
   pub nothing-imported : passes (importingIdentity ++ (spaced givesWord ++ nothingGiven)) ≡ false
   pub surplus-imported : passes (importingIdentity ++ (spaced givesWord ++ (identity ++ n0))) ≡ false
-  pub unimported-right : passes (importingPart ++ (spaced refusedWord ++ n12)) ≡ true
-  pub other-unimported : passes (importingPart ++ (spaced refusedWord ++ n1)) ≡ false
-  pub surplus-unimported : passes (importingPart ++ (spaced refusedWord ++ (n12 ++ n0))) ≡ false
-  pub not-unimported : passes (importingIdentity ++ (spaced refusedWord ++ n12)) ≡ false
+  pub unimported-right : passes (importingPart ++ (spaced refusalName ++ n12)) ≡ true
+  pub other-unimported : passes (importingPart ++ (spaced refusalName ++ n1)) ≡ false
+  pub surplus-unimported : passes (importingPart ++ (spaced refusalName ++ (n12 ++ n0))) ≡ false
+  pub not-unimported : passes (importingIdentity ++ (spaced refusalName ++ n12)) ≡ false
   pub exported-right : passes (exportingIdentity ++ (spaced writesWord ++ (n4 ++ n32))) ≡ true
   pub other-count : passes (exportingIdentity ++ (spaced writesWord ++ (n8 ++ n32))) ≡ false
   pub other-exported : passes (exportingIdentity ++ (spaced writesWord ++ (n4 ++ n16))) ≡ false
   pub nothing-exported : passes (exportingIdentity ++ (spaced writesWord ++ (n4 ++ nothingGiven))) ≡ false
   pub surplus-exported : passes (exportingIdentity ++ (spaced writesWord ++ (n4 ++ (n32 ++ n0)))) ≡ false
-  pub unexported-right : passes (exportingFree ++ (spaced refusedWord ++ (32 ∷ 49 ∷ 51 ∷ []))) ≡ true
-  pub other-unexported : passes (exportingFree ++ (spaced refusedWord ++ n1)) ≡ false
-  pub not-unexported : passes (exportingIdentity ++ (spaced refusedWord ++ (32 ∷ 49 ∷ 51 ∷ []))) ≡ false
+  pub unexported-right : passes (exportingFree ++ (spaced refusalName ++ (32 ∷ 49 ∷ 51 ∷ []))) ≡ true
+  pub other-unexported : passes (exportingFree ++ (spaced refusalName ++ n1)) ≡ false
+  pub not-unexported : passes (exportingIdentity ++ (spaced refusalName ++ (32 ∷ 49 ∷ 51 ∷ []))) ≡ false
   pub above-imported : passes (importingAbove ++ (spaced givesWord ++ identity)) ≡ false
-  pub above-unimported : passes (importingAbove ++ (spaced refusedWord ++ n12)) ≡ false
+  pub above-unimported : passes (importingAbove ++ (spaced refusalName ++ n12)) ≡ false
   pub written-right : passes (writing ++ (spaced writesWord ++ tableWith 48)) ≡ true
   pub other-written : passes (writing ++ (spaced writesWord ++ tableWith 56)) ≡ false
   pub surplus-written : passes (writing ++ (spaced writesWord ++ (tableWith 48 ++ n0))) ≡ false

@@ -14,8 +14,9 @@ use Rattle.press.specs.Showing.{show, partWords}
 use Rattle.turn.specs.Types.{verdictOf}
 use Rattle.press.specs.Types.{sessionOf, callOf}
 use Rattle.vector_text.specs.Text.{nowhere, after, numberAt, settingAt}
-use Rattle.vectors.specs.Keywords.{totalWord, leftWord, rightWord, scratchWord, pressWord, showWord}
-use Rattle.vectors.specs.Keywords.{sameWord, differentWord, budgetWord, fullWord, atWord, refusedWord}
+use Rattle.text.specs.Names.{showName, leftName, rightName, scratchName, sameName, differentName, budgetName, fullName, refusalName}
+use Rattle.vectors.specs.Keywords.{totalWord, pressWord}
+use Rattle.vectors.specs.Keywords.{atWord}
 use Rattle.vector_text.specs.Compared.{areWords}
 use Rattle.vector_text.specs.Lists.{Listed, comma, listAt, comparedAt}
 use Rattle.vectors.specs.Answers.{isSession, isShown, isRefused}
@@ -43,20 +44,20 @@ onlyIf passed next = cond passed next nowhere
 -- The verdict that comes next.
 unfoldable pub verdictAt : List ℕ → (at : ℕ) → Named
 verdictAt line at =
-    cond (eqb (after line at sameWord) nowhere)
-    (cond (eqb (after line at differentWord) nowhere)
-    (cond (eqb (after line at budgetWord) nowhere)
-    (record { verdict = verdict.Full; next = after line at fullWord })
-    (record { verdict = verdict.Budget; next = after line at budgetWord }))
-    (record { verdict = verdict.Different; next = after line at differentWord }))
-    (record { verdict = verdict.Same; next = after line at sameWord })
+    cond (eqb (after line at sameName) nowhere)
+    (cond (eqb (after line at differentName) nowhere)
+    (cond (eqb (after line at budgetName) nowhere)
+    (record { verdict = verdict.Full; next = after line at fullName })
+    (record { verdict = verdict.Budget; next = after line at budgetName }))
+    (record { verdict = verdict.Different; next = after line at differentName }))
+    (record { verdict = verdict.Same; next = after line at sameName })
 
 -- `left n`, `right n` and `scratch n`, each with its default.
 unfoldable pub givenAt : List ℕ → (at left right scratch : ℕ) → Given
 givenAt line at left right scratch =
-    let l = settingAt line at leftWord left in
-    let r = settingAt line (l .next) rightWord right in
-    let s = settingAt line (r .next) scratchWord scratch in
+    let l = settingAt line at leftName left in
+    let r = settingAt line (l .next) rightName right in
+    let s = settingAt line (r .next) scratchName scratch in
     record { left = l .value; right = r .value; scratch = s .value; next = s .next }
 
 -- Both workspaces beside the words at a position, with a tail, and the scratch beside equal words.
@@ -120,7 +121,7 @@ countedAfter v spent position terms lent answer session s =
 unfoldable pub checked : List ℕ → (at : ℕ) → Pressed → Stage → Stage
 checked line at p s =
     let session = p .memory .session in
-    let refused = after line at refusedWord in
+    let refused = after line at refusalName in
     let v = verdictAt line at in
     let spent = numberAt line (v .next) in
     let position = settingAt line (spent .next) atWord 0 in
@@ -160,7 +161,7 @@ shownAfter line at left right l r = let part = partWords left right (show left r
 unfoldable pub stepped : List ℕ → Stepped → Stepped
 stepped line s =
     let g = givenAt line (s .stage .at) (s .stage .left) (s .stage .right) (length (s .left)) in
-    let shown = after line (g .next) showWord in
+    let shown = after line (g .next) showName in
     cond (eqb shown nowhere) (pressStep line g (s .left) (s .right) (s .stage))
     (record {
       stage = readOn (s .stage) (shownAfter line shown (s .left) (s .right) (g .left) (g .right));

@@ -9,7 +9,8 @@ use Rattle.calculus.specs.Bringing.{Answer, refused, returned, Brought}
 use Rattle.tables.specs.Load.{load}
 use Rattle.tables.specs.Write.{Written, write}
 use Rattle.vector_text.specs.Text.{nowhere, after, numberAt}
-use Rattle.vectors.specs.Keywords.{refusedWord, chainKeyword, givesWord, writesWord}
+use Rattle.text.specs.Names.{refusalName}
+use Rattle.vectors.specs.Keywords.{chainKeyword, givesWord, writesWord}
 use Rattle.vector_text.specs.Compared.{areWords}
 use Rattle.vector_text.specs.Lists.{listMost, recordWords, Listed, listAt, comparedAt}
 use Rattle.vectors.specs.Answers.{isReturned}
@@ -74,7 +75,7 @@ isTable line at written loaded =
 -- Writing a term: a refusal changes nothing, and else the table is the one that the line says.
 abbrev pub writtenAs : List ℕ → (at : ℕ) → (loaded : List ℕ) → (len : ℕ) → Written → Verified
 writtenAs line at loaded len w =
-    let from = after line at refusedWord in
+    let from = after line at refusalName in
     record {
       holds =
           cond (eqb from nowhere) (isReturned (w .answer) len && isTable line at (w .table) loaded)
@@ -103,7 +104,7 @@ givenAs q c = record { equal = c .equal && isReturned (q .answer) (c .count); co
 
 unfoldable pub broughtAs : List ℕ → (at : ℕ) → Brought → Compared
 broughtAs line at q =
-    let from = after line at refusedWord in
+    let from = after line at refusalName in
     cond (eqb from nowhere) (givenAs q (comparedAt line (after line at givesWord) (q .workspace) 0)) (refusedAs line from q)
 
 -- The line ends behind it.

@@ -5,7 +5,8 @@ use mathlib.Core.List.{List, [], _∷_}
 use lib.Dec.{eqb, leb, ltb}
 use lib.ListN.{length, getD, take, drop}
 use Rattle.vector_text.specs.Text.{nowhere, after}
-use Rattle.vectors.specs.Keywords.{pairWord, loadWord, lineWord, importWord, exportWord, writeWord}
+use Rattle.text.specs.Names.{loadName, lineName, importName, writeName, exportName}
+use Rattle.vectors.specs.Keywords.{pairWord}
 use Rattle.vectors.specs.Pair.{pairHolds}
 use Rattle.vectors.specs.Stored.{loadHolds, writeHolds}
 use Rattle.vectors.specs.Typed.{lineHolds}
@@ -27,13 +28,13 @@ lineEnd text at = endFrom at (drop at text)
 unfoldable pub passes : List ℕ → Bool
 passes line =
     cond (eqb (after line 0 pairWord) nowhere)
-    (cond (eqb (after line 0 loadWord) nowhere)
-    (cond (eqb (after line 0 lineWord) nowhere)
-    (cond (eqb (after line 0 importWord) nowhere)
-    (cond (eqb (after line 0 exportWord) nowhere) (writeHolds line (after line 0 writeWord)) (exportHolds line (after line 0 exportWord)))
-    (importHolds line (after line 0 importWord)))
-    (lineHolds line (after line 0 lineWord)))
-    (loadHolds line (after line 0 loadWord)))
+    (cond (eqb (after line 0 loadName) nowhere)
+    (cond (eqb (after line 0 lineName) nowhere)
+    (cond (eqb (after line 0 importName) nowhere)
+    (cond (eqb (after line 0 exportName) nowhere) (writeHolds line (after line 0 writeName)) (exportHolds line (after line 0 exportName)))
+    (importHolds line (after line 0 importName)))
+    (lineHolds line (after line 0 lineName)))
+    (loadHolds line (after line 0 loadName)))
     (pairHolds line (after line 0 pairWord))
 
 -- A line's share: none of an empty line and of a comment. A line that is cut off before its end fails.

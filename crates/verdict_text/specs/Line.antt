@@ -5,6 +5,7 @@ use mathlib.Core.List.{List, [], _∷_, _++_}
 use lib.ListN.{length}
 use Rattle.calculus.specs.Rounds.{Verdict, Same, Different, Budget, Full, Shown}
 use Rattle.text.specs.Decimal.{digitsMost, field, newline}
+use Rattle.text.specs.Names.{sameName, differentName, budgetName, fullName, refusalName}
 
 -- What is printed.
 pub data Line : Type 0 where
@@ -14,16 +15,13 @@ pub data Line : Type 0 where
 
 -- The words that are printed, as ASCII.
 abbrev pub nameOf : Verdict → List ℕ
-nameOf Same = 83 ∷ 97 ∷ 109 ∷ 101 ∷ []
-nameOf Different = 68 ∷ 105 ∷ 102 ∷ 102 ∷ 101 ∷ 114 ∷ 101 ∷ 110 ∷ 116 ∷ []
-nameOf Budget = 66 ∷ 117 ∷ 100 ∷ 103 ∷ 101 ∷ 116 ∷ []
-nameOf Full = 70 ∷ 117 ∷ 108 ∷ 108 ∷ []
+nameOf Same = sameName
+nameOf Different = differentName
+nameOf Budget = budgetName
+nameOf Full = fullName
 
 abbrev pub inputName : List ℕ
 inputName = 73 ∷ 110 ∷ 112 ∷ 117 ∷ 116 ∷ []
-
-abbrev pub refusedName : List ℕ
-refusedName = 82 ∷ 101 ∷ 102 ∷ 117 ∷ 115 ∷ 101 ∷ 100 ∷ []
 
 -- The fifth field: the position, with Different only.
 abbrev pub positionField : Verdict → (position : ℕ) → List ℕ
@@ -35,7 +33,7 @@ positionField Full p = []
 -- The bytes of a line, the newline included.
 abbrev pub lineBytes : Line → List ℕ
 lineBytes input = inputName ++ (newline ∷ [])
-lineBytes (refuses n) = refusedName ++ (field n ++ (newline ∷ []))
+lineBytes (refuses n) = refusalName ++ (field n ++ (newline ∷ []))
 lineBytes (shows a) =
     nameOf (a .verdict)
     ++ (field (a .spent) ++ (field (a .left) ++ (field (a .right) ++ (positionField (a .verdict) (a .position) ++ (newline ∷ [])))))

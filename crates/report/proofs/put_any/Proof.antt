@@ -3,7 +3,7 @@ use native.Mathlib.Omega.{arith}
 use Rattle.press.specs.Types.{answerOf}
 use Rattle.words.specs.Types.{answerOf as wordsAnswerOf}
 use Rattle.calls.specs.Calls.{partOf}
-use Rattle.report.specs.Text.{loadName, writeName, lineName, importName, exportName}
+use Rattle.text.specs.Names.{loadName, writeName, lineName, importName, exportName}
 use Rattle.report.proofs.TextLaws.{length-answer, length-pressed, length-shown}
 use borrow.Author.Needs.{needs}
 use Rattle.report.proofs.put_any.Statement.{statement}
