@@ -5,7 +5,7 @@ use mathlib.Core.Bool.{Bool, true, false}
 use mathlib.Core.List.{List, [], _∷_, _++_}
 use lib.ListN.{replicate}
 use Rattle.calculus.specs.Term.{Term, var, lam, app, con, case, num}
-use Rattle.calculus.specs.Everywhere.{binders, anywhere, pureTerms, Everywhere}
+use Rattle.calculus.specs.Everywhere.{Asked, binders, anywhere, pureTerms, Everywhere}
 
 -- Only a term of variables, abstractions and applications has bits that mean it (`Pure`).
 abbrev pub bits : Term → List Bool
@@ -19,9 +19,13 @@ bits (num n) = []
 abbrev pub Pure : Term → Type 0
 Pure t = Everywhere (pureTerms anywhere (λ d i. Unit {0})) tt t
 
--- Such a term under d binders, in which every variable is bound, by one of these or inside; under none it is a combinator.
+-- In such a term every variable is bound.
+abbrev pub combinators : Asked ℕ
+combinators = pureTerms binders (λ d i. i < d)
+
+-- Under d binders it is so by one of these or inside; under none the term is a combinator.
 abbrev pub CombinatorUnder : ℕ → Term → Type 0
-CombinatorUnder d t = Everywhere (pureTerms binders (λ d i. i < d)) d t
+CombinatorUnder d t = Everywhere combinators d t
 
 abbrev pub Combinator : Term → Type 0
 Combinator t = CombinatorUnder 0 t

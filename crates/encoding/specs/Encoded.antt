@@ -1,6 +1,6 @@
 -- Encodings ("Binary encodings"): bytes with a bit count beside them, "and every lent bit past the count is 0"; those who exchange them call one a card. What
 -- refusals 12 and 13 ask.
-use Prim.Native.Nat.{ℕ, _*_, _<_}
+use Prim.Native.Nat.{ℕ, _*_}
 use mathlib.Core.Bool.{Bool, true, false, not, _&&_, _||_}
 use mathlib.Core.List.{List, [], _∷_}
 use mathlib.Core.Logic.{ite}
@@ -9,10 +9,9 @@ use native.Mathlib.Decide.{decLt}
 use lib.Dec.{ltb}
 use lib.ListN.{length, take, drop}
 use Rattle.calculus.specs.Term.{Term}
-use Rattle.calculus.specs.Everywhere.{binders, pureTerms}
 use Rattle.calculus.specs.Decide.{everywhere?}
 use Rattle.calculus.specs.Bringing.{isNone}
-use Rattle.encoding.specs.Bits.{CombinatorUnder}
+use Rattle.encoding.specs.Bits.{combinators, CombinatorUnder}
 use Rattle.encoding.specs.Bytes.{byteBits, unpacked}
 use Rattle.encoding.specs.Decoding.{decode}
 
@@ -32,7 +31,7 @@ wrongBits bytes count =
 -- Refusal 13: a term that is not closed or has another kind of word. What is no term meets an earlier refusal.
 unfoldable pub combinator? : (d : ℕ) (t : Term) → Dec (CombinatorUnder d t)
 combinator? d t =
-    everywhere? {P = pureTerms binders (λ d i. i < d)}
+    everywhere? {P = combinators}
     (record {
       of-variable? = λ d i. decLt i d;
       of-constructor? = λ t n. no (λ e. e);

@@ -104,11 +104,14 @@ pub record Import-examples : Type 0 where
   pub no-bits-of-no-bytes : import [] 0 (junk 16) ≡ unchanged (junk 16) WrongBits
   -- the identity with the lowest bit first
   pub lowest-bit-first : import (4 ∷ []) 4 (junk 16) ≡ unchanged (junk 16) WrongBits
-  -- a 1 past the count: right behind it, in the last bit of its byte, in the first and the last bit of a later byte
+  -- a 1 past the count: right behind it, in the last bit of its byte, in the first and the last bit of a later byte, with and without bytes of 0 after it
   pub padding-first-bit : import (40 ∷ []) 4 (junk 16) ≡ unchanged (junk 16) WrongBits
   pub padding-last-bit : import (33 ∷ []) 4 (junk 16) ≡ unchanged (junk 16) WrongBits
+  pub padding-own-byte-of-two : import (33 ∷ 0 ∷ []) 4 (junk 16) ≡ unchanged (junk 16) WrongBits
   pub padding-next-byte : import (32 ∷ 128 ∷ []) 4 (junk 16) ≡ unchanged (junk 16) WrongBits
+  pub padding-between : import (32 ∷ 128 ∷ 0 ∷ []) 4 (junk 16) ≡ unchanged (junk 16) WrongBits
   pub padding-last-byte : import (32 ∷ 0 ∷ 1 ∷ []) 4 (junk 16) ≡ unchanged (junk 16) WrongBits
+  pub padding-far-behind : import (32 ∷ replicate 8 0 ++ 1 ∷ []) 4 (junk 16) ≡ unchanged (junk 16) WrongBits
   -- a count past the bytes, where the lent bits are a term, a term but for its last 0, zeros, and none
   pub count-past-a-term : import (2 ∷ []) 9 (junk 16) ≡ unchanged (junk 16) WrongBits
   pub count-past-a-missing-zero : import (3 ∷ []) 9 (junk 16) ≡ unchanged (junk 16) WrongBits
@@ -122,7 +125,7 @@ pub record Import-examples : Type 0 where
   pub fills : import (0 ∷ 0 ∷ 0 ∷ 2 ∷ []) 32 (junk 16) ≡ holding 16 (replicate 15 1 ++ 0 ∷ [])
   pub one-too-long : import (0 ∷ 0 ∷ 0 ∷ 0 ∷ 128 ∷ []) 34 (junk 16) ≡ unchanged (junk 16) TooLong
   pub one-word-more : import (0 ∷ 0 ∷ 0 ∷ 0 ∷ 128 ∷ []) 34 (junk 17) ≡ holding 17 (replicate 16 1 ++ 0 ∷ [])
-  -- the variable 0; \1; \\2 and \\\2; (\0) 0 and 0 (\0); the variable 303
+  -- the variable 0; \1; \\2 and \\\2; (\0) 0 and 0 (\0); the variables 303 and 32,768
   pub open-alone : import (128 ∷ []) 2 (junk 16) ≡ unchanged (junk 16) NoCombinator
   pub open-under-one : import (48 ∷ []) 5 (junk 16) ≡ unchanged (junk 16) NoCombinator
   pub open-under-two : import (14 ∷ []) 8 (junk 16) ≡ unchanged (junk 16) NoCombinator
@@ -130,20 +133,26 @@ pub record Import-examples : Type 0 where
   pub open-argument : import (74 ∷ []) 8 (junk 16) ≡ unchanged (junk 16) NoCombinator
   pub open-function : import (98 ∷ []) 8 (junk 16) ≡ unchanged (junk 16) NoCombinator
   pub open-by-many : import (replicate 38 255 ++ 0 ∷ []) 305 (junk 16) ≡ unchanged (junk 16) NoCombinator
+  pub open-32768 : import (replicate 4096 255 ++ 128 ∷ []) 32770 (junk 16) ≡ unchanged (junk 16) NoCombinator
   -- runs of 63, 64 and 65 ones, under as many abstractions and, of 64, under one fewer
   pub ones-63 : import (replicate 15 0 ++ 3 ∷ replicate 7 255 ++ 248 ∷ []) 190 (junk 66) ≡ holding 64 (replicate 63 1 ++ 496 ∷ 0 ∷ 0 ∷ [])
   pub ones-64 : import (replicate 16 0 ++ replicate 8 255 ++ 0 ∷ []) 193 (junk 66) ≡ holding 65 (replicate 64 1 ++ 504 ∷ 0 ∷ [])
   pub ones-65 : import (replicate 16 0 ++ 63 ∷ replicate 7 255 ++ 224 ∷ []) 196 (junk 66) ≡ holding 66 (replicate 65 1 ++ 512 ∷ [])
   pub ones-64-open : import (replicate 15 0 ++ 3 ∷ replicate 7 255 ++ 252 ∷ []) 191 (junk 66) ≡ unchanged (junk 66) NoCombinator
+  -- 2,047 abstractions around the largest index that they bind
+  pub largest-bound : import (replicate 511 0 ++ 3 ∷ replicate 255 255 ++ 248 ∷ []) 6142 (junk 2048) ≡ holding 2048 (replicate 2047 1 ++ 16368 ∷ [])
   -- 7 before 12, 8 and 13
   pub words-15-no-bits : import [] 0 (junk 15) ≡ unchanged (junk 15) WrongWorkspace
   pub words-15-too-long : import (0 ∷ 0 ∷ 0 ∷ 0 ∷ 128 ∷ []) 34 (junk 15) ≡ unchanged (junk 15) WrongWorkspace
   pub words-15-open : import (128 ∷ []) 2 (junk 15) ≡ unchanged (junk 15) WrongWorkspace
-  -- 12, by the padding and by the count, before 8 and 13: 16 and 19 abstractions around 0, the variables 0 and 6
+  -- 12, by the padding, by the count and by the bits, before 8 and 13: 16 and 19 abstractions around 0, the variables 0 and 6, 32 abstractions
   pub padding-too-long : import (0 ∷ 0 ∷ 0 ∷ 0 ∷ 129 ∷ []) 34 (junk 16) ≡ unchanged (junk 16) WrongBits
   pub padding-open : import (129 ∷ []) 2 (junk 16) ≡ unchanged (junk 16) WrongBits
   pub count-past-too-long : import (0 ∷ 0 ∷ 0 ∷ 0 ∷ 2 ∷ []) 41 (junk 16) ≡ unchanged (junk 16) WrongBits
   pub count-past-open : import (254 ∷ []) 9 (junk 16) ≡ unchanged (junk 16) WrongBits
+  pub early-too-long : import (replicate 8 0) 64 (junk 16) ≡ unchanged (junk 16) WrongBits
+  pub left-over-too-long : import (0 ∷ 0 ∷ 0 ∷ 0 ∷ 128 ∷ []) 35 (junk 16) ≡ unchanged (junk 16) WrongBits
+  pub left-over-open : import (128 ∷ []) 3 (junk 16) ≡ unchanged (junk 16) WrongBits
   -- 8 before 13: 16 abstractions around 16
   pub too-long-open : import (0 ∷ 0 ∷ 0 ∷ 0 ∷ 255 ∷ 255 ∷ 128 ∷ []) 50 (junk 16) ≡ unchanged (junk 16) TooLong
 
@@ -170,6 +179,9 @@ pub record Export-examples : Type 0 where
   -- runs of 64 and 65 ones
   pub ones-64 : export (replicate 64 1 ++ 504 ∷ []) 65 (junk 25) ≡ encoded 193 (replicate 16 0 ++ replicate 8 255 ++ 0 ∷ [])
   pub ones-65 : export (replicate 65 1 ++ 512 ∷ []) 66 (junk 25) ≡ encoded 196 (replicate 16 0 ++ 63 ∷ replicate 7 255 ++ 224 ∷ [])
+  -- 2,047 abstractions around the largest index that they bind, in 768 bytes and one fewer
+  pub largest-bound : export (replicate 2047 1 ++ 16368 ∷ []) 2048 (junk 768) ≡ encoded 6142 (replicate 511 0 ++ 3 ∷ replicate 255 255 ++ 248 ∷ [])
+  pub largest-bound-one-byte-less : export (replicate 2047 1 ++ 16368 ∷ []) 2048 (junk 767) ≡ bytesKept (junk 767) TooLong
   -- the lengths of a workspace
   pub words-15 : export (1 ∷ 0 ∷ junk 13) 2 (junk 1) ≡ bytesKept (junk 1) WrongWorkspace
   pub words-2048 : export (1 ∷ 0 ∷ junk 2046) 2 (junk 1) ≡ encoded 4 (32 ∷ [])

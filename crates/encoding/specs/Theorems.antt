@@ -2,13 +2,14 @@
 use Prim.Native.Nat.{ℕ, _+_, _*_, _-_, _≤_, _<_}
 use mathlib.Core.Path.{_≡_}
 use mathlib.Core.Bool.{Bool, true, false}
-use mathlib.Core.List.{List, _++_}
+use mathlib.Core.List.{List, [], _∷_, _++_}
 use mathlib.Core.Logic.{_↔_}
 use mathlib.Core.Option.{some, none}
 use lib.ListN.{length, replicate}
 use Rattle.calculus.specs.Term.{Term}
-use Rattle.calculus.specs.Words.{words, size}
+use Rattle.calculus.specs.Words.{applicationKind, kindOf, words, size}
 use Rattle.calculus.specs.Accepted.{Accepted}
+use Rattle.calculus.specs.Theorems.{Closed}
 use Rattle.calculus.specs.Workspace.{wrongWorkspace, termAt}
 use Rattle.calculus.specs.Refusal.{Refusal, WrongWorkspace, TooLong, NoTerm, WrongBits, NoCombinator}
 use Rattle.calculus.specs.Bringing.{refused, returned, Brought}
@@ -17,6 +18,19 @@ use Rattle.encoding.specs.Bytes.{byteBits, unpacked, Bytes}
 use Rattle.encoding.specs.Decoding.{decode}
 use Rattle.encoding.specs.Import.{import}
 use Rattle.encoding.specs.Export.{Exported, export}
+
+-- Words of variables, abstractions and applications only.
+abbrev pub PureWords : List ℕ → Type 0
+PureWords [] = Unit {0}
+PureWords (w ∷ ws) = (kindOf w ≤ applicationKind) × PureWords ws
+
+-- Which terms have bits: those without another kind of word, whatever their indices.
+abbrev pub Pure-exact : Type 0
+Pure-exact = (t : Term) → Pure t ↔ PureWords (words t)
+
+-- Which of them are combinators: the closed ones.
+abbrev pub Combinator-exact : Type 0
+Combinator-exact = (t : Term) → Combinator t ↔ (Closed t × Pure t)
 
 -- The bits of a term are never the start of another's.
 abbrev pub Bits-prefix-free : Type 0
@@ -93,7 +107,8 @@ Import-after-export =
     × (import (export (words t ++ rest) (size t) bytes .bytes) (length (bits t)) target
     ≡ record { answer = returned (size t); workspace = words t ++ replicate (length target - size t) 0 })
 
--- Export of what was imported gives the count and the bytes again, whatever the part that is written to held.
+-- Export of what was imported gives the count and the bytes again, whatever the part that is written to held, to as many bytes as were imported; what fewer
+-- or more bytes get is `Exporting-exact`.
 abbrev pub Export-after-import : Type 0
 Export-after-import =
     (bytes : List ℕ) (count : ℕ) (workspace out : List ℕ) (l : ℕ) → Bytes bytes → import bytes count workspace .answer ≡ returned l

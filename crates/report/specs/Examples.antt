@@ -2,7 +2,7 @@
 use Prim.Native.Nat.{ℕ}
 use mathlib.Core.Path.{_≡_}
 use mathlib.Core.List.{List, [], _∷_}
-use Rattle.calculus.specs.Refusal.{WrongLength, OverBudget, NoTerm, WrongLine, WrongBits}
+use Rattle.calculus.specs.Refusal.{WrongLength, OverBudget, NoTerm, WrongLine, WrongBits, NoCombinator}
 use Rattle.calculus.specs.Rounds.{Different, Full}
 use Rattle.claim.specs.Answer as press
 use Rattle.press.specs.Showing.{left, right}
@@ -91,10 +91,10 @@ pub record Line-examples : Type 0 where
   pub exported :
       printed (ofExport (bring.returned 4) (32 ∷ 0 ∷ []))
       ≡ 101 ∷ 120 ∷ 112 ∷ 111 ∷ 114 ∷ 116 ∷ 32 ∷ 52 ∷ 32 ∷ 51 ∷ 50 ∷ 32 ∷ 48 ∷ 10 ∷ []
-  -- refused 10 7 7
+  -- refused 13 7 7
   pub export-refused :
-      printed (ofExport (bring.refused NoTerm) (7 ∷ 7 ∷ []))
-      ≡ 114 ∷ 101 ∷ 102 ∷ 117 ∷ 115 ∷ 101 ∷ 100 ∷ 32 ∷ 49 ∷ 48 ∷ 32 ∷ 55 ∷ 32 ∷ 55 ∷ 10 ∷ []
+      printed (ofExport (bring.refused NoCombinator) (7 ∷ 7 ∷ []))
+      ≡ 114 ∷ 101 ∷ 102 ∷ 117 ∷ 115 ∷ 101 ∷ 100 ∷ 32 ∷ 49 ∷ 51 ∷ 32 ∷ 55 ∷ 32 ∷ 55 ∷ 10 ∷ []
   -- left 8 7 / right 2 8 16 7 / scratch 7 / session 25 1 3 Full
   pub printed :
       printed ofPrint

@@ -5,6 +5,7 @@ use native.Mathlib.Omega.{arith}
 use lib.ListN.{take, set}
 use borrow.Author.Needs.{needs}
 use Rattle.encoding.specs.Bytes.{unpacked}
+use Rattle.words.proofs.RoomLaws.{room-of-length}
 use Rattle.binary.proofs.ScanLaws.{Scanning, scanning-start, scanning-length, left-over, ended-early, whole, said-early, said-abstraction, said-application, said-variable}
 use Rattle.binary.proofs.scan.scan.Statement.{statement}
 use Rattle.binary.proofs.scan.scan.Tie as tie
@@ -22,7 +23,7 @@ same-length : tie.Need-same-length Inv-loop μ-loop
 same-length c = scanning-length (c .before .before .loop .inv)
 
 returns : tie.Need-returns Inv-loop μ-loop
-returns c = let v = c .before .before .loop .inv in (left-over v (c .if1 .taken) (omega arith), scanning-length v)
+returns c = let v = c .before .before .loop .inv in (left-over v (c .if1 .taken) (omega arith), room-of-length (scanning-length v))
 
 first-token-requires : tie.Need-first-token-requires Inv-loop μ-loop
 first-token-requires c κs = omega arith
@@ -33,7 +34,7 @@ same-length-2 c = scanning-length (c .before .before .before .before .before .lo
 returns-2 : tie.Need-returns-2 Inv-loop μ-loop
 returns-2 c =
     let v = c .before .before .before .before .before .loop .inv in
-    (said-early v (c .before .before .before .if1 .left) (rw (c .enum-told .given .1) at (c .before .before .first-token .ensures)), scanning-length v)
+    (said-early v (c .before .before .before .if1 .left) (rw (c .enum-told .given .1) at (c .before .before .first-token .ensures)), room-of-length (scanning-length v))
 
 loop-again : tie.Need-loop-again Inv-loop μ-loop
 loop-again c =
@@ -85,7 +86,7 @@ returns-3 : tie.Need-returns-3 Inv-loop μ-loop
 returns-3 c = let v = c .before .before .loop .inv in (v .done, whole v (c .if2 .taken) (omega arith), sym (v .length-is), v .put)
 
 returns-4 : tie.Need-returns-4 Inv-loop μ-loop
-returns-4 c = let v = c .before .before .loop .inv in (ended-early v (c .if2 .left) (omega arith), scanning-length v)
+returns-4 c = let v = c .before .before .loop .inv in (ended-early v (c .if2 .left) (omega arith), room-of-length (scanning-length v))
 
 pub scan-spec : {M : Type 1} → statement M
 scan-spec =
