@@ -5,21 +5,22 @@ use std::fs;
 use std::path::{Path, PathBuf};
 use std::process::ExitCode;
 
+use bench::cards::{growing_cards, Card, CardRow};
 use bench::cases::{contracting, growing_touched, growing_untouched, normal, untouched};
 use bench::cases::{Case, Point};
 use bench::lines::{growing_lines, Line, LineRow};
 use bench::measure::{Bench, Each, Row};
 use bench::plot::{svg, Panel};
+use bench::probe::Probe;
 use bench::report::Report;
 use bench::run::{Counter, InputFile};
-use bench::stack::Probe;
 use unit::repository;
 
 const USAGE: &str = "\
 usage: cargo bench --manifest-path tools/Cargo.toml --package bench [-- OPTION...]
   --program PATH  the unit's program: unless given, target/bin/verdict in the repository, built
-                  from its sources; the stack of the calls alone is measured only there
-  --replay PATH   the unit's program that reads lines: likewise target/bin/replay
+                  from its sources; the calls alone are measured only there
+  --replay PATH   the unit's program that reads lines and cards: likewise target/bin/replay
   --untimed       takes no times, which need an idle machine; all else is the same in every run
 Prints docs/BENCHMARKS.md and writes docs/growth.svg. A relative PATH starts from tools/bench.";
 
@@ -69,11 +70,13 @@ fn run() -> Result<String, String> {
     let flat = PathBuf::from(env!("CARGO_BIN_EXE_flat"));
     let graph = PathBuf::from(env!("CARGO_BIN_EXE_graph"));
     let descent = PathBuf::from(env!("CARGO_BIN_EXE_descent"));
+    let bitwise = PathBuf::from(env!("CARGO_BIN_EXE_bitwise"));
     let empty = InputFile::new("empty", &[]).map_err(|error| error.to_string())?;
     let bench = Bench {
         counter: Counter::find(&flat, &empty),
         programs: [verdict, flat, graph],
-        readers: [replay, descent],
+        readers: [replay.clone(), descent],
+        exchangers: [replay, bitwise],
         probe,
         is_timed,
     };
@@ -90,10 +93,10 @@ fn report(bench: &Bench, root: &Path) -> Result<String, String> {
         untouched: rows(bench, untouched())?,
         normal: rows(bench, normal())?,
         lines: line_rows(bench, growing_lines())?,
-        counter: bench.counter,
+        cards: card_rows(bench, growing_cards())?,
         plot,
     };
-    Ok(report.markdown(&bench.programs, &bench.readers))
+    Ok(report.markdown(bench))
 }
 
 fn rows(bench: &Bench, cases: Vec<Case>) -> Result<Vec<Row>, String> {
@@ -112,6 +115,15 @@ fn line_rows(bench: &Bench, lines: Vec<Line>) -> Result<Vec<LineRow>, String> {
         row.map_err(|reason| format!("{}: {reason}", line.shape))
     };
     lines.iter().map(measured).collect()
+}
+
+fn card_rows(bench: &Bench, cards: Vec<Card>) -> Result<Vec<CardRow>, String> {
+    let measured = |card: &Card| {
+        eprintln!("{}, {} bits", card.shape, card.bits);
+        let row = bench.card(card);
+        row.map_err(|reason| format!("{}: {reason}", card.shape))
+    };
+    cards.iter().map(measured).collect()
 }
 
 /// Writes the plot; its path seen from the page.

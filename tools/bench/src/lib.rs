@@ -1,5 +1,6 @@
 //! The programs `verdict` and `replay` measured beside peers in plain Rust.
 
+pub mod cards;
 pub mod cases;
 mod elf;
 pub mod lines;
@@ -7,7 +8,7 @@ pub mod measure;
 mod numbers;
 pub mod peers;
 pub mod plot;
+pub mod probe;
 pub mod report;
 pub mod run;
-pub mod stack;
 mod times;

@@ -1,13 +1,15 @@
 //! Reading lines: the lines, and what is measured of them.
 
-use std::path::{Path, PathBuf};
+use std::path::PathBuf;
 
 use unit::limits::WORKSPACE;
 use unit::Term;
 
 use crate::cases::C;
 use crate::measure::{checked, input_file, Bench};
-use crate::run::{stack_kib, Counter, InputFile};
+use crate::peers::script::LINE;
+use crate::probe::brought;
+use crate::run::stack_kib;
 
 /// The unit's program and its peer, in this order everywhere.
 pub const READERS: [&str; 2] = ["replay", "descent"];
@@ -21,9 +23,6 @@ pub type Readers = EachReader<PathBuf>;
 pub const LENGTHS: [usize; 3] = [256, 512, LONGEST];
 /// The bytes of the longest line.
 pub const LONGEST: usize = 1_024;
-
-/// The operation of a script that reads a line.
-const LINE: u32 = 8;
 
 /// The sides of a script: the first can take every line, the second refuses each by its own length.
 const SIDES: [u32; 2] = [C, *WORKSPACE.start() as u32 - 1];
@@ -78,25 +77,19 @@ impl Line {
         self.term().length()
     }
 
-    fn bytes(&self) -> impl Iterator<Item = u32> + '_ {
-        self.text.bytes().map(u32::from)
-    }
-
     /// A script that reads the line into a side.
     fn script(&self, side: u32) -> Vec<u8> {
         let mut words = SIDES.to_vec();
         words.extend([LINE, side, self.text.len() as u32]);
-        words.extend(self.bytes());
+        words.extend(self.text.bytes().map(u32::from));
         words.into_iter().flat_map(u32::to_le_bytes).collect()
     }
 
-    /// What the measuring of the stack reads: 1, C, the bytes, the words of the term.
+    /// What the measuring of the stack reads: 1, then what the line brings.
     pub fn words(&self) -> Vec<u8> {
         let term = self.term().words().expect("the line is within the limits");
-        let mut words = vec![1, C, self.text.len() as u32];
-        words.extend(self.bytes());
-        words.push(term.len() as u32);
-        words.extend(term);
+        let mut words = vec![1];
+        words.extend(brought(self.text.as_bytes(), &term));
         words.into_iter().flat_map(u32::to_le_bytes).collect()
     }
 }
@@ -133,22 +126,11 @@ impl Bench {
             bytes: line.text.len(),
             words: line.length(),
             instructions: programs
-                .map(|program| instructions(program, self.counter?, &input, &refused)),
+                .map(|program| self.counter?.difference(program, &input, &refused)),
             stack: probe.map(|probe| probe.measure_line(line)).transpose()?,
             limit_kib: programs.map(|program| is_longest.then(|| limit(program))?),
         })
     }
-}
-
-/// What the run that reads has more than the one that refuses.
-fn instructions(
-    program: &Path,
-    counter: Counter,
-    input: &InputFile,
-    refused: &InputFile,
-) -> Option<u64> {
-    let without = counter.count(program, refused)?;
-    counter.count(program, input)?.checked_sub(without)
 }
 
 #[cfg(test)]

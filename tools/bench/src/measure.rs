@@ -2,10 +2,11 @@
 
 use std::path::{Path, PathBuf};
 
+use crate::cards::Exchangers;
 use crate::cases::Case;
 use crate::lines::Readers;
-use crate::run::{line_of, stack_kib, Counter, InputFile};
-use crate::stack::{Probe, Stack};
+use crate::probe::{Probe, Stack};
+use crate::run::{lines_of, stack_kib, Counter, InputFile};
 use crate::times::{times, Times};
 
 /// The unit's program and its peers, in this order everywhere.
@@ -23,6 +24,7 @@ pub const COUNTED: u32 = 10_000;
 pub struct Bench {
     pub programs: Programs,
     pub readers: Readers,
+    pub exchangers: Exchangers,
     pub counter: Option<Counter>,
     pub probe: Option<Probe>,
     /// Times are taken too.
@@ -87,12 +89,12 @@ pub(crate) fn input_file(name: &str, bytes: &[u8]) -> Result<InputFile, String> 
     InputFile::new(name, bytes).map_err(|error| format!("the input cannot be written: {error}"))
 }
 
-/// The seconds of a run that must print the line.
-pub(crate) fn checked(program: &Path, input: &InputFile, line: &str) -> Result<f64, String> {
-    match line_of(program, input)? {
-        (printed, time) if printed == line => Ok(time.as_secs_f64()),
+/// The seconds of a run that must print the lines.
+pub(crate) fn checked(program: &Path, input: &InputFile, lines: &str) -> Result<f64, String> {
+    match lines_of(program, input)? {
+        (printed, time) if printed == lines => Ok(time.as_secs_f64()),
         (printed, _) => Err(format!(
-            "{} printed `{printed}` instead of `{line}`",
+            "{} printed `{printed}` instead of `{lines}`",
             program.display()
         )),
     }
@@ -111,7 +113,7 @@ impl Counted {
     fn new(case: &Case, programs: &Programs) -> Result<Counted, String> {
         let budget = case.budget.min(COUNTED);
         let input = input_file("counted", &case.input(budget))?;
-        let (line, _) = line_of(&programs[1], &input)?;
+        let (line, _) = lines_of(&programs[1], &input)?;
         for program in programs {
             checked(program, &input, &line)?;
         }

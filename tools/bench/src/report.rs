@@ -4,14 +4,15 @@ use std::fs;
 use std::path::Path;
 use std::process::Command;
 
+use crate::cards::{CardRow, CALLS, EXCHANGERS};
 use crate::cases::C;
 use crate::elf::{function_size, text_size};
-use crate::lines::{LineRow, Readers, LONGEST, READERS};
-use crate::measure::{spent, Each, Programs, Row, COUNTED, NAMES};
+use crate::lines::{LineRow, LONGEST, READERS};
+use crate::measure::{spent, Bench, Each, Row, COUNTED, NAMES};
 use crate::numbers::{grouped, rounded};
+use crate::probe::{Stack, TIMED_BITS};
 use crate::run::Counter;
-use crate::stack::Stack;
-use crate::times::Times;
+use crate::times::{Estimate, Times};
 
 /// Stands where nothing was measured.
 const NONE: &str = "n/a";
@@ -21,21 +22,23 @@ pub struct Report {
     pub untouched: Vec<Row>,
     pub normal: Vec<Row>,
     pub lines: Vec<LineRow>,
-    pub counter: Option<Counter>,
+    pub cards: Vec<CardRow>,
     /// The plot's path, seen from the page.
     pub plot: Option<String>,
 }
 
 impl Report {
-    pub fn markdown(&self, programs: &Programs, readers: &Readers) -> String {
-        let mut parts = vec![self.introduction(), self.instructions()];
+    /// What was measured with the programs.
+    pub fn markdown(&self, bench: &Bench) -> String {
+        let mut parts = vec![introduction(bench.counter), self.instructions()];
         parts.extend(self.plot.as_deref().map(growth));
-        parts.push(self.reading());
+        parts.extend([self.reading(), self.exchanging()]);
         let mut rows = self.groups().into_iter().flat_map(|(_, rows)| rows);
         if rows.any(|row| row.times.is_some()) {
-            parts.push(self.times());
+            parts.extend([self.times(), self.times_of_cards()]);
         }
-        parts.extend([self.stack(), self.stack_of_lines(), code(programs, readers)]);
+        parts.extend([self.stack(), self.stack_of_lines(), self.stack_of_cards()]);
+        parts.push(code(bench));
         parts.join("\n")
     }
 
@@ -48,45 +51,16 @@ impl Report {
         ]
     }
 
-    fn introduction(&self) -> String {
-        let counted = match self.counter {
-            Some(counter) => format!(
-                "counted by `{}` over at most {} contractions",
-                counter.name(),
-                grouped(COUNTED as usize)
-            ),
-            None => format!("{NONE}, as neither valgrind nor perf counts them here"),
-        };
-        format!(
-            "# Benchmarks\n\n\
-             - Machine: {machine}.\n\
-             - `verdict` is the unit's program. Its peers, in Rust by {compiler} at opt-level 3, read and \
-             print the same. `flat` keeps flat words, as the unit does, compares and searches both from \
-             the first word in every round and contracts through a scratch. `graph` keeps trees of \
-             shared nodes that know their size, their free indices and whether they are normal, as one \
-             would who need not keep flat words; it makes them while it loads.\n\
-             - All ran on the same inputs, with C {c}, and printed the line shown.\n\
-             - Instructions of the press alone: those of a run less those of a run that loads the same \
-             tables and refuses the press, {counted}. They are the same in every run.\n",
-            c = grouped(C as usize),
-            machine = machine(),
-            compiler = compiler(),
-        )
-    }
-
     fn instructions(&self) -> String {
         let mut text = "## Instructions\n\n\
              Of each contraction; of the whole press where there is none.\n"
             .to_string();
         for (title, rows) in self.groups() {
             text += &format!("\n### {title}\n\n");
-            text += &table(&["line"], &NAMES, rows, |row| {
-                let line = vec![format!("`{}`", row.line)];
-                let counts = row.instructions;
-                let whole = |count: Option<f64>| {
-                    count.map_or(NONE.to_string(), |count| grouped(count.round() as usize))
-                };
-                (line, counts.map(whole).into())
+            text += &table(&["pair", "line"], &NAMES, rows, |row| {
+                let pair = vec![row.name.clone(), format!("`{}`", row.line)];
+                let whole = |count: Option<f64>| number(count.map(|count| count.round() as usize));
+                (pair, row.instructions.map(whole).into())
             });
         }
         text
@@ -98,25 +72,40 @@ impl Report {
              Instructions of the unit's program `replay` and of `{peer}`, a reader in Rust by recursive \
              descent into a tree: those of a run that reads the line into a workspace of {c} words, less \
              those of a run that refuses it by its workspace. Zeros, for the arrays of `replay` and for the \
-             rest of the workspace, are a part that does not grow with the line.\n\n\
-             | line | bytes | words | {names} |\n|---|---:|---:|{columns}\n",
+             rest of the workspace, are a part that does not grow with the line.\n\n",
             peer = READERS[1],
             c = grouped(C as usize),
-            names = READERS.join(" | "),
-            columns = "---:|".repeat(READERS.len()),
         );
-        for row in &self.lines {
-            let count = |count: Option<u64>| {
-                count.map_or(NONE.to_string(), |count| grouped(count as usize))
-            };
-            text += &format!(
-                "| {} | {} | {} | {} |\n",
-                row.shape,
-                grouped(row.bytes),
-                grouped(row.words),
-                row.instructions.map(count).join(" | ")
-            );
-        }
+        let titles = [&["bytes", "words"][..], &READERS].concat();
+        text += &table(&["line"], &titles, &self.lines, |row| {
+            let mut cells = [row.bytes, row.words].map(grouped).to_vec();
+            cells.extend(row.instructions.map(count));
+            (vec![row.shape.to_string()], cells)
+        });
+        text
+    }
+
+    fn exchanging(&self) -> String {
+        let mut text = format!(
+            "## Importing and exporting a card\n\n\
+             Instructions of the unit's calls alone, and of those of `{peer}` in Rust, which read and write one \
+             bit after the other. Both are in one program, the unit's from a library of the proved crates; \
+             counted is what a run that makes the call twice has more than a run that makes it once. The \
+             workspace has {c} words, and export is lent the bytes that the card fills; the second call finds \
+             them as the first has left them. Zeros are in the counts, one instruction for each byte of a \
+             long row: for the arrays of the unit's calls, for the rest of the workspace, and for the bytes \
+             before the bits are put.\n\n\
+             Cards with runs of n ones have n abstractions around variables of index n - 1 in a row, those with \
+             runs of 1 to n ones variables of each of the n indices by turns. S is `\\\\\\2 0 (1 0)`.\n\n",
+            peer = EXCHANGERS[1],
+            c = grouped(C as usize),
+        );
+        let titles = [&["bits", "bytes", "words"][..], &CALLS].concat();
+        text += &table(&["card"], &titles, &self.cards, |row| {
+            let mut cells = [row.bits, row.bytes, row.words].map(grouped).to_vec();
+            cells.extend(row.instructions.map(count));
+            (vec![row.shape.to_string()], cells)
+        });
         text
     }
 
@@ -133,8 +122,29 @@ impl Report {
                 false => "microseconds a press",
             };
             text += &format!("\n### {title}: {unit}\n\n");
-            text += &table(&[], &NAMES, rows, |row| (Vec::new(), row_times(row).into()));
+            text += &table(&["pair"], &NAMES, rows, |row| {
+                (vec![row.name.clone()], row_times(row).into())
+            });
         }
+        text
+    }
+
+    fn times_of_cards(&self) -> String {
+        let mut text = format!(
+            "### Cards: bits a second\n\n\
+             Of the same calls in the same program. A run is here a batch of calls, of some {bits} bits \
+             together, the four calls by turns. Workspace and bytes are filled with 7s before each batch; \
+             within it each call finds them as the one before has left them.\n\n",
+            bits = grouped(TIMED_BITS),
+        );
+        let titles = [&["bits"][..], &CALLS].concat();
+        text += &table(&["card"], &titles, &self.cards, |row| {
+            let times = row.times.unwrap_or_default();
+            let rate = |time: Estimate| estimated(row.bits as f64 / time.value, time);
+            let mut cells = vec![grouped(row.bits)];
+            cells.extend(times.map(|time| time.map_or(NONE.to_string(), rate)));
+            (vec![row.shape.to_string()], cells)
+        });
         text
     }
 
@@ -148,29 +158,77 @@ impl Report {
         let rows = self.groups().into_iter().flat_map(|(_, rows)| rows);
         let calls = ["a press", "showing", "loading", "writing"];
         let titles = [&calls[..], &NAMES].concat();
-        text += &table(&[], &titles, rows, |row| {
+        text += &table(&["pair"], &titles, rows, |row| {
             let calls = |stack: Stack| [stack.press, stack.show, stack.load, stack.write];
             let calls = row.stack.map(calls).map(|calls| calls.map(Some));
             let mut cells = calls.unwrap_or_default().map(kib).to_vec();
             cells.extend(row.limit_kib.map(limit));
-            (Vec::new(), cells)
+            (vec![row.name.clone()], cells)
         });
         text
     }
 
     fn stack_of_lines(&self) -> String {
-        let mut text = format!(
-            "Of lines of {} bytes:\n\n| line | reading | {} |\n|---|---:|{}\n",
-            grouped(LONGEST),
-            READERS.join(" | "),
-            "---:|".repeat(READERS.len()),
-        );
-        for row in self.lines.iter().filter(|row| row.bytes == LONGEST) {
-            let limits = row.limit_kib.map(limit).join(" | ");
-            text += &format!("| {} | {} | {limits} |\n", row.shape, kib(row.stack));
-        }
+        let mut text = format!("Of lines of {} bytes:\n\n", grouped(LONGEST));
+        let titles = [&["reading"][..], &READERS].concat();
+        let longest = self.lines.iter().filter(|row| row.bytes == LONGEST);
+        text += &table(&["line"], &titles, longest, |row| {
+            let mut cells = vec![kib(row.stack)];
+            cells.extend(row.limit_kib.map(limit));
+            (vec![row.shape.to_string()], cells)
+        });
         text
     }
+
+    fn stack_of_cards(&self) -> String {
+        let mut text =
+            "Of the longest card of each shape; the programs import it and export it again:\n\n"
+                .to_string();
+        let titles = [&CALLS[..], &EXCHANGERS].concat();
+        let longest = self.cards.iter().filter(|row| row.is_longest);
+        text += &table(&["card"], &titles, longest, |row| {
+            let calls = row.stack.map(|calls| calls.map(Some)).unwrap_or_default();
+            let mut cells = calls.map(kib).to_vec();
+            cells.extend(row.limit_kib.map(limit));
+            (vec![row.shape.to_string()], cells)
+        });
+        text
+    }
+}
+
+fn introduction(counter: Option<Counter>) -> String {
+    let counted = match counter {
+        Some(counter) => format!(
+            "counted by `{}` over at most {} contractions",
+            counter.name(),
+            grouped(COUNTED as usize)
+        ),
+        None => format!("{NONE}, as neither valgrind nor perf counts them here"),
+    };
+    format!(
+        "# Benchmarks\n\n\
+         - Machine: {machine}.\n\
+         - `verdict` is the unit's program. Its peers, in Rust by {compiler} at opt-level 3, read and \
+         print the same. `flat` keeps flat words, as the unit does, compares and searches both from \
+         the first word in every round and contracts through a scratch. `graph` keeps trees of \
+         shared nodes that know their size, their free indices and whether they are normal, as one \
+         would who need not keep flat words; it makes them while it loads.\n\
+         - All ran on the same inputs, with C {c}, and printed the line shown.\n\
+         - Instructions of the press alone: those of a run less those of a run that loads the same \
+         tables and refuses the press, {counted}. They are the same in every run.\n",
+        c = grouped(C as usize),
+        machine = machine(),
+        compiler = compiler(),
+    )
+}
+
+fn number(number: Option<usize>) -> String {
+    number.map_or(NONE.to_string(), grouped)
+}
+
+/// A number of instructions.
+fn count(count: Option<u64>) -> String {
+    number(count.map(|count| count as usize))
 }
 
 /// Bytes in KiB.
@@ -196,8 +254,7 @@ fn row_times(row: &Row) -> Each<String> {
             true => spent / press.value,
             false => press.value * 1e6,
         };
-        let percent = 100.0 * press.error / press.value;
-        format!("{} ±{percent:.0}%", rounded(value))
+        estimated(value, press)
     };
     match &row.times {
         Some(times) => times.each_ref().map(text),
@@ -205,24 +262,28 @@ fn row_times(row: &Row) -> Each<String> {
     }
 }
 
-/// A table of rows: the pair, then cells to the left, then cells to the right.
-fn table<'a>(
+/// A value that follows from a time, with the time's error.
+fn estimated(value: f64, time: Estimate) -> String {
+    let percent = 100.0 * time.error / time.value;
+    format!("{} ±{percent:.0}%", rounded(value))
+}
+
+/// A table of rows: cells to the left, then cells to the right.
+fn table<'a, R: 'a>(
     left: &[&str],
     right: &[&str],
-    rows: impl IntoIterator<Item = &'a Row>,
-    cells: impl Fn(&Row) -> (Vec<String>, Vec<String>),
+    rows: impl IntoIterator<Item = &'a R>,
+    cells: impl Fn(&R) -> (Vec<String>, Vec<String>),
 ) -> String {
-    let titles = [&["pair"], left, right].concat();
     let mut text = format!(
-        "| {} |\n|---|{}{}\n",
-        titles.join(" | "),
+        "| {} |\n|{}{}\n",
+        [left, right].concat().join(" | "),
         "---|".repeat(left.len()),
         "---:|".repeat(right.len())
     );
     for row in rows {
         let (left, right) = cells(row);
-        let cells = [vec![row.name.clone()], left, right].concat();
-        text += &format!("| {} |\n", cells.join(" | "));
+        text += &format!("| {} |\n", [left, right].concat().join(" | "));
     }
     text
 }
@@ -240,27 +301,42 @@ fn growth(plot: &str) -> String {
 /// What reading a line takes of the code of `replay`: the call, and what it calls.
 const READING: [&str; 2] = ["lines::read_line", "terms::is_term"];
 
-fn code(programs: &Programs, readers: &Readers) -> String {
+/// Import and export in the program of the calls alone.
+const EXCHANGING: [&str; 2] = ["probe_import", "probe_export"];
+
+fn code(bench: &Bench) -> String {
     let mut text = "## Code\n\n\
-         Those of the peers have the standard library's parts in them.\n\n\
-         | program | bytes of `.text` |\n|---|---:|\n"
+         Those of the peers have the standard library's parts in them.\n\n"
         .to_string();
     let size = |file: &Option<Vec<u8>>, size: &dyn Fn(&[u8]) -> Option<usize>| {
-        let size = file.as_deref().and_then(size);
-        size.map_or(NONE.to_string(), grouped)
+        number(file.as_deref().and_then(size))
     };
-    let programs = NAMES.iter().zip(programs);
-    for (name, path) in programs.chain(READERS.iter().zip(readers)) {
-        text += &format!(
-            "| `{name}` | {} |\n",
-            size(&fs::read(path).ok(), &text_size)
-        );
-    }
-    let replay = fs::read(&readers[0]).ok();
+    let programs = NAMES.iter().zip(&bench.programs);
+    let programs = programs.chain(READERS.iter().zip(&bench.readers));
+    // Without `replay`, which is a reader.
+    let peers = EXCHANGERS.iter().zip(&bench.exchangers).skip(1);
+    let programs: Vec<_> = programs.chain(peers).collect();
+    text += &table(
+        &["program"],
+        &["bytes of `.text`"],
+        &programs,
+        |(name, path)| {
+            let size = size(&fs::read(path).ok(), &text_size);
+            (vec![format!("`{name}`")], vec![size])
+        },
+    );
+    let replay = fs::read(&bench.readers[0]).ok();
     let [read, check] = READING.map(|name| size(&replay, &|file| function_size(file, name)));
     text += &format!(
-        "\nIn `{}`, `{}` has {read} bytes and `{}`, which it calls, {check}.\n",
+        "\nIn `{}`, `{}` has {read} bytes and `{}`, which it calls, {check}.",
         READERS[0], READING[0], READING[1]
+    );
+    let probe = bench.probe.as_ref();
+    let calls = probe.and_then(|probe| fs::read(probe.program()).ok());
+    let [import, export] = EXCHANGING.map(|name| size(&calls, &|file| function_size(file, name)));
+    text += &format!(
+        " Of the calls alone, `binary::import` has {import} and `binary::export`, which calls `{}` too, {export}.\n",
+        READING[1]
     );
     text
 }
@@ -319,11 +395,32 @@ mod tests {
             untouched,
             normal,
             lines: vec![line("short", 256), line("long", LONGEST)],
-            counter,
+            cards: vec![card("few", false), card("many", true)],
             plot: Some("growth.svg".to_string()),
         };
         let path = |name| format!("/no/{name}").into();
-        report.markdown(&NAMES.map(path), &READERS.map(path))
+        report.markdown(&Bench {
+            programs: NAMES.map(path),
+            readers: READERS.map(path),
+            exchangers: EXCHANGERS.map(path),
+            counter,
+            probe: None,
+            is_timed: true,
+        })
+    }
+
+    fn card(shape: &'static str, is_longest: bool) -> CardRow {
+        CardRow {
+            shape,
+            is_longest,
+            bits: 4_096,
+            bytes: 512,
+            words: 2_048,
+            instructions: [Some(12_345), Some(67_890), None, Some(7)],
+            times: Some([press(4.096e-6), None, press(4.096e-5), press(1.0)]),
+            stack: Some([12_288, 1_024, 512, 100]),
+            limit_kib: [Some(124), None],
+        }
     }
 
     fn line(shape: &'static str, bytes: usize) -> LineRow {
@@ -362,13 +459,23 @@ mod tests {
             "### Normal terms, no contraction: microseconds a press",
             "| `flat` | n/a |",
             "| `replay` | n/a |",
-            "In `replay`, `lines::read_line` has n/a bytes and `terms::is_term`, which it calls, n/a.",
+            "| `bitwise` | n/a |",
+            "In `replay`, `lines::read_line` has n/a bytes and `terms::is_term`, which it calls, n/a. \
+             Of the calls alone, `binary::import` has n/a and `binary::export`, which calls `terms::is_term` too, n/a.",
             "| line | bytes | words | replay | descent |",
             "|---|---:|---:|---:|---:|",
             "| short | 256 | 1 | 12,345 | n/a |",
             "| long | 1,024 | 1 | 12,345 | n/a |",
             "| line | reading | replay | descent |",
             "| long | 2.0 | 148 | n/a |",
+            "| card | bits | bytes | words | import | import by bitwise | export | export by bitwise |",
+            "| few | 4,096 | 512 | 2,048 | 12,345 | 67,890 | n/a | 7 |",
+            "| many | 4,096 | 512 | 2,048 | 12,345 | 67,890 | n/a | 7 |",
+            "### Cards: bits a second",
+            "| card | bits | import | import by bitwise | export | export by bitwise |",
+            "| few | 4,096 | 1,000,000,000 ±2% | n/a | 100,000,000 ±2% | 4,100 ±2% |",
+            "| card | import | import by bitwise | export | export by bitwise | replay | bitwise |",
+            "| many | 12.0 | 1.0 | 0.5 | 0.1 | 124 | n/a |",
             "| pair | line | verdict | flat | graph |",
             "|---|---|---:|---:|---:|",
             "| pair | verdict | flat | graph |",
@@ -381,6 +488,8 @@ mod tests {
             );
         }
         assert!(!page.contains("| short | 2.0"), "{page}");
+        assert!(!page.contains("| few | 12.0"), "{page}");
+        assert_eq!(page.matches("| `replay` |").count(), 1);
         assert!(page.contains("](growth.svg)"));
         assert!(page.contains("counted by `valgrind --tool=callgrind` over at most 10,000 "));
     }

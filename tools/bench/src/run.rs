@@ -1,4 +1,4 @@
-//! One run of a program on an input: its line, its time, its instructions, its stack.
+//! One run of a program on an input: its lines, its time, its instructions, its stack.
 
 use std::fs::{self, File};
 use std::io;
@@ -31,15 +31,15 @@ impl Drop for InputFile {
     }
 }
 
-/// Runs the program once: the line that it prints and the time from its start to its end.
-pub fn line_of(program: &Path, input: &InputFile) -> Result<(String, Duration), String> {
+/// Runs the program once: the lines that it prints and the time from its start to its end.
+pub fn lines_of(program: &Path, input: &InputFile) -> Result<(String, Duration), String> {
     let failed = |reason: String| format!("{}: {reason}", program.display());
     let start = Instant::now();
     let output = input.output(&mut Command::new(program));
     let time = start.elapsed();
     let output = output.map_err(|error| failed(error.to_string()))?;
-    let line = unit::program::line(output).map_err(|error| failed(error.to_string()))?;
-    Ok((line, time))
+    let lines = unit::program::lines(output).map_err(|error| failed(error.to_string()))?;
+    Ok((lines, time))
 }
 
 /// A tool that counts the instructions of a run, those of the kernel left out.
@@ -77,6 +77,12 @@ impl Counter {
         report.lines().find_map(|line| self.counted(line))
     }
 
+    /// What one run of the program has more than another.
+    pub fn difference(self, program: &Path, input: &InputFile, without: &InputFile) -> Option<u64> {
+        let without = self.count(program, without)?;
+        self.count(program, input)?.checked_sub(without)
+    }
+
     /// The count, if this line of the tool's report has it.
     fn counted(self, line: &str) -> Option<u64> {
         match self {
@@ -92,10 +98,10 @@ const MAX_STACK_KIB: u32 = 8_192;
 /// The stack starts at a random place in its first pages, so one run proves little.
 const STACK_RUNS: usize = 5;
 
-/// The smallest stack limit in KiB under which the program prints the line every time.
-pub fn stack_kib(program: &Path, input: &InputFile, line: &str) -> Option<u32> {
+/// The smallest stack limit in KiB under which the program prints the lines every time.
+pub fn stack_kib(program: &Path, input: &InputFile, lines: &str) -> Option<u32> {
     let fits = |steps: u32| {
-        let run = |_| limited(program, input, steps * STEP_KIB).as_deref() == Some(line);
+        let run = |_| limited(program, input, steps * STEP_KIB).as_deref() == Some(lines);
         (0..STACK_RUNS).all(run)
     };
     let mut too_small = 0;
@@ -113,7 +119,7 @@ pub fn stack_kib(program: &Path, input: &InputFile, line: &str) -> Option<u32> {
     Some(enough * STEP_KIB)
 }
 
-/// The line that the program prints under a stack limit, with nothing in its environment.
+/// The lines that the program prints under a stack limit, with nothing in its environment.
 fn limited(program: &Path, input: &InputFile, kib: u32) -> Option<String> {
     let mut shell = Command::new("/bin/sh");
     shell
@@ -121,7 +127,7 @@ fn limited(program: &Path, input: &InputFile, kib: u32) -> Option<String> {
         .arg(kib.to_string())
         .arg(program)
         .env_clear();
-    unit::program::line(input.output(&mut shell).ok()?).ok()
+    unit::program::lines(input.output(&mut shell).ok()?).ok()
 }
 
 #[cfg(test)]

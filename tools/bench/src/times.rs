@@ -1,4 +1,4 @@
-//! The time of a press, from runs of whole programs.
+//! The time of a press, from runs of whole programs, and that of a call, from batches of it.
 
 use std::path::Path;
 use std::time::Duration;
@@ -8,7 +8,7 @@ use crate::measure::{checked, input_file, Each, Programs, NAMES};
 
 /// A time is taken this often, each time as the shortest of some runs: other work on the machine
 /// only ever makes a run longer.
-const REPETITIONS: usize = 9;
+pub const REPETITIONS: usize = 9;
 const MIN_RUNS: usize = 3;
 const MAX_RUNS: usize = 100;
 /// About how long one program's runs of one case may take together.
@@ -83,7 +83,7 @@ impl Samples {
 }
 
 /// The median, if it is above three of its standard errors.
-fn resolved(values: &mut [f64]) -> Option<Estimate> {
+pub fn resolved(values: &mut [f64]) -> Option<Estimate> {
     // For normally distributed values: the standard deviation from the median absolute deviation,
     // and the standard error of a median from the standard deviation.
     const DEVIATION: f64 = 1.4826;

@@ -1,6 +1,7 @@
 //! What the README and `judge --help` say of pairs and tables, against the peers, and the rows of the
 //! benchmark's page.
 
+use bench::cards::growing_cards;
 use bench::cases::{contracting, normal, untouched};
 use bench::lines::growing_lines;
 use bench::peers::{descent, flat, graph};
@@ -178,19 +179,31 @@ fn the_rows_of_the_benchmark_are_cases() {
     }
 }
 
-#[test]
-fn the_rows_of_reading_are_lines() {
-    let rows = measured("Reading a line", "| ").into_iter().skip(1);
+/// The rows of the only table below a heading start with these cells.
+fn assert_measured(heading: &str, cells: Vec<String>) {
+    let rows = measured(heading, "| ").into_iter().skip(1);
     let rows: Vec<_> = rows.map(|row| row.replace(',', "")).collect();
-    let lines = growing_lines();
-    assert_eq!(rows.len(), lines.len());
-    for (row, line) in rows.iter().zip(lines) {
-        let start = format!(
-            "| {} | {} | {} |",
-            line.shape,
-            line.text.len(),
-            line.length()
-        );
+    assert_eq!(rows.len(), cells.len());
+    for (row, cells) in rows.iter().zip(cells) {
+        let start = format!("| {} |", cells.replace(',', ""));
         assert!(row.starts_with(&start), "{row}");
     }
+}
+
+#[test]
+fn the_rows_of_reading_are_lines() {
+    let cells = growing_lines().into_iter().map(|line| {
+        let (bytes, words) = (line.text.len(), line.length());
+        format!("{} | {bytes} | {words}", line.shape)
+    });
+    assert_measured("Reading a line", cells.collect());
+}
+
+#[test]
+fn the_rows_of_importing_and_exporting_are_cards() {
+    let cells = growing_cards().into_iter().map(|card| {
+        let (bytes, words) = (card.bytes.len(), card.words.len());
+        format!("{} | {} | {bytes} | {words}", card.shape, card.bits)
+    });
+    assert_measured("Importing and exporting a card", cells.collect());
 }

@@ -67,13 +67,19 @@ fn feed(mut stdin: ChildStdin, input: &[u8]) -> io::Result<()> {
 }
 
 /// The one line that a program printed, without its newline.
-pub fn line(output: Output) -> Result<String, ProgramError> {
+fn line(output: Output) -> Result<String, ProgramError> {
+    match lines(output)? {
+        line if !line.is_empty() && !line.contains('\n') => Ok(line),
+        _ => Err(ProgramError::NoLine),
+    }
+}
+
+/// The lines that a program printed, without the last newline.
+pub fn lines(output: Output) -> Result<String, ProgramError> {
     if !output.status.success() {
         return Err(ProgramError::Failed(output.status));
     }
     let text = String::from_utf8(output.stdout).map_err(|_| ProgramError::NoLine)?;
-    match text.strip_suffix('\n') {
-        Some(line) if !line.is_empty() && !line.contains('\n') => Ok(line.to_string()),
-        _ => Err(ProgramError::NoLine),
-    }
+    let lines = text.strip_suffix('\n').ok_or(ProgramError::NoLine)?;
+    Ok(lines.to_string())
 }

@@ -1,47 +1,25 @@
 //! A reader of lines by recursive descent into a tree, which is then checked and written as words. It
 //! stands in for the program `replay` on scripts that only read lines.
 
-use unit::limits::{MAX_FREE, MAX_INDEX, MAX_TABLE, WORKSPACE};
+use unit::limits::{MAX_FREE, MAX_INDEX, WORKSPACE};
 use unit::word::{word, ABSTRACTION, APPLICATION, VARIABLE};
 
-/// The operation of a script that reads a line.
-const LINE: u32 = 8;
+use super::script::{self, answer, Sides, Words, LINE};
+
 /// The bytes of the longest line.
 const LONGEST: usize = 1_024;
 
 /// What is printed for a script.
 pub fn transcript(script: &[u8]) -> String {
-    let words = script.chunks_exact(4);
-    let words = words.map(|word| u32::from_le_bytes([word[0], word[1], word[2], word[3]]));
-    let mut text = String::new();
-    if run(&mut words.peekable(), &mut text).is_none() {
-        text.push_str("Script\n");
-    }
-    text
+    script::transcript(script, operate)
 }
 
-fn run(
-    words: &mut std::iter::Peekable<impl Iterator<Item = u32>>,
-    text: &mut String,
-) -> Option<()> {
-    let mut workspace = || {
-        let c = words.next()? as usize;
-        Some(vec![0; c.min(WORKSPACE.end() + 1)])
-    };
-    let mut sides = [workspace()?, workspace()?];
-    while words.peek().is_some() {
-        words.next().filter(|&operation| operation == LINE)?;
-        let side = sides.get_mut(words.next()? as usize)?;
-        let count = words.next().filter(|&count| count <= MAX_TABLE)?;
-        let line: Option<Vec<u8>> = (0..count)
-            .map(|_| u8::try_from(words.next()?).ok())
-            .collect();
-        text.push_str(&match read_line(&line?, side) {
-            Ok(length) => format!("line {length}\n"),
-            Err(number) => format!("refused {number}\n"),
-        });
+fn operate(operation: u32, words: &mut Words, sides: &mut Sides) -> Option<String> {
+    if operation != LINE {
+        return None;
     }
-    Some(())
+    let side = words.side(sides)?;
+    Some(answer("line", read_line(&words.bytes()?, side)))
 }
 
 /// Reads a line into a workspace: the term's length, or a refusal's number.

@@ -1,9 +1,11 @@
-//! What the unit is measured beside: programs that read and print what `verdict` does, and one that
-//! reads lines as `replay` does, in plain Rust from the rules.
+//! What the unit is measured beside: programs that read and print what `verdict` does, and two that do
+//! some of what `replay` does, one with lines and one with cards, in plain Rust from the rules.
 
+pub mod bitwise;
 pub mod descent;
 pub mod flat;
 pub mod graph;
+pub(crate) mod script;
 mod table;
 
 use std::fmt;

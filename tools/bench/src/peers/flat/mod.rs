@@ -3,7 +3,7 @@
 
 mod press;
 mod step;
-mod words;
+pub(super) mod words;
 
 use unit::limits::WORKSPACE;
 

@@ -1,13 +1,20 @@
-//! Measures the machine stack of the unit's calls by painting it. Standard input holds little-endian
-//! words. A pair is 0, budget, C, left length, left words, right length, right words, length of the left
-//! table, its words; printed are what the press spends and the bytes of stack that these take: the
-//! press, showing the first terms, loading the table and writing it again. A line is 1, C, the number of
-//! its bytes, a word for each, the length of its term, the term's words; printed are that length and the
-//! bytes of stack that reading it takes.
+//! Measures the unit's calls alone: their machine stack, by painting it, and beside their peers those on
+//! cards. Standard input holds little-endian words. A pair is 0, budget, C, left length, left words,
+//! right length, right words, length of the left table, its words; printed are what the press spends and
+//! the bytes of stack that these take: the press, showing the first terms, loading the table and writing
+//! it again. A line is 1, C, the number of its bytes, a word for each, the length of its term, the term's
+//! words; printed are that length and the bytes of stack that reading it takes. A card is 2, what is
+//! measured (0: nothing, 1: bytes of stack, 2: nanoseconds), the number of batches, the calls in a batch
+//! of the unit's import, of its peer, of the unit's export and of its peer, the number of bits, then as a
+//! line from C on; printed is what is measured of these four, batch by batch.
 
 use std::arch::asm;
+use std::hint::black_box;
 use std::io::{self, Read};
 use std::thread;
+use std::time::Instant;
+
+use bench::peers::bitwise;
 
 // A lent slice is a pointer and a length.
 extern "C" {
@@ -43,6 +50,16 @@ extern "C" {
     );
 
     fn probe_line(line: *const u8, bytes: usize, workspace: *mut u32, words: usize);
+
+    fn probe_import(bytes: *const u8, count: usize, bits: usize, workspace: *mut u32, words: usize);
+
+    fn probe_export(
+        workspace: *const u32,
+        words: usize,
+        length: usize,
+        bytes: *mut u8,
+        count: usize,
+    );
 }
 
 /// Bytes that are painted, of a larger stack.
@@ -52,9 +69,20 @@ const PAINT: u64 = 0x7a11_b1a5_7e55_e11a;
 /// Bytes below the stack pointer that belong to the running function all the same.
 const RED_ZONE: usize = 128;
 
-/// The bytes from the stack pointer here to the lowest that the call changes.
+type Calls<'a> = dyn FnMut() + Send + 'a;
+
+/// The bytes of stack that calls use, in a thread, whose stack has a known size.
+fn used(calls: &mut Calls) -> usize {
+    thread::scope(|scope| {
+        let thread = thread::Builder::new().stack_size(STACK);
+        let thread = thread.spawn_scoped(scope, || changed(calls));
+        thread.expect("a thread").join().expect("the calls return")
+    })
+}
+
+/// The bytes from the stack pointer here to the lowest that the calls change.
 #[inline(never)]
-fn used(call: &mut dyn FnMut()) -> usize {
+fn changed(calls: &mut Calls) -> usize {
     let top: usize;
     // Safety: the stack pointer is only read.
     unsafe { asm!("mov {}, rsp", out(reg) top, options(nomem, nostack)) };
@@ -63,11 +91,27 @@ fn used(call: &mut dyn FnMut()) -> usize {
         // Safety: the place is in this thread's stack, below all that is in use.
         unsafe { (place as *mut u64).write_volatile(PAINT) };
     }
-    call();
+    calls();
     // Safety: as above.
     let is_changed = |place: &usize| unsafe { (*place as *const u64).read_volatile() } != PAINT;
     places().find(is_changed).map_or(0, |lowest| top - lowest)
 }
+
+fn nanoseconds(calls: &mut Calls) -> usize {
+    let start = Instant::now();
+    calls();
+    start.elapsed().as_nanos() as usize
+}
+
+/// For a run that is measured from outside.
+fn nothing(calls: &mut Calls) -> usize {
+    calls();
+    0
+}
+
+type Measure = fn(&mut Calls) -> usize;
+
+const MEASURES: [Measure; 3] = [nothing, used, nanoseconds];
 
 struct Pair {
     budget: u32,
@@ -78,16 +122,27 @@ struct Pair {
     table: Vec<u32>,
 }
 
-struct Line {
+/// The bytes of a line or of a card.
+struct Brought {
     bytes: Vec<u8>,
     length: usize,
     /// The workspace with the term in it.
     workspace: Vec<u32>,
 }
 
+struct Card {
+    measure: Measure,
+    batches: usize,
+    /// How often each call is made in a batch.
+    counts: [usize; 4],
+    bits: usize,
+    brought: Brought,
+}
+
 enum Input {
     Pair(Pair),
-    Line(Line),
+    Line(Brought),
+    Card(Card),
 }
 
 fn read(bytes: &[u8]) -> Option<Input> {
@@ -95,7 +150,8 @@ fn read(bytes: &[u8]) -> Option<Input> {
     let mut words = words.map(|word| u32::from_le_bytes([word[0], word[1], word[2], word[3]]));
     match words.next()? {
         0 => read_pair(words).map(Input::Pair),
-        _ => read_line(words).map(Input::Line),
+        1 => read_brought(words).map(Input::Line),
+        _ => read_card(words).map(Input::Card),
     }
 }
 
@@ -105,16 +161,30 @@ fn counted(words: &mut impl Iterator<Item = u32>) -> Option<Vec<u32>> {
     Some(words.take(length).collect())
 }
 
-fn read_line(mut words: impl Iterator<Item = u32>) -> Option<Line> {
+fn read_brought(mut words: impl Iterator<Item = u32>) -> Option<Brought> {
     let c = words.next()? as usize;
     let bytes = counted(&mut words)?.into_iter();
     let mut workspace = counted(&mut words)?;
     let length = workspace.len();
     workspace.resize(c, 0);
-    Some(Line {
+    Some(Brought {
         bytes: bytes.map(|byte| byte as u8).collect(),
         length,
         workspace,
+    })
+}
+
+fn read_card(mut words: impl Iterator<Item = u32>) -> Option<Card> {
+    let measure = *MEASURES.get(words.next()? as usize)?;
+    let mut number = || Some(words.next()? as usize);
+    let batches = number()?;
+    let counts = [number()?, number()?, number()?, number()?];
+    Some(Card {
+        measure,
+        batches,
+        counts,
+        bits: number()?,
+        brought: read_brought(words)?,
     })
 }
 
@@ -192,8 +262,8 @@ impl Pair {
     }
 }
 
-impl Line {
-    fn read(&self) -> usize {
+impl Brought {
+    fn read_line(&self) -> usize {
         let c = self.workspace.len();
         let mut workspace = vec![7; c];
         // Safety: as above.
@@ -206,10 +276,67 @@ impl Line {
     }
 }
 
+fn unit_import(bytes: &[u8], bits: usize, workspace: &mut [u32]) {
+    let (words, c) = (workspace.as_mut_ptr(), workspace.len());
+    // Safety: as above.
+    unsafe { probe_import(bytes.as_ptr(), bytes.len(), bits, words, c) };
+}
+
+fn peer_import(bytes: &[u8], bits: usize, workspace: &mut [u32]) {
+    let _ = black_box(bitwise::import(bytes, bits, workspace));
+}
+
+fn unit_export(workspace: &[u32], length: usize, bytes: &mut [u8]) {
+    let (words, c) = (workspace.as_ptr(), workspace.len());
+    // Safety: as above.
+    unsafe { probe_export(words, c, length, bytes.as_mut_ptr(), bytes.len()) };
+}
+
+fn peer_export(workspace: &[u32], length: usize, bytes: &mut [u8]) {
+    let _ = black_box(bitwise::export(workspace, length, bytes));
+}
+
+impl Card {
+    fn import(&self, count: usize, import: fn(&[u8], usize, &mut [u32])) -> usize {
+        let brought = &self.brought;
+        let mut workspace = vec![7; brought.workspace.len()];
+        let mut call = |_| import(&brought.bytes, self.bits, &mut workspace);
+        let measured = (self.measure)(&mut || (0..count).for_each(&mut call));
+        assert!(workspace == brought.workspace, "the card is imported");
+        measured
+    }
+
+    fn export(&self, count: usize, export: fn(&[u32], usize, &mut [u8])) -> usize {
+        let brought = &self.brought;
+        let mut bytes = vec![7; brought.bytes.len()];
+        let mut call = |_| export(&brought.workspace, brought.length, &mut bytes);
+        let measured = (self.measure)(&mut || (0..count).for_each(&mut call));
+        assert!(bytes == brought.bytes, "the card is exported");
+        measured
+    }
+
+    fn batch(&self) -> [usize; 4] {
+        let [unit_imports, peer_imports, unit_exports, peer_exports] = self.counts;
+        [
+            self.import(unit_imports, unit_import),
+            self.import(peer_imports, peer_import),
+            self.export(unit_exports, unit_export),
+            self.export(peer_exports, peer_export),
+        ]
+    }
+
+    fn measured(&self) -> String {
+        let batches = (0..self.batches).flat_map(|_| self.batch());
+        let numbers: Vec<String> = batches.map(|number| number.to_string()).collect();
+        numbers.join(" ")
+    }
+}
+
 fn measured(input: Input) -> String {
     let mut pair = match input {
         Input::Pair(pair) => pair,
-        Input::Line(line) => return format!("{} {}", line.length, line.read()),
+        Input::Line(line) => return format!("{} {}", line.length, line.read_line()),
+        Input::Card(card) => return card.measured(),
     };
     let (show, load, write) = (pair.show(), pair.load(), pair.write());
     let (spent, press) = pair.press();
@@ -219,8 +346,6 @@ fn measured(input: Input) -> String {
 fn main() {
     let mut bytes = Vec::new();
     io::stdin().read_to_end(&mut bytes).expect("an input");
-    let input = read(&bytes).expect("a pair of terms and a table, or a line");
-    let thread = thread::Builder::new().stack_size(STACK);
-    let thread = thread.spawn(move || measured(input)).expect("a thread");
-    println!("{}", thread.join().expect("the calls return"));
+    let input = read(&bytes).expect("a pair of terms and a table, a line or a card");
+    println!("{}", measured(input));
 }
