@@ -5,9 +5,9 @@ use std::fs;
 use std::path::{Path, PathBuf};
 use std::process::ExitCode;
 
-use bench::cards::{growing_cards, Card, CardRow};
 use bench::cases::{contracting, growing_touched, growing_untouched, normal, untouched};
 use bench::cases::{Case, Point};
+use bench::encodings::{growing_encodings, Encoding, EncodingRow};
 use bench::lines::{growing_lines, Line, LineRow};
 use bench::measure::{Bench, Each, Row};
 use bench::plot::{svg, Panel};
@@ -20,7 +20,7 @@ const USAGE: &str = "\
 usage: cargo bench --manifest-path tools/Cargo.toml --package bench [-- OPTION...]
   --program PATH  the unit's program: unless given, target/bin/verdict in the repository, built
                   from its sources; the calls alone are measured only there
-  --replay PATH   the unit's program that reads lines and cards: likewise target/bin/replay
+  --replay PATH   the unit's program that reads lines and encodings: likewise target/bin/replay
   --untimed       takes no times, which need an idle machine; all else is the same in every run
 Prints docs/BENCHMARKS.md and writes docs/growth.svg. A relative PATH starts from tools/bench.";
 
@@ -93,7 +93,7 @@ fn report(bench: &Bench, root: &Path) -> Result<String, String> {
         untouched: rows(bench, untouched())?,
         normal: rows(bench, normal())?,
         lines: line_rows(bench, growing_lines())?,
-        cards: card_rows(bench, growing_cards())?,
+        encodings: encoding_rows(bench, growing_encodings())?,
         plot,
     };
     Ok(report.markdown(bench))
@@ -117,13 +117,13 @@ fn line_rows(bench: &Bench, lines: Vec<Line>) -> Result<Vec<LineRow>, String> {
     lines.iter().map(measured).collect()
 }
 
-fn card_rows(bench: &Bench, cards: Vec<Card>) -> Result<Vec<CardRow>, String> {
-    let measured = |card: &Card| {
-        eprintln!("{}, {} bits", card.shape, card.bits);
-        let row = bench.card(card);
-        row.map_err(|reason| format!("{}: {reason}", card.shape))
+fn encoding_rows(bench: &Bench, encodings: Vec<Encoding>) -> Result<Vec<EncodingRow>, String> {
+    let measured = |encoding: &Encoding| {
+        eprintln!("{}, {} bits", encoding.shape, encoding.bits);
+        let row = bench.encoding(encoding);
+        row.map_err(|reason| format!("{}: {reason}", encoding.shape))
     };
-    cards.iter().map(measured).collect()
+    encodings.iter().map(measured).collect()
 }
 
 /// Writes the plot; its path seen from the page.

@@ -1,9 +1,9 @@
 //! Measures the unit's calls alone: their machine stack, by painting it, and beside their peers those on
-//! cards. Standard input holds little-endian words. A pair is 0, budget, C, left length, left words,
+//! encodings. Standard input holds little-endian words. A pair is 0, budget, C, left length, left words,
 //! right length, right words, length of the left table, its words; printed are what the press spends and
 //! the bytes of stack that these take: the press, showing the first terms, loading the table and writing
 //! it again. A line is 1, C, the number of its bytes, a word for each, the length of its term, the term's
-//! words; printed are that length and the bytes of stack that reading it takes. A card is 2, what is
+//! words; printed are that length and the bytes of stack that reading it takes. An encoding is 2, what is
 //! measured (0: nothing, 1: bytes of stack, 2: nanoseconds), the number of batches, the calls in a batch
 //! of the unit's import, of its peer, of the unit's export and of its peer, the number of bits, then as a
 //! line from C on; printed is what is measured of these four, batch by batch.
@@ -122,7 +122,7 @@ struct Pair {
     table: Vec<u32>,
 }
 
-/// The bytes of a line or of a card.
+/// The bytes of a line or of an encoding.
 struct Brought {
     bytes: Vec<u8>,
     length: usize,
@@ -130,7 +130,7 @@ struct Brought {
     workspace: Vec<u32>,
 }
 
-struct Card {
+struct Encoding {
     measure: Measure,
     batches: usize,
     /// How often each call is made in a batch.
@@ -142,7 +142,7 @@ struct Card {
 enum Input {
     Pair(Pair),
     Line(Brought),
-    Card(Card),
+    Encoding(Encoding),
 }
 
 fn read(bytes: &[u8]) -> Option<Input> {
@@ -151,7 +151,7 @@ fn read(bytes: &[u8]) -> Option<Input> {
     match words.next()? {
         0 => read_pair(words).map(Input::Pair),
         1 => read_brought(words).map(Input::Line),
-        _ => read_card(words).map(Input::Card),
+        _ => read_encoding(words).map(Input::Encoding),
     }
 }
 
@@ -174,12 +174,12 @@ fn read_brought(mut words: impl Iterator<Item = u32>) -> Option<Brought> {
     })
 }
 
-fn read_card(mut words: impl Iterator<Item = u32>) -> Option<Card> {
+fn read_encoding(mut words: impl Iterator<Item = u32>) -> Option<Encoding> {
     let measure = *MEASURES.get(words.next()? as usize)?;
     let mut number = || Some(words.next()? as usize);
     let batches = number()?;
     let counts = [number()?, number()?, number()?, number()?];
-    Some(Card {
+    Some(Encoding {
         measure,
         batches,
         counts,
@@ -296,13 +296,13 @@ fn peer_export(workspace: &[u32], length: usize, bytes: &mut [u8]) {
     let _ = black_box(bitwise::export(workspace, length, bytes));
 }
 
-impl Card {
+impl Encoding {
     fn import(&self, count: usize, import: fn(&[u8], usize, &mut [u32])) -> usize {
         let brought = &self.brought;
         let mut workspace = vec![7; brought.workspace.len()];
         let mut call = |_| import(&brought.bytes, self.bits, &mut workspace);
         let measured = (self.measure)(&mut || (0..count).for_each(&mut call));
-        assert!(workspace == brought.workspace, "the card is imported");
+        assert!(workspace == brought.workspace, "the encoding is imported");
         measured
     }
 
@@ -311,7 +311,7 @@ impl Card {
         let mut bytes = vec![7; brought.bytes.len()];
         let mut call = |_| export(&brought.workspace, brought.length, &mut bytes);
         let measured = (self.measure)(&mut || (0..count).for_each(&mut call));
-        assert!(bytes == brought.bytes, "the card is exported");
+        assert!(bytes == brought.bytes, "the encoding is exported");
         measured
     }
 
@@ -336,7 +336,7 @@ fn measured(input: Input) -> String {
     let mut pair = match input {
         Input::Pair(pair) => pair,
         Input::Line(line) => return format!("{} {}", line.length, line.read_line()),
-        Input::Card(card) => return card.measured(),
+        Input::Encoding(encoding) => return encoding.measured(),
     };
     let (show, load, write) = (pair.show(), pair.load(), pair.write());
     let (spent, press) = pair.press();
@@ -346,6 +346,6 @@ fn measured(input: Input) -> String {
 fn main() {
     let mut bytes = Vec::new();
     io::stdin().read_to_end(&mut bytes).expect("an input");
-    let input = read(&bytes).expect("a pair of terms and a table, a line or a card");
+    let input = read(&bytes).expect("a pair of terms and a table, a line or an encoding");
     println!("{}", measured(input));
 }

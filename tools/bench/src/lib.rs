@@ -1,8 +1,8 @@
 //! The programs `verdict` and `replay` measured beside peers in plain Rust.
 
-pub mod cards;
 pub mod cases;
 mod elf;
+pub mod encodings;
 pub mod lines;
 pub mod measure;
 mod numbers;

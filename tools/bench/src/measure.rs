@@ -2,8 +2,8 @@
 
 use std::path::{Path, PathBuf};
 
-use crate::cards::Exchangers;
 use crate::cases::Case;
+use crate::encodings::Exchangers;
 use crate::lines::Readers;
 use crate::probe::{Probe, Stack};
 use crate::run::{lines_of, stack_kib, Counter, InputFile};

@@ -1,5 +1,5 @@
-//! The unit's calls alone, and those on cards beside their peers: a library of the repository's proved
-//! crates, linked to a program that measures its stack and its time.
+//! The unit's calls alone, and importing and exporting beside their peers: a library of the
+//! repository's proved crates, linked to a program that measures its stack and its time.
 
 use std::fs;
 use std::io;
@@ -7,8 +7,8 @@ use std::os::unix::fs::symlink;
 use std::path::{Path, PathBuf};
 use std::process::Command;
 
-use crate::cards::{Card, EachCall, CALLS};
 use crate::cases::{Case, C};
+use crate::encodings::{EachCall, Encoding, CALLS};
 use crate::lines::Line;
 use crate::measure::{input_file, spent};
 use crate::run::{lines_of, Counter};
@@ -72,17 +72,25 @@ impl Probe {
             .ok_or_else(|| format!("the probe printed `{printed}` for a line"))
     }
 
-    /// The machine stack of each call on a card, in bytes.
-    pub fn card_stack(&self, card: &Card) -> Result<EachCall<usize>, String> {
-        let batches = self.batches(card, Measure::Stack, 1, ONCE)?;
+    /// The machine stack of each call on an encoding, in bytes.
+    pub fn encoding_stack(&self, encoding: &Encoding) -> Result<EachCall<usize>, String> {
+        let batches = self.batches(encoding, Measure::Stack, 1, ONCE)?;
         Ok(batches[0])
     }
 
-    /// The seconds of each call on a card.
-    pub fn card_times(&self, card: &Card) -> Result<EachCall<Option<Estimate>>, String> {
-        let count = TIMED_BITS.div_ceil(card.bits);
+    /// The seconds of each call on an encoding.
+    pub fn encoding_times(
+        &self,
+        encoding: &Encoding,
+    ) -> Result<EachCall<Option<Estimate>>, String> {
+        let count = TIMED_BITS.div_ceil(encoding.bits);
         let batches = REPETITIONS * TIMED_BATCHES;
-        let batches = self.batches(card, Measure::Nanoseconds, batches, [count; CALLS.len()])?;
+        let batches = self.batches(
+            encoding,
+            Measure::Nanoseconds,
+            batches,
+            [count; CALLS.len()],
+        )?;
         Ok(std::array::from_fn(|call| {
             let shortest = |batches: &[EachCall<usize>]| {
                 let batches = batches.iter().map(|batch| batch[call]);
@@ -93,34 +101,37 @@ impl Probe {
         }))
     }
 
-    /// The instructions of each call on a card: what a run with one call more has more.
-    pub fn card_instructions(
+    /// The instructions of each call on an encoding: what a run with one call more has more.
+    pub fn encoding_instructions(
         &self,
-        card: &Card,
+        encoding: &Encoding,
         counter: Counter,
     ) -> Result<EachCall<Option<u64>>, String> {
-        let once = input_file("once", &card_words(card, Measure::Nothing, 1, ONCE))?;
+        let once = input_file("once", &encoding_words(encoding, Measure::Nothing, 1, ONCE))?;
         let mut instructions = [None; CALLS.len()];
         for (call, instructions) in instructions.iter_mut().enumerate() {
             let mut counts = ONCE;
             counts[call] += 1;
-            let more = input_file("more", &card_words(card, Measure::Nothing, 1, counts))?;
+            let more = input_file(
+                "more",
+                &encoding_words(encoding, Measure::Nothing, 1, counts),
+            )?;
             *instructions = counter.difference(&self.program, &more, &once);
         }
         Ok(instructions)
     }
 
-    /// What is measured of batches of the calls on a card, each call so often in a batch.
+    /// What is measured of batches of the calls on an encoding, each call so often in a batch.
     fn batches(
         &self,
-        card: &Card,
+        encoding: &Encoding,
         measure: Measure,
         batches: usize,
         counts: EachCall<usize>,
     ) -> Result<Vec<EachCall<usize>>, String> {
-        let printed = self.printed(&card_words(card, measure, batches, counts))?;
+        let printed = self.printed(&encoding_words(encoding, measure, batches, counts))?;
         let measured = read_batches(&printed).filter(|measured| measured.len() == batches);
-        measured.ok_or_else(|| format!("the probe printed `{printed}` for a card"))
+        measured.ok_or_else(|| format!("the probe printed `{printed}` for an encoding"))
     }
 
     fn printed(&self, words: &[u8]) -> Result<String, String> {
@@ -143,16 +154,22 @@ const ONCE: EachCall<usize> = [1; CALLS.len()];
 pub const TIMED_BITS: usize = 1_000_000;
 const TIMED_BATCHES: usize = 20;
 
-/// What the program reads of a card.
-fn card_words(card: &Card, measure: Measure, batches: usize, counts: EachCall<usize>) -> Vec<u8> {
+/// What the program reads of an encoding.
+fn encoding_words(
+    encoding: &Encoding,
+    measure: Measure,
+    batches: usize,
+    counts: EachCall<usize>,
+) -> Vec<u8> {
     let mut words = vec![2, measure as u32, batches as u32];
     words.extend(counts.map(|count| count as u32));
-    words.push(card.bits as u32);
-    words.extend(brought(&card.bytes, &card.words));
+    words.push(encoding.bits as u32);
+    words.extend(brought(&encoding.bytes, &encoding.words));
     words.into_iter().flat_map(u32::to_le_bytes).collect()
 }
 
-/// What the program reads of a line as of a card: C, the bytes, a word each, and the words of the term.
+/// What the program reads of a line as of an encoding: C, the bytes, a word each, and the words of
+/// the term.
 pub fn brought(bytes: &[u8], term: &[u32]) -> Vec<u32> {
     let mut words = vec![C, bytes.len() as u32];
     words.extend(bytes.iter().map(|byte| u32::from(*byte)));
@@ -272,8 +289,8 @@ mod tests {
     }
 
     #[test]
-    fn a_card_is_told_with_its_calls() {
-        let card = Card {
+    fn an_encoding_is_told_with_its_calls() {
+        let encoding = Encoding {
             shape: "S",
             is_longest: true,
             bytes: vec![1, 122, 116],
@@ -281,9 +298,12 @@ mod tests {
             words: vec![1, 1, 1, 2, 2, 16, 0, 2, 8, 0],
         };
         let told = [2, 1, 5, 6, 7, 8, 9, 23, C, 3, 1, 122, 116, 10];
-        let words = [&told[..], &card.words].concat();
+        let words = [&told[..], &encoding.words].concat();
         let bytes: Vec<u8> = words.into_iter().flat_map(u32::to_le_bytes).collect();
-        assert_eq!(card_words(&card, Measure::Stack, 5, [6, 7, 8, 9]), bytes);
+        assert_eq!(
+            encoding_words(&encoding, Measure::Stack, 5, [6, 7, 8, 9]),
+            bytes
+        );
     }
 
     #[test]

@@ -4,9 +4,9 @@ use std::fs;
 use std::path::Path;
 use std::process::Command;
 
-use crate::cards::{CardRow, CALLS, EXCHANGERS};
 use crate::cases::C;
 use crate::elf::{function_size, text_size};
+use crate::encodings::{EncodingRow, CALLS, EXCHANGERS};
 use crate::lines::{LineRow, LONGEST, READERS};
 use crate::measure::{spent, Bench, Each, Row, COUNTED, NAMES};
 use crate::numbers::{grouped, rounded};
@@ -22,7 +22,7 @@ pub struct Report {
     pub untouched: Vec<Row>,
     pub normal: Vec<Row>,
     pub lines: Vec<LineRow>,
-    pub cards: Vec<CardRow>,
+    pub encodings: Vec<EncodingRow>,
     /// The plot's path, seen from the page.
     pub plot: Option<String>,
 }
@@ -35,9 +35,13 @@ impl Report {
         parts.extend([self.reading(), self.exchanging()]);
         let mut rows = self.groups().into_iter().flat_map(|(_, rows)| rows);
         if rows.any(|row| row.times.is_some()) {
-            parts.extend([self.times(), self.times_of_cards()]);
+            parts.extend([self.times(), self.times_of_encodings()]);
         }
-        parts.extend([self.stack(), self.stack_of_lines(), self.stack_of_cards()]);
+        parts.extend([
+            self.stack(),
+            self.stack_of_lines(),
+            self.stack_of_encodings(),
+        ]);
         parts.push(code(bench));
         parts.join("\n")
     }
@@ -87,21 +91,21 @@ impl Report {
 
     fn exchanging(&self) -> String {
         let mut text = format!(
-            "## Importing and exporting a card\n\n\
+            "## Importing and exporting\n\n\
              Instructions of the unit's calls alone, and of those of `{peer}` in Rust, which read and write one \
              bit after the other. Both are in one program, the unit's from a library of the proved crates; \
              counted is what a run that makes the call twice has more than a run that makes it once. The \
-             workspace has {c} words, and export is lent the bytes that the card fills; the second call finds \
+             workspace has {c} words, and export is lent the bytes that the encoding fills; the second call finds \
              them as the first has left them. Zeros are in the counts, one instruction for each byte of a \
              long row: for the arrays of the unit's calls, for the rest of the workspace, and for the bytes \
              before the bits are put.\n\n\
-             Cards with runs of n ones have n abstractions around variables of index n - 1 in a row, those with \
+             Encodings with runs of n ones have n abstractions around variables of index n - 1 in a row, those with \
              runs of 1 to n ones variables of each of the n indices by turns. S is `\\\\\\2 0 (1 0)`.\n\n",
             peer = EXCHANGERS[1],
             c = grouped(C as usize),
         );
         let titles = [&["bits", "bytes", "words"][..], &CALLS].concat();
-        text += &table(&["card"], &titles, &self.cards, |row| {
+        text += &table(&["encoding"], &titles, &self.encodings, |row| {
             let mut cells = [row.bits, row.bytes, row.words].map(grouped).to_vec();
             cells.extend(row.instructions.map(count));
             (vec![row.shape.to_string()], cells)
@@ -129,16 +133,16 @@ impl Report {
         text
     }
 
-    fn times_of_cards(&self) -> String {
+    fn times_of_encodings(&self) -> String {
         let mut text = format!(
-            "### Cards: bits a second\n\n\
+            "### Encodings: bits a second\n\n\
              Of the same calls in the same program. A run is here a batch of calls, of some {bits} bits \
              together, the four calls by turns. Workspace and bytes are filled with 7s before each batch; \
              within it each call finds them as the one before has left them.\n\n",
             bits = grouped(TIMED_BITS),
         );
         let titles = [&["bits"][..], &CALLS].concat();
-        text += &table(&["card"], &titles, &self.cards, |row| {
+        text += &table(&["encoding"], &titles, &self.encodings, |row| {
             let times = row.times.unwrap_or_default();
             let rate = |time: Estimate| estimated(row.bits as f64 / time.value, time);
             let mut cells = vec![grouped(row.bits)];
@@ -180,13 +184,13 @@ impl Report {
         text
     }
 
-    fn stack_of_cards(&self) -> String {
+    fn stack_of_encodings(&self) -> String {
         let mut text =
-            "Of the longest card of each shape; the programs import it and export it again:\n\n"
+            "Of the longest encoding of each shape; the programs import it and export it again:\n\n"
                 .to_string();
         let titles = [&CALLS[..], &EXCHANGERS].concat();
-        let longest = self.cards.iter().filter(|row| row.is_longest);
-        text += &table(&["card"], &titles, longest, |row| {
+        let longest = self.encodings.iter().filter(|row| row.is_longest);
+        text += &table(&["encoding"], &titles, longest, |row| {
             let calls = row.stack.map(|calls| calls.map(Some)).unwrap_or_default();
             let mut cells = calls.map(kib).to_vec();
             cells.extend(row.limit_kib.map(limit));
@@ -395,7 +399,7 @@ mod tests {
             untouched,
             normal,
             lines: vec![line("short", 256), line("long", LONGEST)],
-            cards: vec![card("few", false), card("many", true)],
+            encodings: vec![encoding("few", false), encoding("many", true)],
             plot: Some("growth.svg".to_string()),
         };
         let path = |name| format!("/no/{name}").into();
@@ -409,8 +413,8 @@ mod tests {
         })
     }
 
-    fn card(shape: &'static str, is_longest: bool) -> CardRow {
-        CardRow {
+    fn encoding(shape: &'static str, is_longest: bool) -> EncodingRow {
+        EncodingRow {
             shape,
             is_longest,
             bits: 4_096,
@@ -468,13 +472,13 @@ mod tests {
             "| long | 1,024 | 1 | 12,345 | n/a |",
             "| line | reading | replay | descent |",
             "| long | 2.0 | 148 | n/a |",
-            "| card | bits | bytes | words | import | import by bitwise | export | export by bitwise |",
+            "| encoding | bits | bytes | words | import | import by bitwise | export | export by bitwise |",
             "| few | 4,096 | 512 | 2,048 | 12,345 | 67,890 | n/a | 7 |",
             "| many | 4,096 | 512 | 2,048 | 12,345 | 67,890 | n/a | 7 |",
-            "### Cards: bits a second",
-            "| card | bits | import | import by bitwise | export | export by bitwise |",
+            "### Encodings: bits a second",
+            "| encoding | bits | import | import by bitwise | export | export by bitwise |",
             "| few | 4,096 | 1,000,000,000 ±2% | n/a | 100,000,000 ±2% | 4,100 ±2% |",
-            "| card | import | import by bitwise | export | export by bitwise | replay | bitwise |",
+            "| encoding | import | import by bitwise | export | export by bitwise | replay | bitwise |",
             "| many | 12.0 | 1.0 | 0.5 | 0.1 | 124 | n/a |",
             "| pair | line | verdict | flat | graph |",
             "|---|---|---:|---:|---:|",

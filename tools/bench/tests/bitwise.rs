@@ -1,10 +1,10 @@
-//! The peer that imports and exports cards: answers worked out by hand, and the reference.
+//! The peer that imports and exports encodings: answers worked out by hand, and the reference.
 
 use bench::peers::bitwise::{export, import, transcript};
-use reference::card::term_of;
+use reference::encoding::term_of;
 use reference::exchange::OTHERS;
-use reference::generate::cards::{self, without_card, Card};
 use reference::generate::damage::{changed_word, faulty_words};
+use reference::generate::encodings::{self, without_encoding, Encoding};
 use reference::random::Random;
 use reference::words::words;
 use reference::{on_large_stack, replay};
@@ -46,7 +46,7 @@ fn exported(
 
 /// `0010` is \0, `0000110` K, and S is \\\2 0 (1 0).
 #[test]
-fn cards_and_their_words() {
+fn encodings_and_their_words() {
     for (bits, words) in [
         ("0010", &[1, 0][..]),
         ("0000110", &[1, 1, 8]),
@@ -130,9 +130,9 @@ fn bytes(words: &[u32]) -> Vec<u8> {
 }
 
 /// The words of an import.
-fn import_of(side: u32, card: &Card) -> Vec<u32> {
-    let mut words = vec![IMPORT, side, card.count, card.bytes.len() as u32];
-    words.extend(card.bytes.iter().map(|byte| u32::from(*byte)));
+fn import_of(side: u32, encoding: &Encoding) -> Vec<u32> {
+    let mut words = vec![IMPORT, side, encoding.count, encoding.bytes.len() as u32];
+    words.extend(encoding.bytes.iter().map(|byte| u32::from(*byte)));
     words
 }
 
@@ -148,19 +148,19 @@ fn agrees(words: &[u32]) {
 }
 
 #[test]
-fn cards_of_every_kind() {
+fn encodings_of_every_kind() {
     on_large_stack(|| {
         for case in 0..CASES {
             let mut random = Random::new(1, case);
             let capacity = random.pick(&[15, 16, 40, 300, 2_048, 2_049]);
             let side = case as u32 % 2;
-            let card = cards::any(&mut random, capacity.clamp(16, 2_048));
-            let term = term_of(&card.bytes, card.count);
+            let encoding = encodings::any(&mut random, capacity.clamp(16, 2_048));
+            let term = term_of(&encoding.bytes, encoding.count);
             let length = term.map_or(2, |term| term.size() as u32);
-            let again = [EXPORT, side, length, card.bytes.len() as u32];
+            let again = [EXPORT, side, length, encoding.bytes.len() as u32];
             let script = [
                 vec![capacity as u32; 2],
-                import_of(side, &card),
+                import_of(side, &encoding),
                 again.into(),
             ];
             agrees(&script.concat());
@@ -178,8 +178,8 @@ fn terms_of_every_kind() {
             let other = random.pick(&OTHERS);
             let mut term = match random.below(4) {
                 0 => faulty_words(&mut random, most),
-                1 => words(&without_card(&mut random, other, most)),
-                _ => words(&cards::any_closed(&mut random, most)),
+                1 => words(&without_encoding(&mut random, other, most)),
+                _ => words(&encodings::any_closed(&mut random, most)),
             };
             if random.percent(20) {
                 let at = random.below(term.len());

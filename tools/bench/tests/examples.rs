@@ -1,8 +1,8 @@
 //! What the README and `judge --help` say of pairs and tables, against the peers, and the rows of the
 //! benchmark's page.
 
-use bench::cards::growing_cards;
 use bench::cases::{contracting, normal, untouched};
+use bench::encodings::growing_encodings;
 use bench::lines::growing_lines;
 use bench::peers::{descent, flat, graph};
 use unit::program::input;
@@ -200,10 +200,10 @@ fn the_rows_of_reading_are_lines() {
 }
 
 #[test]
-fn the_rows_of_importing_and_exporting_are_cards() {
-    let cells = growing_cards().into_iter().map(|card| {
-        let (bytes, words) = (card.bytes.len(), card.words.len());
-        format!("{} | {} | {bytes} | {words}", card.shape, card.bits)
+fn the_rows_of_importing_and_exporting_are_encodings() {
+    let cells = growing_encodings().into_iter().map(|encoding| {
+        let (bytes, words) = (encoding.bytes.len(), encoding.words.len());
+        format!("{} | {} | {bytes} | {words}", encoding.shape, encoding.bits)
     });
-    assert_measured("Importing and exporting a card", cells.collect());
+    assert_measured("Importing and exporting an encoding", cells.collect());
 }

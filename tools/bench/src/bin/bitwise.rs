@@ -1,4 +1,4 @@
-//! The peer that imports and exports cards, in place of the program `replay`.
+//! The peer that imports and exports encodings, in place of the program `replay`.
 
 use std::io::{self, Read};
 

@@ -1,4 +1,4 @@
-//! Cards imported and exported bit by bit. The program stands in for `replay` on scripts that only
+//! Encodings imported and exported bit by bit. The program stands in for `replay` on scripts that only
 //! import, export and store.
 
 use unit::limits::WORKSPACE;
@@ -42,7 +42,7 @@ fn operate(operation: u32, words: &mut Words, sides: &mut Sides) -> Option<Strin
     })
 }
 
-/// Puts the term of a card into a workspace: the term's length, or a refusal's number.
+/// Puts the term of an encoding into a workspace: the term's length, or a refusal's number.
 pub fn import(bytes: &[u8], bits: usize, workspace: &mut [u32]) -> Result<usize, u32> {
     if !WORKSPACE.contains(&workspace.len()) {
         return Err(7);

@@ -1,5 +1,5 @@
 //! What the unit is measured beside: programs that read and print what `verdict` does, and two that do
-//! some of what `replay` does, one with lines and one with cards, in plain Rust from the rules.
+//! some of what `replay` does, one with lines and one with encodings, in plain Rust from the rules.
 
 pub mod bitwise;
 pub mod descent;

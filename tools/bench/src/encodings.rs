@@ -1,4 +1,4 @@
-//! Importing and exporting cards: the cards, and what is measured of them.
+//! Importing and exporting encodings: the encodings, and what is measured of them.
 
 use std::path::PathBuf;
 
@@ -26,9 +26,9 @@ pub const CALLS: [&str; 4] = ["import", "import by bitwise", "export", "export b
 /// Something of each call.
 pub type EachCall<T> = [T; CALLS.len()];
 
-pub struct Card {
+pub struct Encoding {
     pub shape: &'static str,
-    /// Whether no card of its shape is longer.
+    /// Whether no encoding of its shape is longer.
     pub is_longest: bool,
     pub bytes: Vec<u8>,
     pub bits: usize,
@@ -72,25 +72,25 @@ fn row(count: usize, index: fn(usize) -> usize) -> String {
 }
 
 /// Each shape, growing.
-pub fn growing_cards() -> Vec<Card> {
+pub fn growing_encodings() -> Vec<Encoding> {
     let of_shape = |(shape, sizes, text): Shape| {
         let longest = sizes[sizes.len() - 1];
-        sizes.map(|size| Card::new(shape, size == longest, &text(size)))
+        sizes.map(|size| Encoding::new(shape, size == longest, &text(size)))
     };
     SHAPES.into_iter().flat_map(of_shape).collect()
 }
 
-impl Card {
-    fn new(shape: &'static str, is_longest: bool, text: &str) -> Card {
+impl Encoding {
+    fn new(shape: &'static str, is_longest: bool, text: &str) -> Encoding {
         let term: Term = text.parse().expect("the term is written in the notation");
         let words = term.words().expect("the term is within the limits");
         let mut workspace = words.clone();
         workspace.resize(C as usize, 0);
         let mut bytes = vec![0; MAX_TABLE as usize];
         let bits = bitwise::export(&workspace, words.len(), &mut bytes);
-        let bits = bits.expect("the term has a card that a script can hold");
+        let bits = bits.expect("the term has an encoding that a script can hold");
         bytes.truncate(bits.div_ceil(8));
-        Card {
+        Encoding {
             shape,
             is_longest,
             bytes,
@@ -99,7 +99,7 @@ impl Card {
         }
     }
 
-    /// A script that imports the card and exports it again.
+    /// A script that imports the encoding and exports it again.
     fn script(&self) -> Vec<u8> {
         let (bits, count) = (self.bits as u32, self.bytes.len() as u32);
         let mut words = vec![C, C, IMPORT, 0, bits, count];
@@ -116,8 +116,8 @@ impl Card {
     }
 }
 
-/// A card measured.
-pub struct CardRow {
+/// An encoding measured.
+pub struct EncodingRow {
     pub shape: &'static str,
     pub is_longest: bool,
     pub bits: usize,
@@ -129,36 +129,41 @@ pub struct CardRow {
     pub times: Option<EachCall<Option<Estimate>>>,
     /// The machine stack of each call.
     pub stack: Option<EachCall<usize>>,
-    /// The smallest stack limit that each whole program runs under; of the longest cards only.
+    /// The smallest stack limit that each whole program runs under; of the longest encodings only.
     pub limit_kib: EachExchanger<Option<u32>>,
 }
 
 impl Bench {
-    /// Measures a card. It is an error if a program prints something else than it must.
-    pub fn card(&self, card: &Card) -> Result<CardRow, String> {
-        let input = input_file("card", &card.script())?;
-        let lines = card.lines();
+    /// Measures an encoding. It is an error if a program prints something else than it must.
+    pub fn encoding(&self, encoding: &Encoding) -> Result<EncodingRow, String> {
+        let input = input_file("encoding", &encoding.script())?;
+        let lines = encoding.lines();
         for program in &self.exchangers {
             checked(program, &input, &lines)?;
         }
         let limit = |program: &PathBuf| stack_kib(program, &input, &lines);
         let probe = self.probe.as_ref();
         let counted = probe.zip(self.counter);
-        let counted = counted.map(|(probe, counter)| probe.card_instructions(card, counter));
+        let counted =
+            counted.map(|(probe, counter)| probe.encoding_instructions(encoding, counter));
         let timed = probe.filter(|_| self.is_timed);
-        Ok(CardRow {
-            shape: card.shape,
-            is_longest: card.is_longest,
-            bits: card.bits,
-            bytes: card.bytes.len(),
-            words: card.words.len(),
+        Ok(EncodingRow {
+            shape: encoding.shape,
+            is_longest: encoding.is_longest,
+            bits: encoding.bits,
+            bytes: encoding.bytes.len(),
+            words: encoding.words.len(),
             instructions: counted.transpose()?.unwrap_or_default(),
-            times: timed.map(|probe| probe.card_times(card)).transpose()?,
-            stack: probe.map(|probe| probe.card_stack(card)).transpose()?,
+            times: timed
+                .map(|probe| probe.encoding_times(encoding))
+                .transpose()?,
+            stack: probe
+                .map(|probe| probe.encoding_stack(encoding))
+                .transpose()?,
             limit_kib: self
                 .exchangers
                 .each_ref()
-                .map(|program| card.is_longest.then(|| limit(program))?),
+                .map(|program| encoding.is_longest.then(|| limit(program))?),
         })
     }
 }
@@ -169,7 +174,7 @@ mod tests {
 
     /// 2 bits for each abstraction and each application, and for an index 2 more than it is.
     #[test]
-    fn bits_bytes_and_words_of_each_card() {
+    fn bits_bytes_and_words_of_each_encoding() {
         let runs = |count: usize| {
             (
                 2 * 1_023 + 2 * (count - 1) + 1_024 * count,
@@ -195,32 +200,40 @@ mod tests {
             [46, 93, 186].map(combinators),
         ]
         .concat();
-        let cards = growing_cards();
-        let measures: Vec<_> = cards
+        let encodings = growing_encodings();
+        let measures: Vec<_> = encodings
             .iter()
-            .map(|card| (card.bits, card.words.len()))
+            .map(|encoding| (encoding.bits, encoding.words.len()))
             .collect();
         assert_eq!(measures, expected);
-        for card in cards {
-            assert_eq!(card.bytes.len(), card.bits.div_ceil(8), "{}", card.shape);
+        for encoding in encodings {
+            assert_eq!(
+                encoding.bytes.len(),
+                encoding.bits.div_ceil(8),
+                "{}",
+                encoding.shape
+            );
         }
     }
 
     #[test]
-    fn the_last_card_of_each_shape_is_the_longest() {
-        let longest: Vec<_> = growing_cards().iter().map(|card| card.is_longest).collect();
+    fn the_last_encoding_of_each_shape_is_the_longest() {
+        let longest: Vec<_> = growing_encodings()
+            .iter()
+            .map(|encoding| encoding.is_longest)
+            .collect();
         assert_eq!(longest, [false, false, true].repeat(SHAPES.len()));
     }
 
     #[test]
-    fn a_card_is_imported_and_exported() {
-        let card = Card::new("S", true, S);
-        assert_eq!(card.bytes, [1, 122, 116]);
-        assert_eq!(card.words, [1, 1, 1, 2, 2, 16, 0, 2, 8, 0]);
-        assert_eq!(card.lines(), "import 10\nexport 23 1 122 116");
-        for card in growing_cards().iter().chain([&card]) {
-            let printed = bitwise::transcript(&card.script());
-            assert_eq!(printed.trim_end(), card.lines(), "{}", card.shape);
+    fn an_encoding_is_imported_and_exported() {
+        let encoding = Encoding::new("S", true, S);
+        assert_eq!(encoding.bytes, [1, 122, 116]);
+        assert_eq!(encoding.words, [1, 1, 1, 2, 2, 16, 0, 2, 8, 0]);
+        assert_eq!(encoding.lines(), "import 10\nexport 23 1 122 116");
+        for encoding in growing_encodings().iter().chain([&encoding]) {
+            let printed = bitwise::transcript(&encoding.script());
+            assert_eq!(printed.trim_end(), encoding.lines(), "{}", encoding.shape);
         }
     }
 }
