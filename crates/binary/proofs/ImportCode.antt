@@ -1,4 +1,4 @@
--- Importing, by what the code finds of an encoding: its padding, its words, and whether they may stand.
+-- Importing, by what the code finds of an encoding: its padding, its words, and whether they are a combinator's.
 use Prim.Native.Nat.{ℕ, _+_, _*_, _-_, _≤_, _<_}
 use mathlib.Core.Path.{_≡_, sym, ap, _∙_}
 use mathlib.Core.Bool.{Bool, true, false, not, _&&_, false≢true, and-eq-true-iff}
@@ -26,7 +26,7 @@ use Rattle.encoding.specs.Theorems.{EncodingOf}
 use Rattle.encoding.proofs.DecodeLaws.{words-in-decode, decode-complete}
 use Rattle.encoding.proofs.EncodedLaws.{encoded-term, encoding-right, right-bits, encoding-is}
 use Rattle.encoding.proofs.ImportLaws.{importing-exact}
-use Rattle.binary.specs.Words.{allStand}
+use Rattle.binary.specs.Words.{areCombinators}
 use Rattle.binary.specs.Scan.{allClipped}
 use Rattle.binary.proofs.ScanLaws.{clipped-length}
 use Rattle.binary.proofs.CombinatorLaws.{stands, stands-sound, stands-complete, clipped-stands, combinator-unclipped, and-true}
@@ -92,18 +92,18 @@ module _ (bytes : List ℕ) (count : ℕ) (workspace : List ℕ) (w : wrongWorks
             ∙ ap (λ k. take k (allClipped ws ++ drop (0 + length (allClipped ws)) before)) (n-is ∙ sym same)
             ∙ take-append-seam (allClipped ws) (drop (0 + length (allClipped ws)) before)
 
-        tested : allStand (0 ∷ []) (take n after) ≡ stands 0 term
+        tested : areCombinators (0 ∷ []) (take n after) ≡ stands 0 term
         tested =
-            ap (allStand (0 ∷ [])) (held ∙ ap allClipped (sym words-are) ∙ sym (append-nil (allClipped (words term))))
+            ap (areCombinators (0 ∷ [])) (held ∙ ap allClipped (sym words-are) ∙ sym (append-nil (allClipped (words term))))
             ∙ clipped-stands term 0 [] [] pure (omega (arith, size-is))
             ∙ and-true (stands 0 term)
 
-        pub import-free : allStand (0 ∷ []) (take n after) ≡ false → refuse workspace NoCombinator ≡ import bytes count workspace
+        pub import-free : areCombinators (0 ∷ []) (take n after) ≡ false → refuse workspace NoCombinator ≡ import bytes count workspace
         import-free e =
             sym (importing-exact bytes count workspace .no-combinator w term encodes (omega (arith, size-is))
             (λ k. false≢true (sym e ∙ tested ∙ stands-complete 0 term k)))
 
-        pub import-leaves : allStand (0 ∷ []) (take n after) ≡ true → (placed last : List ℕ) (end : ℕ) → Placed workspace 0 (slice 0 n after) placed end
+        pub import-leaves : areCombinators (0 ∷ []) (take n after) ≡ true → (placed last : List ℕ) (end : ℕ) → Placed workspace 0 (slice 0 n after) placed end
             → last ≡ take end placed ++ replicate (length placed - end) 0
             → _≡_ {A = Brought} (record { answer = returned end; workspace = last }) (import bytes count workspace)
         import-leaves e placed last end p q =

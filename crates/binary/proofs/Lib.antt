@@ -1,5 +1,5 @@
 pub mod ScanLaws
-pub mod StandLaws
+pub mod WalkLaws
 pub mod PuttingLaws
 pub mod CombinatorLaws
 pub mod ImportCode

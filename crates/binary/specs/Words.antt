@@ -1,22 +1,21 @@
 -- Combinators and their bits, word by word.
-use Prim.Native.Nat.{ℕ, suc, _+_}
+use Prim.Native.Nat.{ℕ, suc}
 use mathlib.Core.Bool.{Bool, true, false, cond, _&&_}
 use mathlib.Core.List.{List, [], _∷_, _++_}
 use lib.Dec.{eqb, ltb}
 use lib.ListN.{replicate}
-use Rattle.calculus.specs.Words.{variableKind, abstractionKind, constructorKind, kindOf, payloadOf}
-use Rattle.calculus.specs.Skip.{arity}
-use Rattle.words.specs.Bound.{bound}
+use Rattle.calculus.specs.Words.{variableKind, abstractionKind, applicationKind, word, kindOf, payloadOf}
 
--- Whether a word under d binders may stand in a combinator: an abstraction's or an application's, or that of a variable that is bound.
-unfoldable pub mayStand : (d kind payload : ℕ) → Bool
-mayStand d k p = cond (eqb k variableKind) (ltb p d) (ltb k constructorKind)
-
--- The same of all words, given the binders around each of the items that they begin with.
-abbrev pub allStand : (ds ws : List ℕ) → Bool
-allStand ds [] = true
-allStand [] (w ∷ ws) = false
-allStand (d ∷ ds) (w ∷ ws) = mayStand d (kindOf w) (payloadOf w) && allStand (replicate (arity w) (d + bound w) ++ ds) ws
+-- Whether words are those of combinators, one for each of these numbers of binders around them, and of nothing else.
+abbrev pub areCombinators : (ds ws : List ℕ) → Bool
+areCombinators [] [] = true
+areCombinators [] (w ∷ ws) = false
+areCombinators (d ∷ ds) [] = false
+areCombinators (d ∷ ds) (w ∷ ws) =
+    cond (eqb (kindOf w) variableKind) (ltb (payloadOf w) d && areCombinators ds ws)
+    (cond (eqb w (word abstractionKind 0)) (areCombinators (suc d ∷ ds) ws)
+    (cond (eqb w (word applicationKind 0)) (areCombinators (d ∷ d ∷ ds) ws)
+    false))
 
 -- The bits of a word in a combinator, and of words.
 unfoldable pub wordBits : (kind payload : ℕ) → List Bool

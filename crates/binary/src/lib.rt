@@ -60,12 +60,16 @@ pub fn export(workspace: &[u32], length: usize, bytes: &mut [u8]) -> Answer
     if wrong_workspace(workspace.len()) {
         return Answer::Refused(Refusal::WrongWorkspace);
     }
-    if !is_term(workspace, length) {
+    if workspace.len() < length {
         return Answer::Refused(Refusal::NoTerm);
     }
     let term = &workspace[..length];
+    // A combinator is a whole term, so the check of a term is needed only to tell 10 from 13.
     if !is_combinator(term) {
-        return Answer::Refused(Refusal::NoCombinator);
+        if is_term(workspace, length) {
+            return Answer::Refused(Refusal::NoCombinator);
+        }
+        return Answer::Refused(Refusal::NoTerm);
     }
     let bits = bits_of(term);
     // Bits that begin a byte take it whole.

@@ -1,12 +1,13 @@
 -- Windows: the numbers of bytes in a row, and of a window whose first bits are left out.
 use Prim.Native.Nat.{ℕ, zero, suc, _+_, _*_, _-_, _/_, _%_, _^_, _≤_, _<_}
-use mathlib.Core.Path.{_≡_, refl, sym, ap, _∙_}
+use mathlib.Core.Path.{_≡_, refl, sym, ap, ap₂, _∙_}
 use mathlib.Core.Bool.{Bool, true, false}
 use mathlib.Core.List.{List, [], _∷_, _++_}
 use native.Mathlib.Decide.{decLt}
 use native.Mathlib.Nat.{mod-eq-of-lt, add-zero, add-comm, add-mul, mul-assoc}
 use native.Mathlib.Numerals.{add-one}
 use native.Mathlib.Omega.{arith}
+use lib.Bits.{bitOr, or-shifted}
 use lib.Count.{leadingZeros}
 use lib.Dec.{eqb}
 use lib.ListN.{length, take, drop, getD, drop-of-length-le, List·getD-eq-default}
@@ -40,18 +41,6 @@ number-step k at xs f = rw add-one (go (decLt at (length xs)))
         ∙ number-nil (byteBits + k)
         ∙ omega (arith, ap (λ n. n * 2 ^ k) (List·getD-eq-default xs 0 {n = at} (omega arith)), ap (λ ys. number k (unpacked ys)) (drop-of-length-le xs {i = suc at} (omega arith)), number-nil k)
 
--- Four bytes.
-pub half-is : (at : ℕ) (xs : List ℕ) → AllBytes xs
-    → (getD xs at 0 * 256 + getD xs (at + 1) 0) * 65536 + (getD xs (at + 2) 0 * 256 + getD xs (at + 3) 0) ≡ number 32 (unpacked (drop at xs))
-half-is at xs f =
-    let a = number-step 24 at xs f in
-    let b = number-step 16 (at + 1) xs f in
-    let c = number-step 8 (at + 1 + 1) xs f in
-    let d = number-step 0 (at + 1 + 1 + 1) xs f in
-    let two : getD xs (at + 1 + 1) 0 ≡ getD xs (at + 2) 0 = ap (λ i. getD xs i 0) (omega arith) in
-    let three : getD xs (at + 1 + 1 + 1) 0 ≡ getD xs (at + 3) 0 = ap (λ i. getD xs i 0) (omega arith) in
-    omega (arith, a, b, c, d, two, three)
-
 -- A window goes on with what follows it.
 pub number-more : (i at : ℕ) (xs : List ℕ) → AllBytes xs
     → number (byteBits * (i + 1)) (unpacked (drop at xs)) ≡ number (byteBits * i) (unpacked (drop at xs)) * 256 + getD xs (at + i) 0
@@ -62,6 +51,43 @@ number-more i at xs f =
     ap (λ k. number k (unpacked (drop at xs))) e
     ∙ number-split (byteBits * i) byteBits (unpacked (drop at xs))
     ∙ ap (λ n. number (byteBits * i) (unpacked (drop at xs)) * 256 + n) (ap (number byteBits) place ∙ byte)
+
+-- A byte put behind others, in the place of zeros.
+or-next : (s n x : ℕ) → x < 2 ^ byteBits → bitOr (n * 2 ^ (byteBits + s)) (x * 2 ^ s) ≡ (n * 2 ^ byteBits + x) * 2 ^ s
+or-next s n x h =
+    or-shifted n (byteBits + s) (x * 2 ^ s) (shl-lt byteBits s h)
+    ∙ rw (pow-add 2 byteBits s, sym (mul-assoc n (2 ^ byteBits) (2 ^ s)), sym (add-mul (n * 2 ^ byteBits) x (2 ^ s)))
+
+-- No bit of a byte is lost where it is put.
+put-fits : (s x : ℕ) → byteBits + s ≤ windowBits → x < 2 ^ byteBits → x * 2 ^ s % 2 ^ windowBits ≡ x * 2 ^ s
+put-fits s x l h =
+    let most : 2 ^ (byteBits + s) ≤ 2 ^ windowBits = pow-mono {i = byteBits + s} {j = windowBits} l in
+    mod-eq-of-lt (omega (arith, shl-lt byteBits s h, most))
+
+-- The first bytes stand at the top of a window, and the next one is put.
+module _ (at : ℕ) (xs : List ℕ) (f : AllBytes xs) where
+  abbrev first : ℕ → ℕ
+  first i = number (byteBits * i) (unpacked (drop at xs))
+
+  put-next : (i s : ℕ) → byteBits * (i + 1) + s ≡ windowBits → {window : ℕ} → window ≡ first i * 2 ^ (byteBits + s)
+      → bitOr window (getD xs (at + i) 0 * 2 ^ s % 2 ^ windowBits) ≡ first (i + 1) * 2 ^ s
+  put-next i s e q =
+      ap₂ bitOr q (put-fits s (getD xs (at + i) 0) (omega arith) (f (at + i) .fits))
+      ∙ or-next s (first i) (getD xs (at + i) 0) (f (at + i) .fits)
+      ∙ ap (λ n. n * 2 ^ s) (sym (number-more i at xs f))
+
+  put-first : getD xs at 0 * 2 ^ 56 % 2 ^ windowBits ≡ first 1 * 2 ^ 56
+  put-first = put-fits 56 (getD xs at 0) (omega arith) (f at .fits) ∙ ap (λ n. n * 2 ^ 56) (omega (arith, number-step 0 at xs f))
+
+  -- Eight bytes.
+  pub whole-is :
+      bitOr (bitOr (bitOr (bitOr (bitOr (bitOr (bitOr (getD xs at 0 * 2 ^ 56 % 2 ^ windowBits) (getD xs (at + 1) 0 * 2 ^ 48 % 2 ^ windowBits)) (getD xs (at + 2) 0 * 2 ^ 40 % 2 ^ windowBits)) (getD xs (at + 3) 0 * 2 ^ 32 % 2 ^ windowBits)) (getD xs (at + 4) 0 * 2 ^ 24 % 2 ^ windowBits)) (getD xs (at + 5) 0 * 2 ^ 16 % 2 ^ windowBits)) (getD xs (at + 6) 0 * 2 ^ 8 % 2 ^ windowBits)) (getD xs (at + 7) 0)
+      ≡ number windowBits (unpacked (drop at xs))
+  whole-is =
+      let seven = put-next 6 8 refl (put-next 5 16 refl (put-next 4 24 refl (put-next 3 32 refl (put-next 2 40 refl (put-next 1 48 refl put-first))))) in
+      ap (λ n. bitOr n (getD xs (at + 7) 0)) seven
+      ∙ or-shifted (first 7) byteBits (getD xs (at + 7) 0) (f (at + 7) .fits)
+      ∙ sym (number-more 7 at xs f)
 
 number-take : (k : ℕ) (bs : List Bool) → number k (take k bs) ≡ number k bs
 number-take zero bs = refl
@@ -129,17 +155,6 @@ window-ones at xs =
     window-run (at % byteBits) (unpacked (drop (at / byteBits) xs)) (omega arith)
     ∙ ap (λ bs. run (take (windowBits - at % byteBits) bs))
     (ap (drop (at % byteBits)) (sym (drop-unpacked (at / byteBits) xs)) ∙ drop-drop (at % byteBits) (byteBits * (at / byteBits)) (unpacked xs) ∙ ap (λ i. drop i (unpacked xs)) e)
-
--- Two halves.
-pub halves : (at : ℕ) (xs : List ℕ) {a b : ℕ} → a ≡ number 32 (unpacked (drop at xs)) → b ≡ number 32 (unpacked (drop (at + 4) xs))
-    → a * 4294967296 + b ≡ number windowBits (unpacked (drop at xs))
-halves at xs p q =
-    sym (number-split 32 32 (unpacked (drop at xs))
-    ∙ ap (λ bs. number 32 (unpacked (drop at xs)) * 2 ^ 32 + number 32 bs) (drop-unpacked 4 (drop at xs) ∙ ap unpacked (drop-drop 4 at xs))
-    ∙ rw (sym p, sym q))
-
-pub half-fits : (at : ℕ) (xs : List ℕ) {a : ℕ} → a ≡ number 32 (unpacked (drop at xs)) → a < 4294967296
-half-fits at xs p = rw p (number-below 32 (unpacked (drop at xs)))
 
 -- A window so far, of i bytes.
 module _ (at i : ℕ) (xs : List ℕ) (f : AllBytes xs) {window : ℕ} (so-far : window ≡ number (byteBits * i) (unpacked (drop at xs))) where

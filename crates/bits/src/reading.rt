@@ -10,10 +10,8 @@ ghost use Rattle.encoding.specs.Bytes.{byteBits, unpacked, number};
 ghost use Rattle.bits.specs.Runs.{windowBits, run};
 ghost use Rattle.bits.specs.Tokens.{token, tokenOf};
 
-// A byte counts so many of the one behind it, and four bytes so many of the four behind them.
+// A byte counts so many of the one behind it.
 const BYTE_BASE: u64 = 256;
-
-const HALF_BASE: u64 = 4294967296;
 
 const WINDOW_BYTES: usize = 8;
 
@@ -25,24 +23,29 @@ pub enum Token {
     Variable(usize),
 }
 
-// The number whose bits are those of four bytes.
-fn half(bytes: &[u8], at: usize) -> u64
-    requires { ⌜ at + 4 ≤ length (now bytes) ⌝ }
-    ensures { λ r. ⌜ r ≡ number 32 (unpacked (drop at (now (bytes .entry)))) ⌝ }
+// The number whose bits are those of eight bytes, the first of them highest; the compiler makes one load of it.
+fn whole_window(bytes: &[u8], at: usize) -> u64
+    requires { ⌜ at + 8 ≤ length (now bytes) ⌝ }
+    ensures { λ r. ⌜ r ≡ number windowBits (unpacked (drop at (now (bytes .entry)))) ⌝ }
 {
-    let upper = bytes[at] as u64 * BYTE_BASE + bytes[at + 1] as u64;
-    let lower = bytes[at + 2] as u64 * BYTE_BASE + bytes[at + 3] as u64;
-    upper * (BYTE_BASE * BYTE_BASE) + lower
+    (bytes[at] as u64) << 56
+        | (bytes[at + 1] as u64) << 48
+        | (bytes[at + 2] as u64) << 40
+        | (bytes[at + 3] as u64) << 32
+        | (bytes[at + 4] as u64) << 24
+        | (bytes[at + 5] as u64) << 16
+        | (bytes[at + 6] as u64) << 8
+        | bytes[at + 7] as u64
 }
 
-// The same of eight bytes, the first of them highest, and with 0 for those past the end.
+// The same with 0 for the bytes past the end.
 fn window(bytes: &[u8], at: usize) -> u64
     requires { ⌜ at ≤ length (now bytes) ⌝ }
     ensures { λ r. ⌜ r ≡ number windowBits (unpacked (drop at (now (bytes .entry)))) ⌝ }
 {
     let lent = bytes.len() - at;
     if WINDOW_BYTES <= lent {
-        return half(bytes, at) * HALF_BASE + half(bytes, at + 4);
+        return whole_window(bytes, at);
     }
     let mut window: u64 = 0;
     let mut i: usize = 0;

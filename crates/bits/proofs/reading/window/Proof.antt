@@ -4,7 +4,7 @@ use mathlib.Core.Path.{_≡_, refl, ap, _∙_}
 use native.Mathlib.Omega.{arith}
 use lib.ListN.{drop}
 use Rattle.encoding.specs.Bytes.{byteBits, unpacked, number}
-use Rattle.bits.proofs.WindowLaws.{halves, half-fits, window-fits, window-goes-on, window-past}
+use Rattle.bits.proofs.WindowLaws.{window-fits, window-goes-on, window-past}
 use Rattle.bits.proofs.reading.window.Statement.{statement}
 use Rattle.bits.proofs.reading.window.Tie as tie
 
@@ -17,25 +17,11 @@ abbrev μ-loop : tie.MeasureT-loop
 sub-lent : tie.Need-sub-lent Inv-loop μ-loop
 sub-lent c = c .before .pre
 
-half-requires : tie.Need-half-requires Inv-loop μ-loop
-half-requires c κs = omega arith
-
-mul-result : tie.Need-mul-result Inv-loop μ-loop
-mul-result c = omega (arith, half-fits (c .before .before .before .args .at) (c .before .before .before .args .bytes .now) (c .half .ensures))
-
-add-half : tie.Need-add-half Inv-loop μ-loop
-add-half c = omega arith
-
-half-requires-2 : tie.Need-half-requires-2 Inv-loop μ-loop
-half-requires-2 c κs = omega arith
-
-add-result : tie.Need-add-result Inv-loop μ-loop
-add-result c =
-    let start = c .before .before .before .before in
-    omega (arith, half-fits (start .args .at) (start .args .bytes .now) (c .before .half .ensures), half-fits (start .args .at + 4) (start .args .bytes .now) (c .half2 .ensures))
+whole-window-requires : tie.Need-whole-window-requires Inv-loop μ-loop
+whole-window-requires c κs = omega arith
 
 returns : tie.Need-returns Inv-loop μ-loop
-returns c = halves (c .before .before .before .before .args .at) (c .before .before .before .before .args .bytes .now) (c .before .half .ensures) (c .half2 .ensures)
+returns c = c .whole-window .ensures
 
 loop-holds : tie.Need-loop-holds Inv-loop μ-loop
 loop-holds c = (omega arith, refl)
@@ -100,11 +86,7 @@ window-spec =
     Inv-loop
     μ-loop
     sub-lent
-    half-requires
-    mul-result
-    add-half
-    half-requires-2
-    add-result
+    whole-window-requires
     returns
     loop-holds
     mul-window
