@@ -22,7 +22,7 @@ pub record Exported : Type 0 where
 abbrev pub refuseExport : (bytes : List ℕ) → Refusal → Exported
 refuseExport bytes why = record { answer = refused why; bytes = bytes }
 
--- "Export returns the bit count and fills the rest of the lent bytes with 0 .."
+-- The bit count is returned, and the rest of the lent bytes is 0.
 abbrev pub put : (bytes : List ℕ) → Term → Exported
 put bytes t = record { answer = returned (length (bits t)); bytes = packed (length bytes) (bits t) }
 

@@ -94,13 +94,14 @@ impl Report {
             "## Importing and exporting\n\n\
              Instructions of the unit's calls alone, and of those of `{peer}` in Rust, which read and write one \
              bit after the other. Both are in one program, the unit's from a library of the proved crates; \
-             counted is what a run that makes the call twice has more than a run that makes it once. The \
-             workspace has {c} words, and export is lent the bytes that the encoding fills; the second call finds \
-             them as the first has left them. Zeros are in the counts, one instruction for each byte of a \
-             long row: for the arrays of the unit's calls, for the rest of the workspace, and for the bytes \
-             before the bits are put.\n\n\
-             Encodings with runs of n ones have n abstractions around variables of index n - 1 in a row, those with \
-             runs of 1 to n ones variables of each of the n indices by turns. S is `\\\\\\2 0 (1 0)`.\n\n",
+             counted is by how much a run that makes the call twice exceeds one that makes it once. The \
+             workspace has {c} words, and export is lent the bytes that the encoding fills; the second call \
+             finds them as the first has left them. Setting zeros is in the counts, where each byte of a long \
+             stretch counts as one instruction: for the arrays of the unit's calls, for the rest of the \
+             workspace, and for the bytes before the bits are put.\n\n\
+             Encodings with runs of n ones have n abstractions around variables of index n - 1 in a row, \
+             those with runs of 1 to n ones variables of each of the n indices by turns. Abstractions alone \
+             stand around index 0. S is `\\\\\\2 0 (1 0)`.\n\n",
             peer = EXCHANGERS[1],
             c = grouped(C as usize),
         );
@@ -136,7 +137,7 @@ impl Report {
     fn times_of_encodings(&self) -> String {
         let mut text = format!(
             "### Encodings: bits a second\n\n\
-             Of the same calls in the same program. A run is here a batch of calls, of some {bits} bits \
+             Of the same calls in the same program. Timed is here a batch of calls, of some {bits} bits \
              together, the four calls by turns. Workspace and bytes are filled with 7s before each batch; \
              within it each call finds them as the one before has left them.\n\n",
             bits = grouped(TIMED_BITS),
@@ -339,7 +340,7 @@ fn code(bench: &Bench) -> String {
     let calls = probe.and_then(|probe| fs::read(probe.program()).ok());
     let [import, export] = EXCHANGING.map(|name| size(&calls, &|file| function_size(file, name)));
     text += &format!(
-        " Of the calls alone, `binary::import` has {import} and `binary::export`, which calls `{}` too, {export}.\n",
+        " In the library that the benchmark links, `binary::import` has {import} and `binary::export`, which calls `{}` too, {export}.\n",
         READING[1]
     );
     text
@@ -465,7 +466,7 @@ mod tests {
             "| `replay` | n/a |",
             "| `bitwise` | n/a |",
             "In `replay`, `lines::read_line` has n/a bytes and `terms::is_term`, which it calls, n/a. \
-             Of the calls alone, `binary::import` has n/a and `binary::export`, which calls `terms::is_term` too, n/a.",
+             In the library that the benchmark links, `binary::import` has n/a and `binary::export`, which calls `terms::is_term` too, n/a.",
             "| line | bytes | words | replay | descent |",
             "|---|---:|---:|---:|---:|",
             "| short | 256 | 1 | 12,345 | n/a |",

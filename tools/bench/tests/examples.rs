@@ -69,7 +69,8 @@ fn read(bytes: &str) -> String {
 
 /// The line for so many bits in bytes that are imported into a workspace of 16 words.
 fn imported(encoding: &str) -> String {
-    let (count, bytes) = encoding.split_once(" bits in ").expect("a bit count");
+    let (count, bytes) = encoding.split_once(" bits of ").expect("a bit count");
+    let (bytes, _) = bytes.split_once(", which are ").expect("its bits");
     let count = count.parse().expect("a bit count");
     refusal(bitwise::transcript(&script(&[9, 0, count], bytes)))
 }
@@ -125,7 +126,7 @@ fn the_refusals() {
             loaded(table)
         } else if let Some((_, bytes)) = text.split_once("`read_line` of ") {
             read(bytes)
-        } else if let Some((_, encoding)) = text.split_once("`import` of ") {
+        } else if let Some((_, encoding)) = text.split_once("`import` of the first ") {
             imported(encoding)
         } else if let Some(command) = code(text).first() {
             judged(command.strip_prefix("./judge ").expect("a command"))

@@ -14,6 +14,7 @@ use std::process::{Command, ExitCode};
 
 use failure::Failure;
 use options::{Settings, Task, Terms, STANDARD_INPUT};
+use unit::limits::WORKSPACE;
 use unit::program::{ask, input};
 use unit::{bits_text, encoding_text, read_bits, repository, table, table_text, words_text};
 use unit::{Term, TextError};
@@ -189,12 +190,22 @@ fn bits(text: String) -> Result<Vec<bool>, Failure> {
     term.bits().map_err(Failure::text)
 }
 
-/// The text of the term that the bits make. That the unit refuses it is said beside it.
+/// The text of the term that the bits make. That the unit refuses it in every workspace is said beside
+/// it.
 fn text_of(bits: &[bool]) -> Result<String, Failure> {
     let term = Term::from_bits(bits).map_err(Failure::text)?;
-    if let Err(error) = term.bits() {
+    let (words, most) = (term.length(), *WORKSPACE.end());
+    let refusal = match term.bits() {
+        _ if words > most => Some((
+            8,
+            format!("{words} words, and a workspace has {most} at most"),
+        )),
+        Err(error) => Some((13, error.to_string())),
+        Ok(_) => None,
+    };
+    if let Some((number, reason)) = refusal {
         tell(&format!(
-            "the unit refuses to import it (refusal 13): {error}"
+            "the unit refuses to import it (refusal {number}): {reason}"
         ));
     }
     Ok(term.to_string())

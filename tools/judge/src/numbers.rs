@@ -32,8 +32,14 @@ where
 {
     match text.parse() {
         Ok(number) if number <= limit => Ok(number),
-        _ => Err(Failure::text(format!(
-            "{name}: expected a number from 0 to {limit}, found `{text}`"
-        ))),
+        _ => {
+            let found = match text {
+                "" => "nothing".to_string(),
+                _ => format!("`{text}`"),
+            };
+            Err(Failure::text(format!(
+                "{name}: expected a number from 0 to {limit}, found {found}"
+            )))
+        }
     }
 }

@@ -848,6 +848,28 @@ fn an_open_term_of_bits_is_printed_and_its_refusal_said() {
 }
 
 #[test]
+fn a_term_that_no_workspace_holds_is_refused_by_its_length_first() {
+    let longest = "0".repeat(2 * 2_047);
+    for (bits, said) in [
+        (format!("{longest}10"), ""),
+        (
+            format!("{longest}0010"),
+            "judge: the unit refuses to import it (refusal 8): 2049 words, and a workspace has \
+             2048 at most\n",
+        ),
+        (
+            format!("{longest}00{}0", "1".repeat(2_049)),
+            "judge: the unit refuses to import it (refusal 8): 2049 words, and a workspace has \
+             2048 at most\n",
+        ),
+    ] {
+        let (status, printed, message) = judge(&["--from-bits", &bits]);
+        assert_eq!((status, message.as_str()), (0, said));
+        assert!(printed.starts_with(r"\\\\"), "{printed}");
+    }
+}
+
+#[test]
 fn bit_errors_name_the_place() {
     for (arguments, error) in [
         (
@@ -888,7 +910,7 @@ fn bit_errors_name_the_place() {
         ),
         (
             &["--from-encoding"],
-            "bit count: expected a number from 0 to 4294967295, found ``",
+            "bit count: expected a number from 0 to 4294967295, found nothing",
         ),
         (
             &["--from-encoding", "x", "32"],
@@ -907,11 +929,11 @@ fn bit_errors_name_the_place() {
 fn word_errors_name_the_place() {
     assert_eq!(
         refused(2, &["--text", "2,,1"]),
-        "judge: word 2: expected a number from 0 to 4294967295, found ``\n"
+        "judge: word 2: expected a number from 0 to 4294967295, found nothing\n"
     );
     assert_eq!(
         refused(2, &["--text", "1,0,,"]),
-        "judge: word 3: expected a number from 0 to 4294967295, found ``\n"
+        "judge: word 3: expected a number from 0 to 4294967295, found nothing\n"
     );
     assert_eq!(
         refused(2, &["--text", "2", "x"]),
