@@ -3,6 +3,7 @@ pub mod ResultLaws
 pub mod WalkLaws
 pub mod Walking
 pub mod MeasureLaws
+pub mod KindLaws
 pub mod ItemLaws
 pub mod RewritingLaws
 pub mod StartLaws

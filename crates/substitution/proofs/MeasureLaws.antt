@@ -12,7 +12,8 @@ use lib.ListN.{length, getD, drop, set, replicate, length-set, drop-of-length-le
 use lib.Seq.{drop-cons, getD-set-same, getD-set-other}
 use Rattle.calculus.specs.Words.{variableKind, kindOf, payloadOf}
 use Rattle.calculus.specs.Accepted.{argumentLimit}
-use Rattle.calculus.specs.Skip.{span}
+use Rattle.calculus.specs.Skip.{arity, span}
+use Rattle.words.specs.Bound.{bound}
 use Rattle.walk.specs.Depths.{depths}
 use Rattle.walk.specs.Rewritten.{place}
 use Rattle.substitution.specs.Measure.{occurrences, Measurable, Measures}
@@ -91,30 +92,56 @@ module _ {src : List ℕ} {body n : ℕ} {room₀ room occurs : List ℕ} {i pen
         last-is = v .passed (omega (arith, e, v .some));
       }
 
+  -- A turn, by what it leaves in the counts.
   module _ (some : 0 < pending) where
-    pub counting-place : {k : ℕ} → k ≡ place n depth (getD src i 0) → k < suc argumentLimit
-    counting-place e = omega (arith, place-most n depth (getD src i 0), v .few)
+    abbrev w : ℕ
+    w = getD src i 0
 
-    pub counting-next : {k pending′ depth′ top′ : ℕ} {room′ : List ℕ} → k ≡ place n depth (getD src i 0)
-        → Entered (getD src i 0) pending depth top room pending′ depth′ top′ room′ → length room′ ≡ length room
-        → Counting src body n room₀ room′ (set occurs k (getD occurs k 0 + 1)) (i + 1) pending′ depth′ top′ depth
-    counting-next {k} e entered kept =
-        let w = v .walking in
-        let more = walking-within w some in
-        let l : k < length occurs = omega (arith, counting-place e, v .places) in
+    counting-turn : {occurs′ : List ℕ} {pending′ depth′ top′ : ℕ} {room′ : List ℕ}
+        → ((j : ℕ) → j < n → getD occurs′ j 0 ≡ getD occurs j 0 + cond (eqb (place n depth w) j) 1 0) → ((j : ℕ) → getD occurs′ j 0 ≤ getD occurs j 0 + 1)
+        → length occurs′ ≡ length occurs → Entered (arity w) (bound w) pending depth top room pending′ depth′ top′ room′ → length room′ ≡ length room
+        → Counting src body n room₀ room′ occurs′ (i + 1) pending′ depth′ top′ depth
+    counting-turn told few same entered kept =
+        let u = v .walking in
+        let more = walking-within u some in
         let shift : i + 1 - body - 1 ≡ i - body = omega (arith, more) in
         record {
-          walking = walking-next w some entered kept;
+          walking = walking-next u some entered kept;
           some = v .some;
           few = v .few;
-          places = length-set occurs k _ ∙ v .places;
-          small = λ j. omega (arith, told-set occurs k j l, one (eqb k j), v .small j, more);
+          places = same ∙ v .places;
+          small = λ j. omega (arith, few j, v .small j, more);
           counted = λ j h.
-              rw (entered .items, add-one i)
+              rw (entered .come, add-one i)
               (omega (
                 arith,
-                told-set occurs k j l ∙ ap (λ q. getD occurs j 0 + cond (eqb q j) 1 0) e,
+                told j h,
                 rw (come-first pending depth (drop top room) (omega arith), drop-cons src i 0 (more .0)) at (v .counted j h),
               ));
-          passed = λ q. sym (walking-number w some) ∙ ap (λ m. getD (depths (0 ∷ []) (drop body src)) m 0) (sym shift);
+          passed = λ q. sym (walking-number u some) ∙ ap (λ m. getD (depths (0 ∷ []) (drop body src)) m 0) (sym shift);
         }
+
+    -- An argument stands for the word.
+    pub counting-next : {k pending′ depth′ top′ : ℕ} {room′ : List ℕ} → k ≡ place n depth w → k < n
+        → Entered (arity w) (bound w) pending depth top room pending′ depth′ top′ room′ → length room′ ≡ length room
+        → Counting src body n room₀ room′ (set occurs k (getD occurs k 0 + 1)) (i + 1) pending′ depth′ top′ depth
+    counting-next {k} e l entered kept =
+        let inside : k < length occurs = omega (arith, l, v .few, v .places) in
+        counting-turn
+        (λ j h. told-set occurs k j inside ∙ ap (λ q. getD occurs j 0 + cond (eqb q j) 1 0) e)
+        (λ j. omega (arith, told-set occurs k j inside, one (eqb k j)))
+        (length-set occurs k _)
+        entered
+        kept
+
+    -- None does.
+    pub counting-past : {k pending′ depth′ top′ : ℕ} {room′ : List ℕ} → k ≡ place n depth w → n ≤ k
+        → Entered (arity w) (bound w) pending depth top room pending′ depth′ top′ room′ → length room′ ≡ length room
+        → Counting src body n room₀ room′ occurs (i + 1) pending′ depth′ top′ depth
+    counting-past {k} e l entered kept =
+        counting-turn
+        (λ j h. rw (ne-eqb (place n depth w) j (λ q. omega (arith, q, e, l, h))) (omega arith))
+        (λ j. omega arith)
+        refl
+        entered
+        kept

@@ -91,7 +91,7 @@ module _ {f : ℕ → ℕ → Term} {src : List ℕ} {body stop : ℕ} {dst₀ :
     rewriting-room = omega (arith, v .position, ap length next-is, length-append here (standing f (stop - (i + 1)) (replicate (arity w) (depth + bound w) ++ ds) (drop (i + 1) src)))
 
     pub rewriting-next : {o′ pending′ depth′ top′ : ℕ} {dst′ room′ : List ℕ} → Placed dst o here dst′ o′
-        → Entered w pending depth top room pending′ depth′ top′ room′ → length room′ ≡ length room
+        → Entered (arity w) (bound w) pending depth top room pending′ depth′ top′ room′ → length room′ ≡ length room
         → Rewriting f src body stop dst₀ out room₀ dst′ room′ o′ (i + 1) pending′ depth′ top′
     rewriting-next n entered same =
         let rest = standing f (stop - (i + 1)) (replicate (arity w) (depth + bound w) ++ ds) (drop (i + 1) src) in
@@ -101,9 +101,9 @@ module _ {f : ℕ → ℕ → Term} {src : List ℕ} {body stop : ℕ} {dst₀ :
           ends = v .ends;
           kept = ap length (n .slice) ∙ length-sets dst o here ∙ v .kept;
           work =
-              rw (entered .items, n .slice, n .position)
+              rw (entered .come, n .slice, n .position)
               (sym (sets-append here rest dst o) ∙ ap (sets dst o) (sym next-is) ∙ v .work);
-          position = rw (entered .items) (omega (arith, n .position, v .position, ap length next-is, length-append here rest));
+          position = rw (entered .come) (omega (arith, n .position, v .position, ap length next-is, length-append here rest));
         }
 
 -- A nested walk may write before `top`.

@@ -5,13 +5,15 @@ use mathlib.Core.Path.{_≡_, refl, sym, _∙_}
 use mathlib.Core.List.{List, [], _∷_}
 use native.Mathlib.Omega.{arith}
 use lib.ListN.{length, getD, drop, replicate, length-append, length-replicate, drop-of-length-le}
-use Rattle.calculus.specs.Words.{workspaceMost}
-use Rattle.calculus.specs.Skip.{span}
+use Rattle.calculus.specs.Words.{workspaceMost, kindOf, payloadOf}
+use Rattle.calculus.specs.Skip.{arity, span}
 use Rattle.calculus.specs.First.{firstTerm}
+use Rattle.words.specs.Bound.{bound}
 use Rattle.words.proofs.Spans.{arity-bounded}
 use Rattle.walk.specs.Depths.{depths}
 use Rattle.substitution.specs.Results.{Starts}
 use Rattle.walk.specs.Scopes.{scopeBase, expanded, toCome, Stands, Enters, Entered}
+use Rattle.walk.proofs.DepthLaws.{bound-few, binder-one}
 use Rattle.walk.proofs.ScopeLaws.{come-first}
 use Rattle.substitution.proofs.WalkLaws.{Walk, walk-start, walk-word, walk-few, walk-done, depth-bounded, depth-is, walk-inside}
 
@@ -21,6 +23,11 @@ pub record Walking (src : List ℕ) (body : ℕ) (room₀ room : List ℕ) (i pe
   pub short : length src ≤ workspaceMost
   pub enough : span 1 (drop body src) ≤ 2 * length room₀
   pub same-length : length room ≡ length room₀
+
+-- The scope behind a word, by its numbers.
+pub entered-word : (w : ℕ) {items binders pending depth top pending′ depth′ top′ : ℕ} {room room′ : List ℕ} → items ≡ arity w → binders ≡ bound w
+    → Entered items binders pending depth top room pending′ depth′ top′ room′ → Entered (arity w) (bound w) pending depth top room pending′ depth′ top′ room′
+entered-word w follow bind e = rw (follow, bind) at e
 
 pub walking-start : {src room : List ℕ} {body : ℕ} → length src ≤ workspaceMost → Starts (drop body src) (firstTerm (drop body src))
     → span 1 (drop body src) ≤ 2 * length room → Walking src body room room body 1 0 (length room)
@@ -77,10 +84,12 @@ module _ {src : List ℕ} {body : ℕ} {room₀ room : List ℕ} {i pending dept
     pub walking-free : 2 * length room₀ ≤ 2 * top + span 1 (drop body src)
     walking-free = omega (arith, v .stands .scopes, v .stands .within, v .same-length, walking-inside, v .walk .from)
 
-    pub walking-enters : {w : ℕ} → w < 2 ^ 32 → Enters w pending depth top room
-    walking-enters {w} number =
+    pub walking-enters : {w items binders : ℕ} → w < 2 ^ 32 → items ≡ arity w → binders ≡ bound w → Enters items binders pending depth top room
+    walking-enters {w} number follow bind =
         record {
-          counts = arity-bounded w number;
+          counts = rw follow (arity-bounded w number);
+          one = λ l. follow ∙ binder-one w (rw bind at l);
+          few-binders = bound-few (kindOf w) (payloadOf w) bind;
           pends = omega arith;
           few = omega (arith, walk-few (v .walk), length-left, v .short);
           shallow = walking-depth;
@@ -88,12 +97,12 @@ module _ {src : List ℕ} {body : ℕ} {room₀ room : List ℕ} {i pending dept
           free = λ l. omega (arith, v .stands .more l, walking-inside, v .enough, v .same-length, v .walk .from);
         }
 
-    pub walking-next : {pending′ depth′ top′ : ℕ} {room′ : List ℕ} → Entered (getD src i 0) pending depth top room pending′ depth′ top′ room′
-        → length room′ ≡ length room → Walking src body room₀ room′ (i + 1) pending′ depth′ top′
+    pub walking-next : {pending′ depth′ top′ : ℕ} {room′ : List ℕ}
+        → Entered (arity (getD src i 0)) (bound (getD src i 0)) pending depth top room pending′ depth′ top′ room′ → length room′ ≡ length room → Walking src body room₀ room′ (i + 1) pending′ depth′ top′
     walking-next entered kept =
         let shift : i + 1 - body ≡ i - body + 1 = omega (arith, v .walk .from) in
         record {
-          walk = rw (entered .items) (walk-word next-walk (walking-within .0));
+          walk = rw (entered .come) (walk-word next-walk (walking-within .0));
           stands = rw shift (entered .stands (i - body) (v .stands));
           short = v .short;
           enough = v .enough;

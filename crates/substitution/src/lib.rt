@@ -1,9 +1,9 @@
 // Simultaneous substitution over lent words, and the one shift of free indices that it is made of ("Contraction").
+pub mod kinds;
 pub mod measure;
 
-use walk::index::argument;
+use kinds::visit;
 use walk::index::down;
-use walk::index::shift_word;
 use walk::index::up;
 use walk::scope::Scope;
 use walk::scope::enter;
@@ -61,27 +61,18 @@ fn shift(
     ensures { λ r. ⌜ Room (now (room .entry)) (now (room .exit)) ⌝ }
 {
     let mut i = at;
-    let mut next = out;
     let mut scope = Scope {
         pending: 1,
         depth: 0,
         top: room.len(),
     };
-    while i < end {
-        let word = Word(src[i]);
-        if word.kind() == Word::VARIABLE {
-            dst[next] = shift_word(word, scope.depth, distance).0;
-            scope = enter(word, scope, room);
-            i += 1;
-            next += 1;
-        } else {
-            dst[next] = word.0;
-            scope = enter(word, scope, room);
-            i += 1;
-            next += 1;
-        }
+    while scope.pending > 0 {
+        let here = visit(Word(src[i]), scope.depth, 0, distance);
+        dst[out + (i - at)] = here.word.0;
+        scope = enter(here.items, here.binders, scope, room);
+        i += 1;
     }
-    next
+    out + (end - at)
 }
 
 // Copies the term from `at` up to `end`, an argument, to a place under so many binders, and returns the position after the copy.
@@ -134,10 +125,10 @@ pub fn substitute(
         top: room.len(),
     };
     while i < stop {
-        let word = Word(src[i]);
         let depth = at.depth;
         let top = at.top;
-        let j = argument(word, depth, count);
+        let here = visit(Word(src[i]), depth, count, lowered);
+        let j = here.argument;
         if j < count {
             next = raise(
                 src,
@@ -148,11 +139,11 @@ pub fn substitute(
                 next,
                 &mut room[..top],
             );
-            at = enter(word, at, room);
+            at = enter(here.items, here.binders, at, room);
             i += 1;
         } else {
-            dst[next] = shift_word(word, depth, lowered).0;
-            at = enter(word, at, room);
+            dst[next] = here.word.0;
+            at = enter(here.items, here.binders, at, room);
             i += 1;
             next += 1;
         }

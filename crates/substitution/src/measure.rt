@@ -1,7 +1,7 @@
 // What one walk over a body tells, and the length of the body with its arguments put in.
 use crate::PLACES;
+use crate::kinds::visit;
 use crate::starts;
-use walk::index::argument;
 use walk::scope::Scope;
 use walk::scope::enter;
 use words::Word;
@@ -21,7 +21,7 @@ pub struct Measured {
     pub last: u32,
 }
 
-// One walk over the body at a position that has `count` arguments. A word that none stands for counts at the place behind theirs.
+// One walk over the body at a position that has `count` arguments.
 pub fn measure(src: &[u32], body: usize, count: usize, room: &mut [u32]) -> Measured
     requires { ⌜ Measurable (now src) body count (now room) ⌝ }
     ensures { λ r. ⌜ Measures (now (src .entry)) body count (r .end) (r .last) (r .occurs) ⌝ }
@@ -36,12 +36,17 @@ pub fn measure(src: &[u32], body: usize, count: usize, room: &mut [u32]) -> Meas
         top: room.len(),
     };
     while at.pending > 0 {
-        let word = Word(src[i]);
         last = at.depth;
-        let j = argument(word, last, count);
-        occurs[j] += 1;
-        at = enter(word, at, room);
-        i += 1;
+        let here = visit(Word(src[i]), last, count, 0);
+        let j = here.argument;
+        if j < count {
+            occurs[j] += 1;
+            at = enter(here.items, here.binders, at, room);
+            i += 1;
+        } else {
+            at = enter(here.items, here.binders, at, room);
+            i += 1;
+        }
     }
     Measured {
         end: i,

@@ -1,14 +1,15 @@
 -- Laws of `depths`: no more numbers than words, and each at most `countBase` for each word before it.
-use Prim.Native.Nat.{ℕ, zero, suc, _+_, _*_, _≤_}
+use Prim.Native.Nat.{ℕ, zero, suc, _+_, _*_, _≤_, _<_}
 use mathlib.Core.Path.{_≡_, refl, sym, _∙_, ap}
 use mathlib.Core.Bool.{Bool, true, false, cond}
 use mathlib.Core.List.{List, [], _∷_, _++_}
 use native.Mathlib.Omega.{arith}
+use borrow.Author.Tests.{eqb-true}
 use lib.Dec.{eqb}
 use lib.ListN.{length, take, replicate, length-append, length-replicate}
 use lib.Seq.{take-nil}
 use Rattle.calculus.specs.Words.{abstractionKind, branchKind, countBase, kindOf, payloadOf, countOf}
-use Rattle.calculus.specs.Skip.{arity, span}
+use Rattle.calculus.specs.Skip.{following, arity, span}
 use Rattle.walk.specs.Depths.{depths}
 use Rattle.words.specs.Bound.{binding as bound, bound as binders}
 
@@ -60,6 +61,16 @@ bound-few k p q = rw q (go (eqb k abstractionKind) (eqb k branchKind))
     go true y = omega arith
     go false true = omega arith
     go false false = omega arith
+
+-- A binder has one item behind it.
+pub binder-one : (w : ℕ) → 0 < binders w → arity w ≡ 1
+unfolding following bound
+binder-one w = go (kindOf w) (payloadOf w) (eqb (kindOf w) abstractionKind) refl (eqb (kindOf w) branchKind) refl
+  where
+    go : (k p : ℕ) (x : Bool) → eqb k abstractionKind ≡ x → (y : Bool) → eqb k branchKind ≡ y → 0 < bound k p → following k p ≡ 1
+    go k p true e y f h = rw (eqb-true k abstractionKind e)
+    go k p false e true f h = rw (eqb-true k branchKind f)
+    go k p false e false f h = absurd (omega (arith, rw (e, f) at h))
 
 -- A word adds at most `countBase` to the binders around the items to come.
 pub bounded-word : (b c w d : ℕ) (ds : List ℕ) → Bounded b (d ∷ ds) → b + countBase ≤ c → Bounded c (replicate (arity w) (d + binders w) ++ ds)

@@ -6,10 +6,8 @@ use Prim.Native.Nat.{ℕ, _+_, _*_, _-_, _/_, _%_, _≤_, _<_}
 use mathlib.Core.Path.{_≡_}
 use mathlib.Core.List.{List, [], _∷_, _++_}
 use lib.ListN.{length, drop, replicate}
-use Rattle.calculus.specs.Words.{workspaceMost}
-use Rattle.calculus.specs.Skip.{arity}
+use Rattle.calculus.specs.Words.{workspaceMost, countBase}
 use Rattle.words.specs.Limits.{payloadBound}
-use Rattle.words.specs.Bound.{bound}
 
 -- A scope is items × 32768 + binders.
 abbrev pub scopeBase : ℕ
@@ -37,16 +35,19 @@ pub record Stands (k pending top : ℕ) (room : List ℕ) : Type 0 where
   pub scopes : 2 * (length room - top) ≤ k
   pub more : 2 ≤ pending → 2 * (length room - top) + 1 ≤ k
 
--- There is an item to come, the word that starts it has as many items as a payload counts, and there is room for a scope if the walk may leave one.
-pub record Enters (w pending depth top : ℕ) (room : List ℕ) : Type 0 where
-  pub counts : arity w ≤ payloadBound
+-- There is an item to come; behind its word come as many items as a payload counts, under so many binders more, and only one if there are any such
+-- binders; and there is room for a scope if the walk may leave one.
+pub record Enters (items binders pending depth top : ℕ) (room : List ℕ) : Type 0 where
+  pub counts : items ≤ payloadBound
+  pub one : 0 < binders → items ≡ 1
+  pub few-binders : binders ≤ countBase
   pub pends : 1 ≤ pending
   pub few : pending ≤ workspaceMost
   pub shallow : depth < scopeBase
   pub within : top ≤ length room
   pub free : 2 ≤ pending → 1 ≤ top
 
--- The items behind the word w come first, under its binders, and the walk stands one word further.
-pub record Entered (w pending depth top : ℕ) (room : List ℕ) (pending′ depth′ top′ : ℕ) (room′ : List ℕ) : Type 0 where
-  pub items : toCome pending′ depth′ (drop top′ room′) ≡ replicate (arity w) (depth + bound w) ++ toCome (pending - 1) depth (drop top room)
+-- The items behind the word come first, under its binders, and the walk stands one word further.
+pub record Entered (items binders pending depth top : ℕ) (room : List ℕ) (pending′ depth′ top′ : ℕ) (room′ : List ℕ) : Type 0 where
+  pub come : toCome pending′ depth′ (drop top′ room′) ≡ replicate items (depth + binders) ++ toCome (pending - 1) depth (drop top room)
   pub stands : (k : ℕ) → Stands k pending top room → Stands (k + 1) pending′ top′ room′

@@ -1,5 +1,4 @@
 // The scopes of a walk over words.
-use words::Word;
 ghost use Rattle.walk.specs.Scopes.{Enters, Entered};
 
 // Where a walk stands: how many items come next, under how many binders, and from where on its room holds the scopes that were left with items.
@@ -12,32 +11,31 @@ pub struct Scope {
 // A scope in the room is items × 32768 + binders.
 const SCOPE: u32 = 32768;
 
-// Where the walk stands after a word.
-pub fn enter(word: Word, at: Scope, room: &mut [u32]) -> Scope
-    requires { ⌜ Enters (word .0) (at .pending) (at .depth) (at .top) (now room) ⌝ }
-    ensures { λ r. ⌜ Entered (word .0) (at .pending) (at .depth) (at .top) (now (room .entry)) (r .pending) (r .depth) (r .top) (now (room .exit)) ⌝ }
+// Where the walk stands after a word that so many items follow, under so many binders more than the word.
+pub fn enter(items: usize, binders: u32, at: Scope, room: &mut [u32]) -> Scope
+    requires { ⌜ Enters items binders (at .pending) (at .depth) (at .top) (now room) ⌝ }
+    ensures { λ r. ⌜ Entered items binders (at .pending) (at .depth) (at .top) (now (room .entry)) (r .pending) (r .depth) (r .top) (now (room .exit)) ⌝ }
 {
     let pending = at.pending;
     let depth = at.depth;
     let top = at.top;
-    let bound = word.bound();
-    if bound > 0 {
+    if binders > 0 {
         if pending > 1 {
             let free = top - 1;
             room[free] = (pending - 1) as u32 * SCOPE + depth;
             return Scope {
                 pending: 1,
-                depth: depth + bound,
+                depth: depth + binders,
                 top: free,
             };
         }
         return Scope {
             pending: 1,
-            depth: depth + bound,
+            depth: depth + binders,
             top,
         };
     }
-    let left = word.arity() + (pending - 1);
+    let left = items + (pending - 1);
     if left > 0 {
         return Scope {
             pending: left,

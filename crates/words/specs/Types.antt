@@ -1,12 +1,26 @@
 -- What the code's types stand for.
-use Prim.Native.Nat.{ℕ}
+use Prim.Native.Nat.{ℕ, _-_}
 use mathlib.Core.List.{List}
+use Rattle.calculus.specs.Words.{variableKind, abstractionKind, applicationKind, constructorKind, caseKind, branchKind, numeralKind, kindBase}
 use Rattle.calculus.specs.Refusal.{Refusal, WrongLength, WrongHeader, WrongValue, WrongLink, WrongChildren, WrongFree, WrongWorkspace, TooLong, OverBudget, NoTerm, WrongLine, WrongBits, NoCombinator}
 use Rattle.calculus.specs.Bringing.{Answer, refused, returned, Brought}
+use Rattle.words.specs.declared.kind.Kind as codeKind
+use Rattle.words.specs.declared.kind.Kind.the-variants as kind
 use Rattle.words.specs.declared.refusal.Refusal as code
 use Rattle.words.specs.declared.refusal.Refusal.the-variants as refusal
 use Rattle.words.specs.declared.answer.Answer as codeAnswer
 use Rattle.words.specs.declared.answer.Answer.the-variants as answer
+
+-- The number of a kind. Below the base one number is no kind.
+abbrev pub kindNumber : codeKind.Kind → ℕ
+kindNumber kind.Application = applicationKind
+kindNumber kind.Abstraction = abstractionKind
+kindNumber kind.Variable = variableKind
+kindNumber kind.Constructor = constructorKind
+kindNumber kind.Case = caseKind
+kindNumber kind.Branch = branchKind
+kindNumber kind.Numeral = numeralKind
+kindNumber kind.Unassigned = kindBase - 1
 
 abbrev pub refusalOf : code.Refusal → Refusal
 refusalOf refusal.WrongLength = WrongLength

@@ -1,5 +1,6 @@
 // The word of a term: payload × 8 + kind ("Terms and words"), and where an item ends. The constants of `Word` are the only places of the code where
 // the kinds and the limits of the word rules stand as numbers.
+use kind::Kind;
 use slices::fill;
 ghost use mathlib.Core.Path.{_≡_};
 ghost use mathlib.Core.List.{_++_};
@@ -10,9 +11,10 @@ ghost use Rattle.calculus.specs.Words.{word, kindOf, payloadOf, tagOf, countOf}
 ghost use Rattle.calculus.specs.Accepted.{tagLimit, argumentLimit, branchLimit, freeLimit, numeralLimit, indexLimit};
 ghost use Rattle.calculus.specs.Skip.{arity, span};
 ghost use Rattle.words.specs.Limits.{payloadBound};
-ghost use Rattle.words.specs.Bound.{bound};
+ghost use Rattle.words.specs.Types.{kindNumber};
 
 pub mod answer;
+pub mod kind;
 pub mod pattern;
 pub mod refusal;
 pub mod slices;
@@ -115,21 +117,28 @@ impl Word {
         }
     }
 
-    // How many binders stand around these items and not around the word, by the same first test.
-    pub fn bound(self) -> u32
-        ensures { λ r. ⌜ r ≡ bound (self .0) ⌝ }
+    // The kind by name. Tested in this order the kinds cost less than a jump by a table of all, and where a `match` goes over the names the compiler
+    // takes each test straight to its arm.
+    pub fn classify(self) -> Kind
+        ensures { λ r. ⌜ kindNumber r ≡ kindOf (self .0) ⌝ }
     {
         let kind = self.kind();
+        if kind == Word::VARIABLE {
+            return Kind::Variable;
+        }
         if kind < Word::CONSTRUCTOR {
             if kind == Word::ABSTRACTION {
-                return 1;
+                return Kind::Abstraction;
             }
-            return 0;
+            return Kind::Application;
         }
-        if kind == Word::BRANCH {
-            return self.count();
+        match kind {
+            Word::CONSTRUCTOR => Kind::Constructor,
+            Word::CASE => Kind::Case,
+            Word::BRANCH => Kind::Branch,
+            Word::NUMERAL => Kind::Numeral,
+            _ => Kind::Unassigned,
         }
-        0
     }
 }
 

@@ -1,45 +1,52 @@
 -- `shift` meets its contract. The invariant: the words still to be moved lead to the whole copy.
-use Prim.Native.Nat.{ℕ, _-_, _<_, _≤_}
+use Prim.Native.Nat.{ℕ, _+_, _-_, _<_, _≤_}
 use mathlib.Core.Path.{_≡_, refl, sym, _∙_, ap}
 use mathlib.Core.List.{List, [], _∷_}
 use native.Mathlib.Omega.{arith}
-use borrow.Author.Needs.{needs}
 use lib.IntN.{ℤ}
 use lib.ListN.{length, getD, drop}
 use mir.Syntax.{w32}
 use mir.Val.{toZ, ofZ}
 use mir.ValLaws.{toZ-ofZ}
 use Rattle.calculus.specs.Words.{words}
-use Rattle.walk.specs.Rewritten.{shifting, standing}
+use Rattle.words.specs.Placed.{Placed}
+use Rattle.walk.specs.Rewritten.{shifting, rewritten, standing}
 use Rattle.substitution.specs.Results.{shifted}
 use Rattle.words.proofs.RoomLaws.{room-of-length}
-use Rattle.walk.proofs.RewrittenLaws.{rewritten-other, shifting-length}
-use Rattle.substitution.proofs.Walking.{walking-enters}
-use Rattle.substitution.proofs.RewritingLaws.{placed-as, Rewriting, rewriting-start, rewriting-some, rewriting-within, rewriting-room, rewriting-next, rewriting-done, standing-shifted, moving-word}
+use Rattle.walk.proofs.RewrittenLaws.{shifting-length}
+use Rattle.substitution.proofs.Walking.{entered-word, walking-inside, walking-depth, walking-enters, walking-done}
+use Rattle.substitution.proofs.MeasureLaws.{place-most}
+use Rattle.substitution.proofs.RewritingLaws.{placed-as, Rewriting, rewriting-start, rewriting-within, rewriting-room, rewriting-next, rewriting-done, standing-shifted, moving-word}
 use Rattle.substitution.proofs.shift.Statement.{statement}
 use Rattle.substitution.proofs.shift.Tie as tie
 
 abbrev Inv-loop : tie.InvT-loop
-Inv-loop src at end distance dst₀ out room₀ i₀ next₀ scope₀ dst room i next scope =
-    Rewriting (shifting (toZ w32 distance)) src at end dst₀ out room₀ dst room next i (scope .pending) (scope .depth) (scope .top)
+Inv-loop src at end distance dst₀ out room₀ i₀ scope₀ dst room i scope =
+    Rewriting (shifting (toZ w32 distance)) src at end dst₀ out room₀ dst room (out + (i - at)) i (scope .pending) (scope .depth) (scope .top)
 
 abbrev μ-loop : tie.MeasureT-loop
-μ-loop src at end distance dst₀ out room₀ i₀ next₀ scope₀ dst room i next scope = end - i
+μ-loop src at end distance dst₀ out room₀ i₀ scope₀ dst room i scope = length src - i
 
 loop-holds : tie.Need-loop-holds Inv-loop μ-loop
 loop-holds c =
-    let p = c .before .before .before .pre in
-    rewriting-start _ _ (p .0 .0 .short) (p .0 .0 .starts) (p .1 .1) (omega arith) (omega arith)
+    let s = c .before .before .before in
+    let p = s .pre in
+    let none : s .args .out + (s .args .at - s .args .at) ≡ s .args .out = omega arith in
+    rw none (rewriting-start _ _ (p .0 .0 .short) (p .0 .0 .starts) (p .1 .1) (omega arith) (omega arith))
 
-module _ (c : tie.In-loop Inv-loop μ-loop) where
+-- A turn.
+module _ (c : tie.Then1 Inv-loop μ-loop) where
   abbrev start : tie.Start Inv-loop μ-loop
-  start = c .before .before .before .before .before
+  start = c .before .before .before .before .before .before
 
   abbrev src : List ℕ
   src = start .args .src .now
 
+  abbrev depth : ℕ
+  depth = c .before .before .loop .scope .depth
+
   abbrev word : ℕ
-  word = getD src (c .before .loop .i) 0
+  word = getD src (c .before .before .loop .i) 0
 
   -- The distance as the loop has it.
   abbrev z : ℤ
@@ -48,109 +55,105 @@ module _ (c : tie.In-loop Inv-loop μ-loop) where
   distance : z ≡ start .args .distance
   distance = toZ-ofZ w32 (start .args .distance) (start .fits .distance)
 
-  inside : (c .before .loop .i < length src) × (length src ≤ 2048) × (start .args .at ≤ c .before .loop .i)
-  inside = rewriting-within (c .before .loop .inv) (c .loop-test .taken)
+  more : c .before .before .loop .i < start .args .end
+  more = omega (arith, walking-inside (c .before .before .loop .inv .walking) (c .if1 .taken), start .pre .0 .1)
+
+  inside : (c .before .before .loop .i < length src) × (length src ≤ 2048) × (start .args .at ≤ c .before .before .loop .i)
+  inside = rewriting-within (c .before .before .loop .inv) more
 
   result : standing (shifting z) (start .args .end - start .args .at) (0 ∷ []) (drop (start .args .at) src) ≡ words (shifted src (start .args .at) (start .args .distance))
   result =
       standing-shifted src (start .args .at) (start .args .end) z (start .pre .0 .0 .starts) (start .pre .0 .1)
       ∙ ap (λ d. words (shifted src (start .args .at) d)) distance
 
-  room : c .before .loop .next < length (c .before .loop .dst)
+  room : start .args .out + (c .before .before .loop .i - start .args .at) < length (c .before .before .loop .dst)
   room =
       omega (
         arith,
-        rewriting-room (c .before .loop .inv) (c .loop-test .taken),
-        shifting-length z (c .before .loop .scope .depth) word,
+        rewriting-room (c .before .before .loop .inv) more,
+        shifting-length z depth word,
         ap length result,
         start .pre .1 .0,
-        c .before .loop .inv .kept,
+        c .before .before .loop .inv .kept,
       )
 
-mul-if1 : tie.Need-mul-if1 Inv-loop μ-loop
-mul-if1 c = omega (arith, inside c)
+mul-t13 : tie.Need-mul-t13 Inv-loop μ-loop
+mul-t13 c = omega (arith, inside c)
 
-shared-slice-read-if1 : tie.Need-shared-slice-read-if1 Inv-loop μ-loop
-shared-slice-read-if1 c = inside (c .before) .0
+shared-slice-read-t15 : tie.Need-shared-slice-read-t15 Inv-loop μ-loop
+shared-slice-read-t15 c = inside (c .before) .0
 
-kind-requires : tie.Need-kind-requires Inv-loop μ-loop
-kind-requires c κs = search needs
+visit-requires : tie.Need-visit-requires Inv-loop μ-loop
+visit-requires c κs =
+    let t = c .before in
+    let v = t .before .before .loop .inv .walking in
+    record {
+      few = omega (arith, walking-depth v (t .if1 .taken));
+      movable = λ k e. moving-word (rw (distance t) (start t .pre .0 .0)) v (t .if1 .taken) k;
+    }
 
--- A variable.
-shift-word-requires : tie.Need-shift-word-requires Inv-loop μ-loop
-shift-word-requires c κs =
-    let t = c .before .before .before in
-    moving-word (rw (distance t) (start t .pre .0 .0)) (t .before .loop .inv .walking) (rewriting-some (t .before .loop .inv) (t .loop-test .taken))
+sub-dst : tie.Need-sub-dst Inv-loop μ-loop
+sub-dst c = inside (c .before .before) .2
+
+add-dst : tie.Need-add-dst Inv-loop μ-loop
+add-dst c = omega (arith, room (c .before .before))
 
 mul-dst : tie.Need-mul-dst Inv-loop μ-loop
-mul-dst c = omega (arith, room (c .before .before .before .before))
+mul-dst c = omega (arith, room (c .before .before))
 
 slice-write-dst : tie.Need-slice-write-dst Inv-loop μ-loop
-slice-write-dst c = room (c .before .before .before .before)
+slice-write-dst c = room (c .before .before)
 
 enter-requires : tie.Need-enter-requires Inv-loop μ-loop
 enter-requires c κs =
-    let t = c .before .before .before .before .before in
-    walking-enters (t .before .loop .inv .walking) (rewriting-some (t .before .loop .inv) (t .loop-test .taken)) (c .before .before .before .before .shared-slice-known2 .given (t .before .loop .i) .fits)
+    let t = c .before .before .before in
+    let v = c .before .visit .ensures in
+    walking-enters (t .before .before .loop .inv .walking) (t .if1 .taken) (c .before .before .shared-slice-known2 .given (t .before .before .loop .i) .fits) (v .items-are) (v .binders-are)
 
 add-i : tie.Need-add-i Inv-loop μ-loop
-add-i c = omega arith
-
-add-next : tie.Need-add-next Inv-loop μ-loop
-add-next c = omega (arith, room (c .before .before .before .before .before .before .before .before))
+add-i c = omega (arith, inside (c .before .before .before .before .before .before))
 
 loop-less : tie.Need-loop-less Inv-loop μ-loop
-loop-less c = omega arith
+loop-less c = omega (arith, inside (c .before .before .before .before .before .before))
 
 loop-again : tie.Need-loop-again Inv-loop μ-loop
 loop-again c =
-    let t = c .before .before .before .before .before .before .before .before in
-    rewriting-next (t .before .loop .inv) (t .loop-test .taken) (placed-as (sym (c .before .before .before .before .shift-word .ensures)) (record { slice = refl; position = refl })) (c .before .before .enter .ensures) (c .before .before .enter .kept .1 .1 .0)
+    let u = c .before .before .before .before in
+    let t = u .before .before in
+    let v = u .visit .ensures in
+    let one : rewritten (shifting (z t)) (depth t) (word t) ≡ u .visit .result .word .0 ∷ [] =
+    v .moved (omega (arith, v .argument-is, place-most 0 (depth t) (word t))) in
+    rewriting-next (t .before .before .loop .inv) (more t) (placed-as (sym one) (record { slice = refl; position = omega (arith, inside t) })) (entered-word (word t) (v .items-are) (v .binders-are) (c .before .before .enter .ensures)) (c .before .before .enter .kept .1 .1 .1 .0)
 
--- Another word.
-mul-dst-2 : tie.Need-mul-dst-2 Inv-loop μ-loop
-mul-dst-2 c = omega (arith, room (c .before .before .before))
+-- The end.
+module _ (c : tie.Else1 Inv-loop μ-loop) where
+  abbrev begin : tie.Start Inv-loop μ-loop
+  begin = c .before .before .before .before .before .before
 
-slice-write-dst-2 : tie.Need-slice-write-dst-2 Inv-loop μ-loop
-slice-write-dst-2 c = room (c .before .before .before)
+  ended : c .before .before .loop .i ≡ begin .args .end
+  ended = walking-done (c .before .before .loop .inv .walking) (c .if1 .left) ∙ sym (begin .pre .0 .1)
 
-enter-requires-2 : tie.Need-enter-requires-2 Inv-loop μ-loop
-enter-requires-2 c κs =
-    let t = c .before .before .before .before in
-    walking-enters (t .before .loop .inv .walking) (rewriting-some (t .before .loop .inv) (t .loop-test .taken)) (c .before .before .before .shared-slice-known2 .given (t .before .loop .i) .fits)
+  placed : Placed (begin .args .dst .now) (begin .args .out) (words (shifted (begin .args .src .now) (begin .args .at) (begin .args .distance))) (c .before .before .loop .dst) (begin .args .out + (begin .args .end - begin .args .at))
+  placed =
+      placed-as
+      (standing-shifted (begin .args .src .now) (begin .args .at) (begin .args .end) _ (begin .pre .0 .0 .starts) (begin .pre .0 .1)
+      ∙ ap (λ d. words (shifted (begin .args .src .now) (begin .args .at) d)) (toZ-ofZ w32 (begin .args .distance) (begin .fits .distance)))
+      (rw (ended) at (rewriting-done (c .before .before .loop .inv) (omega (arith, ended))))
 
-add-i-2 : tie.Need-add-i-2 Inv-loop μ-loop
-add-i-2 c = omega arith
+sub-result : tie.Need-sub-result Inv-loop μ-loop
+sub-result c = omega (arith, begin c .pre .0 .1)
 
-add-next-2 : tie.Need-add-next-2 Inv-loop μ-loop
-add-next-2 c = omega (arith, room (c .before .before .before .before .before .before .before))
-
-loop-less-2 : tie.Need-loop-less-2 Inv-loop μ-loop
-loop-less-2 c = omega arith
-
-loop-again-2 : tie.Need-loop-again-2 Inv-loop μ-loop
-loop-again-2 c =
-    let e = c .before .before .before .before in
-    let t = e .before .before .before in
-    let same = rewritten-other (shifting (z t)) (t .before .loop .scope .depth) (word t) (λ q. e .if1 .left (e .before .kind .ensures ∙ q)) in
-    rewriting-next (t .before .loop .inv) (t .loop-test .taken) (placed-as (sym same) (record { slice = refl; position = refl })) (c .before .before .enter2 .ensures) (c .before .before .enter2 .kept .1 .1 .0)
+add-result : tie.Need-add-result Inv-loop μ-loop
+add-result c = omega (arith, placed c .position, begin c .pre .1 .0, begin c .good)
 
 same-length : tie.Need-same-length Inv-loop μ-loop
-same-length c = c .before .loop .inv .kept
+same-length c = c .before .before .loop .inv .kept
 
 same-length-2 : tie.Need-same-length-2 Inv-loop μ-loop
-same-length-2 c = c .before .loop .inv .walking .same-length
+same-length-2 c = c .before .before .loop .inv .walking .same-length
 
 returns : tie.Need-returns Inv-loop μ-loop
-returns c =
-    let s = c .before .before .before .before .before in
-    let e = toZ-ofZ w32 (s .args .distance) (s .fits .distance) in (
-      placed-as
-          (standing-shifted (s .args .src .now) (s .args .at) (s .args .end) _ (s .pre .0 .0 .starts) (s .pre .0 .1)
-          ∙ ap (λ d. words (shifted (s .args .src .now) (s .args .at) d)) e)
-          (rewriting-done (c .before .loop .inv) (c .loop-test .left)),
-      room-of-length (c .before .loop .inv .walking .same-length),
-    )
+returns c = (placed c, room-of-length (c .before .before .loop .inv .walking .same-length))
 
 pub shift-spec : {M : Type 1} → statement M
 shift-spec =
@@ -159,24 +162,19 @@ shift-spec =
     Inv-loop
     μ-loop
     loop-holds
-    mul-if1
-    shared-slice-read-if1
-    kind-requires
-    shift-word-requires
+    mul-t13
+    shared-slice-read-t15
+    visit-requires
+    sub-dst
+    add-dst
     mul-dst
     slice-write-dst
     enter-requires
     add-i
-    add-next
     loop-less
     loop-again
-    mul-dst-2
-    slice-write-dst-2
-    enter-requires-2
-    add-i-2
-    add-next-2
-    loop-less-2
-    loop-again-2
+    sub-result
+    add-result
     same-length
     same-length-2
     returns)

@@ -14,9 +14,10 @@ use Rattle.calculus.specs.Words.{workspaceMost, countBase, words}
 use Rattle.calculus.specs.Accepted.{argumentLimit}
 use Rattle.calculus.specs.First.{firstTerms}
 use Rattle.words.proofs.RoomLaws.{room-of-length}
-use Rattle.walk.specs.Rewritten.{shifting, substituting, rewritten, place}
+use Rattle.walk.specs.Rewritten.{shifting, substituting, rewritten}
 use Rattle.substitution.specs.Results.{shifted}
-use Rattle.substitution.proofs.Walking.{walking-depth, walking-number, walking-enters, walking-free}
+use Rattle.substitution.proofs.Walking.{entered-word, walking-depth, walking-number, walking-enters, walking-free}
+use Rattle.substitution.proofs.MeasureLaws.{place-most}
 use Rattle.substitution.proofs.RewritingLaws.{placed-as, Rewriting, rewriting-start, rewriting-some, rewriting-within, rewriting-room, rewriting-lent, rewriting-next, rewriting-done}
 use Rattle.substitution.proofs.StartLaws.{Offsets}
 use Rattle.substitution.proofs.ArgumentLaws.{rewritten-body, movable-body}
@@ -80,10 +81,19 @@ mul-t23 c = omega (arith, inside c)
 shared-slice-read-t25 : tie.Need-shared-slice-read-t25 Inv-loop μ-loop
 shared-slice-read-t25 c = inside (c .before) .0
 
-argument-requires : tie.Need-argument-requires Inv-loop μ-loop
-argument-requires c κs = omega (arith, few-binders (c .before))
+-- The distance as the loop has it.
+distance : (c : tie.In-loop Inv-loop μ-loop) → toZ w32 (ofZ w32 (c .before .before .down .result)) ≡ negℤ (pos (start c .args .count))
+distance c = toZ-ofZ w32 (c .before .before .down .result) (record { sfits = c .before .before .down .ok }) ∙ c .before .before .down .ensures
 
-few-arguments : (c : tie.Then1 Inv-loop μ-loop) → c .before .argument .result < argumentLimit
+visit-requires : tie.Need-visit-requires Inv-loop μ-loop
+visit-requires c κs =
+    let t = c .before in
+    record {
+      few = omega (arith, few-binders t);
+      movable = λ v e. rw (distance t) (movable-body (start t .args .count) (depth t) (word t) (omega (arith, e)) (c .shared-slice-known2 .given (t .before .loop .i) .fits) v);
+    }
+
+few-arguments : (c : tie.Then1 Inv-loop μ-loop) → c .before .visit .result .argument < argumentLimit
 few-arguments c = omega (arith, start (c .before .before .before) .pre .0 .substitutable .few, c .if1 .taken)
 
 -- An argument stands for the word, so where the arguments end was told.
@@ -96,15 +106,15 @@ placed c =
       offsets =
           t .before .before .before .starts .ensures
           (start t .pre .0 .after-is (t .before .loop .i) (inside t .2) (t .loop-test .taken)
-          (rw (walking-number (v .walking) (some t), ← c .before .argument .ensures) (c .if1 .taken)));
+          (rw (walking-number (v .walking) (some t), ← c .before .visit .ensures .argument-is) (c .if1 .taken)));
     }
 
 argument-words : (c : tie.Then1 Inv-loop μ-loop)
-    → words (shifted (src (c .before .before .before)) (getD (c .before .before .before .before .before .before .starts .result) (c .before .argument .result) 0) (pos (depth (c .before .before .before))))
+    → words (shifted (src (c .before .before .before)) (getD (c .before .before .before .before .before .before .starts .result) (c .before .visit .result .argument) 0) (pos (depth (c .before .before .before))))
     ≡ rewritten (substituting (xs (c .before .before .before))) (depth (c .before .before .before)) (word (c .before .before .before))
 argument-words c =
     let t = c .before .before .before in
-    sym (chosen-words (start t .pre .0 .substitutable) (placed c) (depth t) (word t) (few-binders t) (c .before .argument .ensures) (c .if1 .taken))
+    sym (chosen-words (start t .pre .0 .substitutable) (placed c) (depth t) (word t) (few-binders t) (c .before .visit .ensures .argument-is) (c .if1 .taken))
 
 mul-raise : tie.Need-mul-raise Inv-loop μ-loop
 mul-raise c = omega (arith, few-arguments c)
@@ -131,7 +141,7 @@ raise-requires : tie.Need-raise-requires Inv-loop μ-loop
 raise-requires c κs =
     let t = c .before .before .before .before .before in
     let p = start t .pre .0 in
-    let j = c .before .before .before .argument .ensures in
+    let j = c .before .before .before .visit .ensures .argument-is in
     let l = c .before .before .if1 .taken in (
       (
         chosen-shiftable (p .substitutable) (placed (c .before .before)) (depth t) (word t) (few-binders t) j l,
@@ -173,71 +183,69 @@ module _ (c : tie.After-raise Inv-loop μ-loop) where
 
 enter-requires : tie.Need-enter-requires Inv-loop μ-loop
 enter-requires c κs =
-    let t = turn (c .before .before .before .before .before) in
-    walking-enters (lent (c .before .before .before .before .before) .walking) (some t) (c .before .before .before .before .before .before .before .before .before .before .shared-slice-known2 .given (t .before .loop .i) .fits)
+    let r = c .before .before .before .before .before in
+    let t = turn r in
+    let u = r .before .before .before .before in
+    walking-enters (lent r .walking) (some t) (u .before .shared-slice-known2 .given (t .before .loop .i) .fits) (u .visit .ensures .items-are) (u .visit .ensures .binders-are)
 
 add-i : tie.Need-add-i Inv-loop μ-loop
-add-i c = omega arith
+add-i c = omega (arith, inside (turn (c .before .before .before .before .before .before .before .before)))
 
 loop-less : tie.Need-loop-less Inv-loop μ-loop
 loop-less c = omega arith
 
 loop-again : tie.Need-loop-again Inv-loop μ-loop
 loop-again c =
-    rewriting-next (lent (c .before .before .before .before .before .before .before .before)) (c .before .before .before .before .before .before .before .before .before .before .before .before .before .before .loop-test .taken) (placed-as (argument-words (c .before .before .before .before .before .before .before .before .before .before .before)) (c .before .before .before .before .before .before .before .before .raise .ensures .0)) (c .before .before .enter .ensures) (c .before .before .enter .kept .1 .1 .0)
+    let r = c .before .before .before .before .before .before .before .before in
+    let t = turn r in
+    let u = r .before .before .before .before in
+    rewriting-next (lent r) (t .loop-test .taken) (placed-as (argument-words (r .before .before .before)) (r .raise .ensures .0)) (entered-word (word t) (u .visit .ensures .items-are) (u .visit .ensures .binders-are) (c .before .before .enter .ensures)) (c .before .before .enter .kept .1 .1 .1 .0)
 
 -- No argument stands for the word.
 module _ (c : tie.Else1 Inv-loop μ-loop) where
   abbrev t : tie.In-loop Inv-loop μ-loop
   t = c .before .before .before
 
-  distance : toZ w32 (ofZ w32 (c .before .before .before .before .before .down .result)) ≡ negℤ (pos (start t .args .count))
-  distance = toZ-ofZ w32 (c .before .before .before .before .before .down .result) (record { sfits = c .before .before .before .before .before .down .ok }) ∙ c .before .before .before .before .before .down .ensures
+  none-stands : c .before .visit .result .argument ≡ start t .args .count
+  none-stands = omega (arith, c .before .visit .ensures .argument-is, c .if1 .left, place-most (start t .args .count) (depth t) (word t))
 
-  none-stands : start t .args .count ≤ place (start t .args .count) (depth t) (word t)
-  none-stands = omega (arith, c .before .argument .ensures, c .if1 .left)
-
-shift-word-requires : tie.Need-shift-word-requires Inv-loop μ-loop
-shift-word-requires c κs =
-    rw (distance c)
-    (movable-body (start (t c) .args .count) (depth (t c)) (word (t c)) (none-stands c) (c .before .before .shared-slice-known2 .given (c .before .before .before .before .loop .i) .fits))
-
-module _ (c : tie.After-shift-word Inv-loop μ-loop) where
-  abbrev u : tie.In-loop Inv-loop μ-loop
-  u = t (c .before)
-
-  one-word : rewritten (substituting (xs u)) (depth u) (word u) ≡ c .shift-word .result .0 ∷ []
+  one-word : rewritten (substituting (xs t)) (depth t) (word t) ≡ c .before .visit .result .word .0 ∷ []
   one-word =
-      rewritten-body (start u .args .count) (depth u) (word u) (none-stands (c .before)) (xs u) (start u .pre .0 .substitutable .args-count)
-      ∙ ap (λ z. rewritten (shifting z) (depth u) (word u)) (sym (distance (c .before)))
-      ∙ c .shift-word .ensures
+      rewritten-body (start t .args .count) (depth t) (word t) (omega (arith, none-stands, c .before .visit .ensures .argument-is)) (xs t) (start t .pre .0 .substitutable .args-count)
+      ∙ ap (λ z. rewritten (shifting z) (depth t) (word t)) (sym (distance t))
+      ∙ c .before .visit .ensures .moved none-stands
 
-  room-here : u .before .loop .next < length (u .before .loop .dst)
-  room-here = omega (arith, room-left u, ap length one-word)
+  room-here : t .before .loop .next < length (t .before .loop .dst)
+  room-here = omega (arith, room-left t, ap length one-word)
 
 mul-dst : tie.Need-mul-dst Inv-loop μ-loop
-mul-dst c = omega (arith, room-here c, u c .before .loop .inv .kept, start (u c) .good .1 .1 .1 .1 .1 .1 .0 .1)
+mul-dst c = omega (arith, room-here c, t c .before .loop .inv .kept, start (t c) .good .1 .1 .1 .1 .1 .1 .0 .1)
 
 slice-write-dst : tie.Need-slice-write-dst Inv-loop μ-loop
 slice-write-dst c = room-here c
 
 enter-requires-2 : tie.Need-enter-requires-2 Inv-loop μ-loop
 enter-requires-2 c κs =
-    let t = c .before .before .before .before .before in
-    walking-enters (t .before .loop .inv .walking) (some t) (c .before .before .before .before .shared-slice-known2 .given (t .before .loop .i) .fits)
+    let u = c .before .before in
+    let h = u .before .before in
+    walking-enters (h .before .loop .inv .walking) (some h) (u .before .shared-slice-known2 .given (h .before .loop .i) .fits) (u .visit .ensures .items-are) (u .visit .ensures .binders-are)
 
 add-i-2 : tie.Need-add-i-2 Inv-loop μ-loop
 add-i-2 c = omega arith
 
 add-next : tie.Need-add-next Inv-loop μ-loop
-add-next c = omega (arith, room-here (c .before .before .before .before), u (c .before .before .before .before) .before .loop .inv .kept, start (u (c .before .before .before .before)) .good .1 .1 .1 .1 .1 .1 .0 .1)
+add-next c =
+    let e = c .before .before .before .before in
+    omega (arith, room-here e, t e .before .loop .inv .kept, start (t e) .good .1 .1 .1 .1 .1 .1 .0 .1)
 
 loop-less-2 : tie.Need-loop-less-2 Inv-loop μ-loop
 loop-less-2 c = omega arith
 
 loop-again-2 : tie.Need-loop-again-2 Inv-loop μ-loop
 loop-again-2 c =
-    rewriting-next (c .before .before .before .before .before .before .before .before .before .loop .inv) (c .before .before .before .before .before .before .before .before .loop-test .taken) (placed-as (sym (one-word (c .before .before .before .before))) (record { slice = refl; position = refl })) (c .before .before .enter2 .ensures) (c .before .before .enter2 .kept .1 .1 .0)
+    let e = c .before .before .before .before in
+    let v = e .before .visit .ensures in
+    rewriting-next (t e .before .loop .inv) (t e .loop-test .taken) (placed-as (sym (one-word e)) (record { slice = refl; position = refl })) (entered-word (word (t e)) (v .items-are) (v .binders-are) (c .before .before .enter2 .ensures)) (c .before .before .enter2 .kept .1 .1 .1 .0)
 
 same-length : tie.Need-same-length Inv-loop μ-loop
 same-length c = c .before .loop .inv .kept
@@ -262,7 +270,7 @@ substitute-spec =
     loop-holds
     mul-t23
     shared-slice-read-t25
-    argument-requires
+    visit-requires
     mul-raise
     array-read-raise
     add-raise
@@ -275,7 +283,6 @@ substitute-spec =
     add-i
     loop-less
     loop-again
-    shift-word-requires
     mul-dst
     slice-write-dst
     enter-requires-2

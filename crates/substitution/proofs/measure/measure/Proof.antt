@@ -1,11 +1,14 @@
 -- `measure` meets its contract. The invariant is `Counting`, the measure what is left of the words.
-use Prim.Native.Nat.{_-_, _<_}
+use Prim.Native.Nat.{ℕ, _-_, _<_, _≤_}
 use mathlib.Core.Path.{refl}
+use mathlib.Core.List.{List}
 use native.Mathlib.Omega.{arith}
-use lib.ListN.{length}
+use lib.ListN.{length, getD}
 use Rattle.words.proofs.RoomLaws.{room-of-length}
-use Rattle.substitution.proofs.Walking.{walking-within, walking-depth, walking-enters}
-use Rattle.substitution.proofs.MeasureLaws.{Counting, counting-start, counting-place, counting-next, counting-done}
+use Rattle.walk.specs.Scopes.{Enters}
+use Rattle.walk.proofs.MoveLaws.{moves-up}
+use Rattle.substitution.proofs.Walking.{entered-word, walking-within, walking-depth, walking-enters}
+use Rattle.substitution.proofs.MeasureLaws.{Counting, counting-start, counting-next, counting-past, counting-done}
 use Rattle.substitution.proofs.measure.measure.Statement.{statement}
 use Rattle.substitution.proofs.measure.measure.Tie as tie
 
@@ -19,51 +22,89 @@ abbrev μ-loop : tie.MeasureT-loop
 loop-holds : tie.Need-loop-holds Inv-loop μ-loop
 loop-holds c = counting-start (c .before .before .pre) refl
 
+-- A turn.
+module _ (c : tie.Then1 Inv-loop μ-loop) where
+  abbrev src : List ℕ
+  src = c .before .before .before .before .before .args .src .now
+
+  abbrev word : ℕ
+  word = getD src (c .before .before .loop .i) 0
+
+  inside : (c .before .before .loop .i < length src) × (length src ≤ 2048) × (c .before .before .before .before .before .args .body ≤ c .before .before .loop .i)
+  inside = walking-within (c .before .before .loop .inv .walking) (c .if1 .taken)
+
 mul-t13 : tie.Need-mul-t13 Inv-loop μ-loop
-mul-t13 c = omega (arith, walking-within (c .before .before .loop .inv .walking) (c .if1 .taken))
+mul-t13 c = omega (arith, inside c)
 
 shared-slice-read-t15 : tie.Need-shared-slice-read-t15 Inv-loop μ-loop
-shared-slice-read-t15 c = walking-within (c .before .before .before .loop .inv .walking) (c .before .if1 .taken) .0
+shared-slice-read-t15 c = inside (c .before) .0
 
-argument-requires : tie.Need-argument-requires Inv-loop μ-loop
-argument-requires c κs = omega (arith, walking-depth (c .before .before .before .loop .inv .walking) (c .before .if1 .taken))
+-- Nothing moves.
+visit-requires : tie.Need-visit-requires Inv-loop μ-loop
+visit-requires c κs =
+    let l = c .before .before .before .loop in
+    record {
+      few = omega (arith, walking-depth (l .inv .walking) (c .before .if1 .taken));
+      movable = λ k e f. moves-up 0 _ (omega (arith, c .shared-slice-known2 .given (l .i) .fits));
+    }
 
-placed : (c : tie.After-argument Inv-loop μ-loop) → c .argument .result < 16
-placed c =
-    let l = c .before .before .before .before in
-    counting-place (l .loop .inv) (c .before .before .if1 .taken) (c .argument .ensures)
+-- An argument stands for the word.
+few-arguments : (c : tie.Then2 Inv-loop μ-loop) → c .before .visit .result .argument < 15
+few-arguments c = omega (arith, c .if2 .taken, c .before .before .before .before .before .loop .inv .few)
 
 mul-occurs : tie.Need-mul-occurs Inv-loop μ-loop
-mul-occurs c = omega (arith, placed c)
+mul-occurs c = omega (arith, few-arguments c)
 
 array-read-occurs : tie.Need-array-read-occurs Inv-loop μ-loop
-array-read-occurs c = placed c
+array-read-occurs c = omega (arith, few-arguments c)
 
 add-occurs : tie.Need-add-occurs Inv-loop μ-loop
 add-occurs c =
-    let l = c .before .before .before .before in
-    omega (arith, l .loop .inv .small (c .argument .result), walking-within (l .loop .inv .walking) (c .before .before .if1 .taken))
+    let t = c .before .before .before in
+    omega (arith, t .before .before .loop .inv .small (c .before .visit .result .argument), inside t)
 
 array-write-occurs : tie.Need-array-write-occurs Inv-loop μ-loop
-array-write-occurs c = placed c
+array-write-occurs c = omega (arith, few-arguments c)
+
+-- The scope behind the word.
+module _ (c : tie.After-visit Inv-loop μ-loop) where
+  abbrev turn : tie.Then1 Inv-loop μ-loop
+  turn = c .before .before
+
+  enters : Enters (c .visit .result .items) (c .visit .result .binders) (turn .before .before .loop .at .pending) (turn .before .before .loop .at .depth) (turn .before .before .loop .at .top) (turn .before .before .loop .room)
+  enters =
+      walking-enters (turn .before .before .loop .inv .walking) (turn .if1 .taken) (c .before .shared-slice-known2 .given (turn .before .before .loop .i) .fits) (c .visit .ensures .items-are) (c .visit .ensures .binders-are)
 
 enter-requires : tie.Need-enter-requires Inv-loop μ-loop
-enter-requires c κs =
-    let l = c .before .before .before .before .before .loop in
-    walking-enters (l .inv .walking) (c .before .before .before .if1 .taken) (c .before .before .shared-slice-known2 .given (l .i) .fits)
+enter-requires c κs = enters (c .before .before)
 
 add-i : tie.Need-add-i Inv-loop μ-loop
-add-i c =
-    omega (arith, walking-within (c .before .before .before .before .before .before .before .before .loop .inv .walking) (c .before .before .before .before .before .before .if1 .taken))
+add-i c = omega (arith, inside (turn (c .before .before .before .before .before)))
 
 loop-less : tie.Need-loop-less Inv-loop μ-loop
-loop-less c =
-    omega (arith, walking-within (c .before .before .before .before .before .before .before .before .loop .inv .walking) (c .before .before .before .before .before .before .if1 .taken))
+loop-less c = omega (arith, inside (turn (c .before .before .before .before .before)))
 
 loop-again : tie.Need-loop-again Inv-loop μ-loop
 loop-again c =
-    let a = c .before .before .before .before in
-    counting-next (a .before .before .before .before .loop .inv) (a .before .before .if1 .taken) (a .argument .ensures) (c .before .before .enter .ensures) (c .before .before .enter .kept .1 .1 .0)
+    let u = c .before .before .before .before .before in
+    let v = u .visit .ensures in
+    counting-next (turn u .before .before .loop .inv) (turn u .if1 .taken) (v .argument-is) (c .before .before .before .before .if2 .taken) (entered-word (word (turn u)) (v .items-are) (v .binders-are) (c .before .before .enter .ensures)) (c .before .before .enter .kept .1 .1 .1 .0)
+
+-- None does.
+enter-requires-2 : tie.Need-enter-requires-2 Inv-loop μ-loop
+enter-requires-2 c κs = enters (c .before .before)
+
+add-i-2 : tie.Need-add-i-2 Inv-loop μ-loop
+add-i-2 c = omega (arith, inside (turn (c .before .before .before .before .before)))
+
+loop-less-2 : tie.Need-loop-less-2 Inv-loop μ-loop
+loop-less-2 c = omega (arith, inside (turn (c .before .before .before .before .before)))
+
+loop-again-2 : tie.Need-loop-again-2 Inv-loop μ-loop
+loop-again-2 c =
+    let u = c .before .before .before .before .before in
+    let v = u .visit .ensures in
+    counting-past (turn u .before .before .loop .inv) (turn u .if1 .taken) (v .argument-is) (c .before .before .before .before .if2 .left) (entered-word (word (turn u)) (v .items-are) (v .binders-are) (c .before .before .enter2 .ensures)) (c .before .before .enter2 .kept .1 .1 .1 .0)
 
 same-length : tie.Need-same-length Inv-loop μ-loop
 same-length c = c .before .before .loop .inv .walking .same-length
@@ -82,7 +123,7 @@ measure-spec =
     loop-holds
     mul-t13
     shared-slice-read-t15
-    argument-requires
+    visit-requires
     mul-occurs
     array-read-occurs
     add-occurs
@@ -91,5 +132,9 @@ measure-spec =
     add-i
     loop-less
     loop-again
+    enter-requires-2
+    add-i-2
+    loop-less-2
+    loop-again-2
     same-length
     returns)

@@ -2,18 +2,13 @@
 use Prim.Native.Nat.{_+_, _-_}
 use mathlib.Core.Path.{_≡_}
 use native.Mathlib.Omega.{arith}
-use Rattle.words.specs.Bound.{bound}
-use Rattle.walk.proofs.DepthLaws.{bound-few}
 use Rattle.walk.proofs.EnterLaws.{entered-plain, entered-back, entered-kept, entered-last}
 use borrow.Author.Needs.{needs}
 use Rattle.walk.proofs.scope.enter.Statement.{statement}
 use Rattle.walk.proofs.scope.enter.Tie as tie
 
-bound-requires : tie.Need-bound-requires
-bound-requires c κs = search needs
-
 sub-free : tie.Need-sub-free
-sub-free c = c .before .before .before .before .pre .free (c .if2 .taken)
+sub-free c = c .before .before .pre .free (c .if2 .taken)
 
 sub-room : tie.Need-sub-room
 sub-room c = search needs
@@ -31,38 +26,31 @@ mul-room-2 : tie.Need-mul-room-2
 mul-room-2 c = search needs
 
 slice-write-room : tie.Need-slice-write-room
-slice-write-room c = omega (arith, c .before .before .before .before .pre .free (c .if2 .taken), c .before .before .before .before .pre .within)
+slice-write-room c = omega (arith, c .before .before .pre .free (c .if2 .taken), c .before .before .pre .within)
 
 add-t14 : tie.Need-add-t14
-add-t14 c = omega (arith, bound-few _ _ (c .before .before .bound .ensures), c .before .before .before .before .pre .shallow)
+add-t14 c = search needs
 
 same-length : tie.Need-same-length
 same-length c = search needs
 
 returns : tie.Need-returns
-returns c = entered-kept _ (c .before .before .before .before .pre) (c .before .before .bound .ensures) (λ q. omega (arith, q, c .before .if1 .taken)) (c .if2 .taken)
+returns c = entered-kept (c .before .before .pre) (c .before .if1 .taken) (c .if2 .taken)
 
 add-t19 : tie.Need-add-t19
-add-t19 c = omega (arith, bound-few _ _ (c .before .before .bound .ensures), c .before .before .before .before .pre .shallow)
+add-t19 c = search needs
 
 returns-2 : tie.Need-returns-2
-returns-2 c = entered-last _ (c .before .before .before .before .pre) (c .before .before .bound .ensures) (λ q. omega (arith, q, c .before .if1 .taken)) (c .if2 .left)
-
--- A word that binds nothing.
-unbound : (c : tie.Else1) → bound (c .before .before .before .args .word .0) ≡ 0
-unbound c = omega (arith, c .before .bound .ensures, c .if1 .left)
-
-arity-requires : tie.Need-arity-requires
-arity-requires c κs = search needs
+returns-2 c = entered-last (c .before .before .pre) (c .before .if1 .taken) (c .if2 .left)
 
 sub-left : tie.Need-sub-left
 sub-left c = search needs
 
 add-left : tie.Need-add-left
-add-left c = omega (arith, c .arity .ensures, c .before .before .before .before .pre .counts, c .before .before .before .before .pre .few)
+add-left c = search needs
 
 returns-3 : tie.Need-returns-3
-returns-3 c = entered-plain _ (c .before .before .before .before .before .pre) (c .before .arity .ensures) (unbound (c .before .before)) (λ z. omega (arith, z, c .if3 .taken))
+returns-3 c = entered-plain (c .before .before .pre) (omega (arith, c .before .if1 .left)) (λ z. omega (arith, z, c .if3 .taken))
 
 mul-scope : tie.Need-mul-scope
 mul-scope c = search needs
@@ -70,26 +58,25 @@ mul-scope c = search needs
 slice-read-scope : tie.Need-slice-read-scope
 slice-read-scope c = search needs
 
-cast-t22 : tie.Need-cast-t22
-cast-t22 c = omega (arith, c .slice-known2 .given (c .before .before .before .before .before .before .before .args .at .top) .fits)
+cast-t21 : tie.Need-cast-t21
+cast-t21 c = omega (arith, c .slice-known .given (c .before .before .before .before .args .at .top) .fits)
 
-add-t26 : tie.Need-add-t26
-add-t26 c = search needs
+add-t25 : tie.Need-add-t25
+add-t25 c = search needs
 
 returns-4 : tie.Need-returns-4
-returns-4 c = entered-back _ (c .before .before .before .before .before .before .before .pre) (c .before .before .before .arity .ensures) (unbound (c .before .before .before .before)) (omega (arith, c .before .before .if3 .left)) (c .before .if4 .taken)
+returns-4 c = entered-back (c .before .before .before .before .pre) (omega (arith, c .before .before .before .if1 .left)) (omega (arith, c .before .before .if3 .left)) (c .before .if4 .taken)
 
 returns-5 : tie.Need-returns-5
 returns-5 c =
-    let s = c .before .before .before .before .before .before in
-    let none : c .before .before .arity .result + (s .args .at .pending - 1) ≡ 0 = omega (arith, c .before .if3 .left) in
-    rw none at (entered-plain _ (s .pre) (c .before .before .arity .ensures) (unbound (c .before .before .before)) (λ z. omega (arith, c .if4 .left, s .pre .within)))
+    let s = c .before .before .before in
+    let none : s .args .items + (s .args .at .pending - 1) ≡ 0 = omega (arith, c .before .if3 .left) in
+    rw none at (entered-plain (s .pre) (omega (arith, c .before .before .if1 .left)) (λ z. omega (arith, c .if4 .left, s .pre .within)))
 
 pub enter-spec : {M : Type 1} → statement M
 enter-spec =
     tie.close
     (tie.spec
-    bound-requires
     sub-free
     sub-room
     cast-room
@@ -102,13 +89,12 @@ enter-spec =
     returns
     add-t19
     returns-2
-    arity-requires
     sub-left
     add-left
     returns-3
     mul-scope
     slice-read-scope
-    cast-t22
-    add-t26
+    cast-t21
+    add-t25
     returns-4
     returns-5)

@@ -1,0 +1,58 @@
+-- What a word brings, by its kind.
+use Prim.Native.Nat.{ℕ, _<_}
+use mathlib.Core.Path.{_≡_, refl, sym, _∙_, ap}
+use mathlib.Core.List.{[], _∷_}
+use native.Mathlib.Omega.{arith}
+use lib.IntN.{ℤ}
+use Rattle.calculus.specs.Words.{variableKind, kindOf, payloadOf}
+use Rattle.calculus.specs.Skip.{following, arity}
+use Rattle.words.specs.Bound.{binding, bound}
+use Rattle.walk.specs.Rewritten.{shifting, rewritten, place}
+use Rattle.walk.proofs.RewrittenLaws.{rewritten-other, place-other}
+use Rattle.substitution.specs.Kinds.{Visits}
+
+-- A word of another kind than a variable stands for itself.
+pub visits-kept : (k : ℕ) {w d n : ℕ} {z : ℤ} {argument word items binders : ℕ} → k ≡ kindOf w → variableKind < k
+    → (argument ≡ n) × (word ≡ w) × (items ≡ following k (payloadOf w)) × (binders ≡ binding k (payloadOf w)) → Visits w d n z argument word items binders
+visits-kept k {w} {d} {n} {z} is other e =
+    let another : kindOf w ≡ variableKind → ⊥ = λ q. omega (arith, is, q) in
+    record {
+      argument-is = e .0 ∙ sym (place-other n d w another);
+      moved = λ q. rewritten-other (shifting z) d w another ∙ ap (λ v. v ∷ []) (sym (e .1));
+      kept = λ q. e .1;
+      items-are = e .2 ∙ ap (λ m. following m (payloadOf w)) is;
+      binders-are = e .3 ∙ ap (λ m. binding m (payloadOf w)) is;
+    }
+
+-- A variable.
+module _ (w : ℕ) (variable : kindOf w ≡ variableKind) where
+  none-follow : 0 ≡ arity w
+  unfolding following
+  none-follow = rw variable
+
+  binds-none : 0 ≡ bound w
+  unfolding binding
+  binds-none = rw variable
+
+  -- An argument stands for it.
+  pub visits-argument : {d n : ℕ} {z : ℤ} {argument : ℕ} → argument ≡ place n d w → argument < n → Visits w d n z argument w 0 0
+  visits-argument is l =
+      record {
+        argument-is = is;
+        moved = λ q. absurd (omega (arith, q, l));
+        kept = λ q. refl;
+        items-are = none-follow;
+        binders-are = binds-none;
+      }
+
+  -- None does.
+  pub visits-moved : {d n : ℕ} {z : ℤ} {argument word items binders moved : ℕ} → n ≡ place n d w → rewritten (shifting z) d w ≡ moved ∷ []
+      → (argument ≡ n) × (word ≡ moved) × (items ≡ 0) × (binders ≡ 0) → Visits w d n z argument word items binders
+  visits-moved is one e =
+      record {
+        argument-is = e .0 ∙ is;
+        moved = λ q. one ∙ ap (λ v. v ∷ []) (sym (e .1));
+        kept = λ q. absurd (omega (arith, q, e .0));
+        items-are = e .2 ∙ none-follow;
+        binders-are = e .3 ∙ binds-none;
+      }
