@@ -5,14 +5,14 @@ use mathlib.Core.Path.{_≡_, refl, sym, _∙_, ap, ap₂}
 use mathlib.Core.List.{List, _++_}
 use native.Mathlib.Omega.{arith}
 use lib.IntN.{pos}
-use lib.ListN.{length, getD, drop, length-drop}
+use lib.ListN.{length, getD, drop}
 use lib.Seq.{drop-drop}
 use Rattle.calculus.specs.Term.{Terms, count}
 use Rattle.calculus.specs.Words.{workspaceMost, countBase, payloadOf, words, size}
 use Rattle.calculus.specs.Skip.{span}
 use Rattle.calculus.specs.First.{firstTerms}
 use Rattle.calculus.specs.Shift.{shift}
-use Rattle.calculus.proofs.SkipLaws.{span-bounded, span-add}
+use Rattle.calculus.proofs.SkipLaws.{span-add}
 use Rattle.calculus.proofs.FirstLaws.{span-items}
 use Rattle.calculus.specs.Accepted.{indexLimit}
 use Rattle.walk.specs.Rewritten.{substituting, rewritten, place}
@@ -83,13 +83,6 @@ module _ {ws : List ℕ} {body args n : ℕ} (h : Substitutable ws body args n) 
         ap (span 1) stands,
         chosen-end,
       )
-
-  pub chosen-rises : getD starts j 0 ≤ getD starts (j + 1) 0
-  chosen-rises = omega (arith, chosen-end)
-
-  pub chosen-short : getD starts (j + 1) 0 - getD starts j 0 ≤ workspaceMost
-  chosen-short =
-      omega (arith, chosen-end, span-bounded 1 (drop (getD starts j 0) ws), length-drop (getD starts j 0) ws, h .short)
 
   -- It is a part of the arguments' words.
   pub chosen-part : span 1 (drop (getD starts j 0) ws) ≤ span n (drop args ws)

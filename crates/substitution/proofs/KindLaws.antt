@@ -12,14 +12,14 @@ use Rattle.walk.proofs.RewrittenLaws.{rewritten-other, place-other}
 use Rattle.substitution.specs.Kinds.{Visits}
 
 -- A word of another kind than a variable stands for itself.
-pub visits-kept : (k : ℕ) {w d n : ℕ} {z : ℤ} {argument word items binders : ℕ} → k ≡ kindOf w → variableKind < k
-    → (argument ≡ n) × (word ≡ w) × (items ≡ following k (payloadOf w)) × (binders ≡ binding k (payloadOf w)) → Visits w d n z argument word items binders
+pub visits-kept : (k : ℕ) {w d n : ℕ} {z : ℤ} {at word items binders : ℕ} → k ≡ kindOf w → variableKind < k
+    → (at ≡ n) × (word ≡ w) × (items ≡ following k (payloadOf w)) × (binders ≡ binding k (payloadOf w)) → Visits w d n z at word items binders
 visits-kept k {w} {d} {n} {z} is other e =
     let another : kindOf w ≡ variableKind → ⊥ = λ q. omega (arith, is, q) in
     record {
-      argument-is = e .0 ∙ sym (place-other n d w another);
-      moved = λ q. rewritten-other (shifting z) d w another ∙ ap (λ v. v ∷ []) (sym (e .1));
-      kept = λ q. e .1;
+      place-is = e .0 ∙ sym (place-other n d w another);
+      stands = λ q. rewritten-other (shifting z) d w another ∙ ap (λ v. v ∷ []) (sym (e .1));
+      unchanged = λ q. e .1;
       items-are = e .2 ∙ ap (λ m. following m (payloadOf w)) is;
       binders-are = e .3 ∙ ap (λ m. binding m (payloadOf w)) is;
     }
@@ -35,24 +35,23 @@ module _ (w : ℕ) (variable : kindOf w ≡ variableKind) where
   binds-none = rw variable
 
   -- An argument stands for it.
-  pub visits-argument : {d n : ℕ} {z : ℤ} {argument : ℕ} → argument ≡ place n d w → argument < n → Visits w d n z argument w 0 0
+  pub visits-argument : {d n : ℕ} {z : ℤ} {at : ℕ} → at ≡ place n d w → at < n → Visits w d n z at w 0 0
   visits-argument is l =
       record {
-        argument-is = is;
-        moved = λ q. absurd (omega (arith, q, l));
-        kept = λ q. refl;
+        place-is = is;
+        stands = λ q. absurd (omega (arith, q, l));
+        unchanged = λ q. refl;
         items-are = none-follow;
         binders-are = binds-none;
       }
 
   -- None does.
-  pub visits-moved : {d n : ℕ} {z : ℤ} {argument word items binders moved : ℕ} → n ≡ place n d w → rewritten (shifting z) d w ≡ moved ∷ []
-      → (argument ≡ n) × (word ≡ moved) × (items ≡ 0) × (binders ≡ 0) → Visits w d n z argument word items binders
-  visits-moved is one e =
+  pub visits-moved : {d n : ℕ} {z : ℤ} {word : ℕ} → n ≡ place n d w → rewritten (shifting z) d w ≡ word ∷ [] → Visits w d n z n word 0 0
+  visits-moved {n = n} is one =
       record {
-        argument-is = e .0 ∙ is;
-        moved = λ q. one ∙ ap (λ v. v ∷ []) (sym (e .1));
-        kept = λ q. absurd (omega (arith, q, e .0));
-        items-are = e .2 ∙ none-follow;
-        binders-are = e .3 ∙ binds-none;
+        place-is = is;
+        stands = λ q. one;
+        unchanged = λ q. absurd (omega (arith, q));
+        items-are = none-follow;
+        binders-are = binds-none;
       }

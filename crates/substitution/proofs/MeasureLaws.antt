@@ -7,10 +7,9 @@ use native.Mathlib.Decide.{ℕ-discrete}
 use native.Mathlib.Numerals.{add-one}
 use native.Mathlib.Omega.{arith}
 use borrow.Author.Tests.{eq-eqb, ne-eqb}
-use lib.Dec.{eqb, ltb}
+use lib.Dec.{eqb}
 use lib.ListN.{length, getD, drop, set, replicate, length-set, drop-of-length-le}
 use lib.Seq.{drop-cons, getD-set-same, getD-set-other}
-use Rattle.calculus.specs.Words.{variableKind, kindOf, payloadOf}
 use Rattle.calculus.specs.Accepted.{argumentLimit}
 use Rattle.calculus.specs.Skip.{arity, span}
 use Rattle.words.specs.Bound.{bound}
@@ -21,17 +20,6 @@ use Rattle.walk.specs.Scopes.{toCome, Entered}
 use Rattle.walk.proofs.ScopeLaws.{come-first}
 use Rattle.substitution.proofs.WalkLaws.{starts-some}
 use Rattle.substitution.proofs.Walking.{Walking, walking-start, walking-done, walking-within, walking-number, walking-next, nothing-left}
-
--- A place is below n or n.
-pub place-most : (n d w : ℕ) → place n d w ≤ n
-unfolding place
-place-most n d w = go (eqb (kindOf w) variableKind) (ltb (payloadOf w) d) (ltb (payloadOf w - d) n)
-  where
-    go : (x y z : Bool) → cond x (cond y n (cond z (n - 1 - (payloadOf w - d)) n)) n ≤ n
-    go true true z = omega arith
-    go true false true = omega arith
-    go true false false = omega arith
-    go false y z = omega arith
 
 -- One more for a place.
 told-set : (occurs : List ℕ) (k j : ℕ) → k < length occurs → getD (set occurs k (getD occurs k 0 + 1)) j 0 ≡ getD occurs j 0 + cond (eqb k j) 1 0

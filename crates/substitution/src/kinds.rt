@@ -1,15 +1,16 @@
 // What shift and substitution do at a word, kind by kind ("Contraction").
 use walk::index::argument;
-use walk::index::shift_word;
+use walk::index::shift_variable;
 use words::Word;
 use words::kind::Kind;
 ghost use mathlib.Core.Path.{_≡_};
 ghost use Rattle.calculus.specs.Words.{variableKind, kindOf};
 ghost use Rattle.substitution.specs.Kinds.{Visitable, Visits};
 
-// What stands for a word, the argument at a place or a word, how many items follow it, and how many binders stand around these and not around the word.
+// What stands for a word, the argument at a place or, where the place is the count of arguments, a word; how many items follow it, and how many binders
+// stand around these and not around the word.
 pub struct Visited {
-    pub argument: usize,
+    pub place: usize,
     pub word: Word,
     pub items: usize,
     pub binders: u32,
@@ -19,7 +20,7 @@ pub struct Visited {
 // argument it is a shift. The kinds stand in the order of the maker's service notes.
 pub fn visit(word: Word, depth: u32, count: usize, distance: i32) -> Visited
     requires { ⌜ Visitable (word .0) depth count distance ⌝ }
-    ensures { λ r. ⌜ Visits (word .0) depth count distance (r .argument) (r .word .0) (r .items) (r .binders) ⌝ }
+    ensures { λ r. ⌜ Visits (word .0) depth count distance (r .place) (r .word .0) (r .items) (r .binders) ⌝ }
 {
     match word.classify() {
         Kind::Application => keep(word, count, 2, 0),
@@ -33,12 +34,12 @@ pub fn visit(word: Word, depth: u32, count: usize, distance: i32) -> Visited
     }
 }
 
-// The word itself stands for it.
+// The word stays, and what follows it is walked.
 fn keep(word: Word, count: usize, items: usize, binders: u32) -> Visited
-    ensures { λ r. ⌜ (r .argument ≡ count) × (r .word .0 ≡ word .0) × (r .items ≡ items) × (r .binders ≡ binders) ⌝ }
+    ensures { λ r. ⌜ (r .place ≡ count) × (r .word .0 ≡ word .0) × (r .items ≡ items) × (r .binders ≡ binders) ⌝ }
 {
     Visited {
-        argument: count,
+        place: count,
         word,
         items,
         binders,
@@ -48,16 +49,21 @@ fn keep(word: Word, count: usize, items: usize, binders: u32) -> Visited
 // An argument stands for a variable, or the variable with its index moved if it is free.
 fn put(word: Word, depth: u32, count: usize, distance: i32) -> Visited
     requires { ⌜ Visitable (word .0) depth count distance × (kindOf (word .0) ≡ variableKind) ⌝ }
-    ensures { λ r. ⌜ Visits (word .0) depth count distance (r .argument) (r .word .0) (r .items) (r .binders) ⌝ }
+    ensures { λ r. ⌜ Visits (word .0) depth count distance (r .place) (r .word .0) (r .items) (r .binders) ⌝ }
 {
     let place = argument(word, depth, count);
     if place < count {
         return Visited {
-            argument: place,
+            place,
             word,
             items: 0,
             binders: 0,
         };
     }
-    keep(shift_word(word, depth, distance), count, 0, 0)
+    Visited {
+        place: count,
+        word: shift_variable(word, depth, distance),
+        items: 0,
+        binders: 0,
+    }
 }

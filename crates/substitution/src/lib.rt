@@ -1,5 +1,5 @@
 // Simultaneous substitution over lent words, and the one shift of free indices that it is made of ("Contraction").
-pub mod kinds;
+mod kinds;
 pub mod measure;
 
 use kinds::visit;
@@ -44,7 +44,8 @@ fn starts(src: &[u32], args: usize, after: usize, count: usize) -> [usize; PLACE
     starts
 }
 
-// Copies the term from `at` up to `end` with its free indices moved by a signed distance, and returns the position after the copy.
+// Copies the term from `at` up to `end` with its free indices moved by a signed distance, and returns the position after the copy. A word of the copy stands as
+// far behind `out` as its own behind `at`.
 fn shift(
     src: &[u32],
     at: usize,
@@ -128,7 +129,7 @@ pub fn substitute(
         let depth = at.depth;
         let top = at.top;
         let here = visit(Word(src[i]), depth, count, lowered);
-        let j = here.argument;
+        let j = here.place;
         if j < count {
             next = raise(
                 src,

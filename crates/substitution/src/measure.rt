@@ -21,7 +21,7 @@ pub struct Measured {
     pub last: u32,
 }
 
-// One walk over the body at a position that has `count` arguments.
+// One walk over the body at a position that has `count` arguments. Nothing is written, so nothing moves: the distance is 0.
 pub fn measure(src: &[u32], body: usize, count: usize, room: &mut [u32]) -> Measured
     requires { ⌜ Measurable (now src) body count (now room) ⌝ }
     ensures { λ r. ⌜ Measures (now (src .entry)) body count (r .end) (r .last) (r .occurs) ⌝ }
@@ -38,7 +38,7 @@ pub fn measure(src: &[u32], body: usize, count: usize, room: &mut [u32]) -> Meas
     while at.pending > 0 {
         last = at.depth;
         let here = visit(Word(src[i]), last, count, 0);
-        let j = here.argument;
+        let j = here.place;
         if j < count {
             occurs[j] += 1;
             at = enter(here.items, here.binders, at, room);

@@ -1,4 +1,4 @@
--- Laws of `depths`: no more numbers than words, and each at most `countBase` for each word before it.
+-- Laws of a word's binders and of `depths`: no more numbers than words, and each at most `countBase` for each word before it.
 use Prim.Native.Nat.{ℕ, zero, suc, _+_, _*_, _≤_, _<_}
 use mathlib.Core.Path.{_≡_, refl, sym, _∙_, ap}
 use mathlib.Core.Bool.{Bool, true, false, cond}
@@ -53,11 +53,11 @@ bounded-replicate : (b n d : ℕ) (ds : List ℕ) → d ≤ b → Bounded b ds �
 bounded-replicate b zero d ds h p = p
 bounded-replicate b (suc n) d ds h p = (h, bounded-replicate b n d ds h p)
 
-pub bound-few : (k p : ℕ) {b : ℕ} → b ≡ bound k p → b ≤ countBase
+pub bound-few : (k p : ℕ) {b : ℕ} → b ≡ bound k p → b < countBase
 unfolding bound
 bound-few k p q = rw q (go (eqb k abstractionKind) (eqb k branchKind))
   where
-    go : (x y : Bool) → cond x 1 (cond y (countOf p) 0) ≤ countBase
+    go : (x y : Bool) → cond x 1 (cond y (countOf p) 0) < countBase
     go true y = omega arith
     go false true = omega arith
     go false false = omega arith

@@ -1,9 +1,12 @@
 -- A single word rewritten, by what it is.
 use Prim.Native.Nat.{ℕ, _-_, _≤_, _<_}
 use mathlib.Core.Path.{_≡_, sym, _∙_, ap}
+use mathlib.Core.Bool.{Bool, true, false, cond}
 use mathlib.Core.List.{[], _∷_}
 use native.Mathlib.Decide.{ℕ-discrete}
+use native.Mathlib.Omega.{arith}
 use borrow.Author.Tests.{lt-ltb, le-ltb, ne-eqb}
+use lib.Dec.{eqb, ltb}
 use lib.IntN.{ℤ}
 use lib.ListN.{length}
 use Rattle.calculus.specs.Term.{Term}
@@ -55,3 +58,14 @@ place-bound n d w h g = rw (h, lt-ltb (payloadOf w) d g)
 pub place-other : (n d w : ℕ) → (kindOf w ≡ variableKind → ⊥) → place n d w ≡ n
 unfolding place
 place-other n d w h = rw (ne-eqb (kindOf w) variableKind h)
+
+-- A place is below n or n.
+pub place-most : (n d w : ℕ) → place n d w ≤ n
+unfolding place
+place-most n d w = go (eqb (kindOf w) variableKind) (ltb (payloadOf w) d) (ltb (payloadOf w - d) n)
+  where
+    go : (x y z : Bool) → cond x (cond y n (cond z (n - 1 - (payloadOf w - d)) n)) n ≤ n
+    go true true z = omega arith
+    go true false true = omega arith
+    go true false false = omega arith
+    go false y z = omega arith

@@ -35,12 +35,12 @@ pub record Stands (k pending top : ℕ) (room : List ℕ) : Type 0 where
   pub scopes : 2 * (length room - top) ≤ k
   pub more : 2 ≤ pending → 2 * (length room - top) + 1 ≤ k
 
--- There is an item to come; behind its word come as many items as a payload counts, under so many binders more, and only one if there are any such
--- binders; and there is room for a scope if the walk may leave one.
+-- There is an item to come; at most as many items follow its word as a payload counts, under fewer binders more than a count's base, and only one where
+-- there is such a binder; and there is room for a scope if the walk may leave one.
 pub record Enters (items binders pending depth top : ℕ) (room : List ℕ) : Type 0 where
   pub counts : items ≤ payloadBound
   pub one : 0 < binders → items ≡ 1
-  pub few-binders : binders ≤ countBase
+  pub few-binders : binders < countBase
   pub pends : 1 ≤ pending
   pub few : pending ≤ workspaceMost
   pub shallow : depth < scopeBase

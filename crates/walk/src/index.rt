@@ -33,32 +33,28 @@ pub fn down(binders: u32) -> i32
     -(binders as i32)
 }
 
-// A word under so many binders of the moved part, its index moved if it is a free variable.
-pub fn shift_word(word: Word, depth: u32, distance: i32) -> Word
-    requires { ⌜ (kindOf (word .0) ≡ variableKind → Movable distance depth (var (payloadOf (word .0)))) ⌝ }
+// A variable under so many binders of the moved part, its index moved if it is free.
+pub fn shift_variable(word: Word, depth: u32, distance: i32) -> Word
+    requires { ⌜ (kindOf (word .0) ≡ variableKind) × Movable distance depth (var (payloadOf (word .0))) ⌝ }
     ensures { λ r. ⌜ rewritten (shifting distance) depth (word .0) ≡ r .0 ∷ [] ⌝ }
 {
     let index = word.payload();
-    if word.kind() == Word::VARIABLE {
-        if depth <= index {
-            return Word::new(Word::VARIABLE, moved(index, distance));
-        }
+    if depth <= index {
+        return Word::new(Word::VARIABLE, moved(index, distance));
     }
     word
 }
 
-// The place, from the first, of the one of `count` arguments that stands for a word under so many binders, and `count` where none does.
+// The place, from the first, of the one of `count` arguments that stands for a variable under so many binders, and `count` where none does.
 pub fn argument(word: Word, depth: u32, count: usize) -> usize
-    requires { ⌜ depth < distanceBound ⌝ }
+    requires { ⌜ (kindOf (word .0) ≡ variableKind) × (depth < distanceBound) ⌝ }
     ensures { λ r. ⌜ r ≡ place count depth (word .0) ⌝ }
 {
     let index = word.payload();
-    if word.kind() == Word::VARIABLE {
-        if depth <= index {
-            let k = moved(index, down(depth)) as usize;
-            if k < count {
-                return count - 1 - k;
-            }
+    if depth <= index {
+        let k = moved(index, down(depth)) as usize;
+        if k < count {
+            return count - 1 - k;
         }
     }
     count

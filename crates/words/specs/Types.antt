@@ -11,7 +11,7 @@ use Rattle.words.specs.declared.refusal.Refusal.the-variants as refusal
 use Rattle.words.specs.declared.answer.Answer as codeAnswer
 use Rattle.words.specs.declared.answer.Answer.the-variants as answer
 
--- The number of a kind. Below the base one number is no kind.
+-- The number of a kind, and 7, the one number below the base that is left, for no kind.
 abbrev pub kindNumber : codeKind.Kind → ℕ
 kindNumber kind.Application = applicationKind
 kindNumber kind.Abstraction = abstractionKind

@@ -16,8 +16,8 @@ use Rattle.calculus.specs.First.{firstTerms}
 use Rattle.words.proofs.RoomLaws.{room-of-length}
 use Rattle.walk.specs.Rewritten.{shifting, substituting, rewritten}
 use Rattle.substitution.specs.Results.{shifted}
+use Rattle.walk.proofs.RewrittenLaws.{place-most}
 use Rattle.substitution.proofs.Walking.{entered-word, walking-depth, walking-number, walking-enters, walking-free}
-use Rattle.substitution.proofs.MeasureLaws.{place-most}
 use Rattle.substitution.proofs.RewritingLaws.{placed-as, Rewriting, rewriting-start, rewriting-some, rewriting-within, rewriting-room, rewriting-lent, rewriting-next, rewriting-done}
 use Rattle.substitution.proofs.StartLaws.{Offsets}
 use Rattle.substitution.proofs.ArgumentLaws.{rewritten-body, movable-body}
@@ -93,7 +93,7 @@ visit-requires c κs =
       movable = λ v e. rw (distance t) (movable-body (start t .args .count) (depth t) (word t) (omega (arith, e)) (c .shared-slice-known2 .given (t .before .loop .i) .fits) v);
     }
 
-few-arguments : (c : tie.Then1 Inv-loop μ-loop) → c .before .visit .result .argument < argumentLimit
+few-arguments : (c : tie.Then1 Inv-loop μ-loop) → c .before .visit .result .place < argumentLimit
 few-arguments c = omega (arith, start (c .before .before .before) .pre .0 .substitutable .few, c .if1 .taken)
 
 -- An argument stands for the word, so where the arguments end was told.
@@ -106,15 +106,15 @@ placed c =
       offsets =
           t .before .before .before .starts .ensures
           (start t .pre .0 .after-is (t .before .loop .i) (inside t .2) (t .loop-test .taken)
-          (rw (walking-number (v .walking) (some t), ← c .before .visit .ensures .argument-is) (c .if1 .taken)));
+          (rw (walking-number (v .walking) (some t), ← c .before .visit .ensures .place-is) (c .if1 .taken)));
     }
 
 argument-words : (c : tie.Then1 Inv-loop μ-loop)
-    → words (shifted (src (c .before .before .before)) (getD (c .before .before .before .before .before .before .starts .result) (c .before .visit .result .argument) 0) (pos (depth (c .before .before .before))))
+    → words (shifted (src (c .before .before .before)) (getD (c .before .before .before .before .before .before .starts .result) (c .before .visit .result .place) 0) (pos (depth (c .before .before .before))))
     ≡ rewritten (substituting (xs (c .before .before .before))) (depth (c .before .before .before)) (word (c .before .before .before))
 argument-words c =
     let t = c .before .before .before in
-    sym (chosen-words (start t .pre .0 .substitutable) (placed c) (depth t) (word t) (few-binders t) (c .before .visit .ensures .argument-is) (c .if1 .taken))
+    sym (chosen-words (start t .pre .0 .substitutable) (placed c) (depth t) (word t) (few-binders t) (c .before .visit .ensures .place-is) (c .if1 .taken))
 
 mul-raise : tie.Need-mul-raise Inv-loop μ-loop
 mul-raise c = omega (arith, few-arguments c)
@@ -141,7 +141,7 @@ raise-requires : tie.Need-raise-requires Inv-loop μ-loop
 raise-requires c κs =
     let t = c .before .before .before .before .before in
     let p = start t .pre .0 in
-    let j = c .before .before .before .visit .ensures .argument-is in
+    let j = c .before .before .before .visit .ensures .place-is in
     let l = c .before .before .if1 .taken in (
       (
         chosen-shiftable (p .substitutable) (placed (c .before .before)) (depth t) (word t) (few-binders t) j l,
@@ -206,14 +206,14 @@ module _ (c : tie.Else1 Inv-loop μ-loop) where
   abbrev t : tie.In-loop Inv-loop μ-loop
   t = c .before .before .before
 
-  none-stands : c .before .visit .result .argument ≡ start t .args .count
-  none-stands = omega (arith, c .before .visit .ensures .argument-is, c .if1 .left, place-most (start t .args .count) (depth t) (word t))
+  none-stands : c .before .visit .result .place ≡ start t .args .count
+  none-stands = omega (arith, c .before .visit .ensures .place-is, c .if1 .left, place-most (start t .args .count) (depth t) (word t))
 
   one-word : rewritten (substituting (xs t)) (depth t) (word t) ≡ c .before .visit .result .word .0 ∷ []
   one-word =
-      rewritten-body (start t .args .count) (depth t) (word t) (omega (arith, none-stands, c .before .visit .ensures .argument-is)) (xs t) (start t .pre .0 .substitutable .args-count)
+      rewritten-body (start t .args .count) (depth t) (word t) (omega (arith, none-stands, c .before .visit .ensures .place-is)) (xs t) (start t .pre .0 .substitutable .args-count)
       ∙ ap (λ z. rewritten (shifting z) (depth t) (word t)) (sym (distance t))
-      ∙ c .before .visit .ensures .moved none-stands
+      ∙ c .before .visit .ensures .stands none-stands
 
   room-here : t .before .loop .next < length (t .before .loop .dst)
   room-here = omega (arith, room-left t, ap length one-word)

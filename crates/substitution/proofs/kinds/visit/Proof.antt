@@ -1,9 +1,10 @@
 -- `visit` meets its contract, arm by arm.
-use mathlib.Core.Path.{_≡_, sym, _∙_}
+use mathlib.Core.Path.{sym, _∙_}
 use native.Mathlib.Omega.{arith}
 use borrow.Author.Needs.{needs}
 use mir.Syntax.{w32}
 use mir.ValLaws.{toZ-ofZ}
+use Rattle.calculus.specs.Words.{abstractionKind, applicationKind, constructorKind, caseKind, branchKind, numeralKind}
 use Rattle.calculus.specs.Skip.{following}
 use Rattle.words.specs.Bound.{binding}
 use Rattle.substitution.proofs.KindLaws.{visits-kept}
@@ -83,11 +84,11 @@ keep-requires-7 c κs = search needs
 
 returns : tie.Need-returns
 unfolding following binding
-returns c = visits-kept 2 (rw (c .before .enum-told .given .1) at (c .before .before .before .classify .ensures)) (omega arith) (c .keep .ensures)
+returns c = visits-kept applicationKind (rw (c .before .enum-told .given .1) at (c .before .before .before .classify .ensures)) (omega arith) (c .keep .ensures)
 
 returns-2 : tie.Need-returns-2
 unfolding following binding
-returns-2 c = visits-kept 1 (rw (c .before .enum-told2 .given .1) at (c .before .before .before .classify .ensures)) (omega arith) (c .keep2 .ensures)
+returns-2 c = visits-kept abstractionKind (rw (c .before .enum-told2 .given .1) at (c .before .before .before .classify .ensures)) (omega arith) (c .keep2 .ensures)
 
 returns-3 : tie.Need-returns-3
 returns-3 c =
@@ -98,23 +99,23 @@ returns-4 : tie.Need-returns-4
 unfolding following binding
 returns-4 c =
     let e = c .keep3 .ensures in
-    visits-kept 3 (rw (c .before .before .enum-told4 .given .1) at (c .before .before .before .before .classify .ensures)) (omega arith) (e .0, e .1, omega (arith, e .2, c .before .count .ensures), e .3)
+    visits-kept constructorKind (rw (c .before .before .enum-told4 .given .1) at (c .before .before .before .before .classify .ensures)) (omega arith) (e .0, e .1, omega (arith, e .2, c .before .count .ensures), e .3)
 
 returns-5 : tie.Need-returns-5
 unfolding following binding
 returns-5 c =
     let e = c .keep4 .ensures in
-    visits-kept 4 (rw (c .before .before .enum-told5 .given .1) at (c .before .before .before .before .classify .ensures)) (omega arith) (e .0, e .1, omega (arith, e .2, c .before .payload .ensures), e .3)
+    visits-kept caseKind (rw (c .before .before .enum-told5 .given .1) at (c .before .before .before .before .classify .ensures)) (omega arith) (e .0, e .1, omega (arith, e .2, c .before .payload .ensures), e .3)
 
 returns-6 : tie.Need-returns-6
 unfolding following binding
 returns-6 c =
     let e = c .keep5 .ensures in
-    visits-kept 5 (rw (c .before .before .enum-told6 .given .1) at (c .before .before .before .before .classify .ensures)) (omega arith) (e .0, e .1, e .2, e .3 ∙ c .before .count2 .ensures)
+    visits-kept branchKind (rw (c .before .before .enum-told6 .given .1) at (c .before .before .before .before .classify .ensures)) (omega arith) (e .0, e .1, e .2, e .3 ∙ c .before .count2 .ensures)
 
 returns-7 : tie.Need-returns-7
 unfolding following binding
-returns-7 c = visits-kept 6 (rw (c .before .enum-told7 .given .1) at (c .before .before .before .classify .ensures)) (omega arith) (c .keep6 .ensures)
+returns-7 c = visits-kept numeralKind (rw (c .before .enum-told7 .given .1) at (c .before .before .before .classify .ensures)) (omega arith) (c .keep6 .ensures)
 
 returns-8 : tie.Need-returns-8
 unfolding following binding

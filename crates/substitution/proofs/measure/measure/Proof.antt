@@ -49,7 +49,7 @@ visit-requires c κs =
     }
 
 -- An argument stands for the word.
-few-arguments : (c : tie.Then2 Inv-loop μ-loop) → c .before .visit .result .argument < 15
+few-arguments : (c : tie.Then2 Inv-loop μ-loop) → c .before .visit .result .place < 15
 few-arguments c = omega (arith, c .if2 .taken, c .before .before .before .before .before .loop .inv .few)
 
 mul-occurs : tie.Need-mul-occurs Inv-loop μ-loop
@@ -61,7 +61,7 @@ array-read-occurs c = omega (arith, few-arguments c)
 add-occurs : tie.Need-add-occurs Inv-loop μ-loop
 add-occurs c =
     let t = c .before .before .before in
-    omega (arith, t .before .before .loop .inv .small (c .before .visit .result .argument), inside t)
+    omega (arith, t .before .before .loop .inv .small (c .before .visit .result .place), inside t)
 
 array-write-occurs : tie.Need-array-write-occurs Inv-loop μ-loop
 array-write-occurs c = omega (arith, few-arguments c)
@@ -88,7 +88,7 @@ loop-again : tie.Need-loop-again Inv-loop μ-loop
 loop-again c =
     let u = c .before .before .before .before .before in
     let v = u .visit .ensures in
-    counting-next (turn u .before .before .loop .inv) (turn u .if1 .taken) (v .argument-is) (c .before .before .before .before .if2 .taken) (entered-word (word (turn u)) (v .items-are) (v .binders-are) (c .before .before .enter .ensures)) (c .before .before .enter .kept .1 .1 .1 .0)
+    counting-next (turn u .before .before .loop .inv) (turn u .if1 .taken) (v .place-is) (c .before .before .before .before .if2 .taken) (entered-word (word (turn u)) (v .items-are) (v .binders-are) (c .before .before .enter .ensures)) (c .before .before .enter .kept .1 .1 .1 .0)
 
 -- None does.
 enter-requires-2 : tie.Need-enter-requires-2 Inv-loop μ-loop
@@ -104,7 +104,7 @@ loop-again-2 : tie.Need-loop-again-2 Inv-loop μ-loop
 loop-again-2 c =
     let u = c .before .before .before .before .before in
     let v = u .visit .ensures in
-    counting-past (turn u .before .before .loop .inv) (turn u .if1 .taken) (v .argument-is) (c .before .before .before .before .if2 .left) (entered-word (word (turn u)) (v .items-are) (v .binders-are) (c .before .before .enter2 .ensures)) (c .before .before .enter2 .kept .1 .1 .1 .0)
+    counting-past (turn u .before .before .loop .inv) (turn u .if1 .taken) (v .place-is) (c .before .before .before .before .if2 .left) (entered-word (word (turn u)) (v .items-are) (v .binders-are) (c .before .before .enter2 .ensures)) (c .before .before .enter2 .kept .1 .1 .1 .0)
 
 same-length : tie.Need-same-length Inv-loop μ-loop
 same-length c = c .before .before .loop .inv .walking .same-length

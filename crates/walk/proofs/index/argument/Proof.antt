@@ -7,41 +7,35 @@ use lib.IntN.{pos, negℤ}
 use mir.Syntax.{w32}
 use mir.Val.{toZ, ofZ}
 use mir.ValLaws.{toZ-ofZ}
-use Rattle.calculus.specs.Words.{variableKind, kindOf, payloadOf}
+use Rattle.calculus.specs.Words.{payloadOf}
 use Rattle.calculus.specs.Shift.{move}
 use Rattle.walk.specs.Index.{Moves}
 use Rattle.calculus.proofs.Move.{move-down}
 use Rattle.walk.proofs.MoveLaws.{moves-down}
-use Rattle.walk.proofs.RewrittenLaws.{place-argument, place-past, place-bound, place-other}
+use Rattle.walk.proofs.RewrittenLaws.{place-argument, place-past, place-bound}
 use Rattle.walk.proofs.index.argument.Statement.{statement}
 use Rattle.walk.proofs.index.argument.Tie as tie
 
 payload-requires : tie.Need-payload-requires
 payload-requires c κs = search needs
 
-kind-requires : tie.Need-kind-requires
-kind-requires c κs = search needs
-
 down-requires : tie.Need-down-requires
 down-requires c κs = search needs
 
--- A word that is a variable and not bound inside the body.
+-- The variable is not bound inside the body.
 module _ (c : tie.After-down) where
   abbrev start : tie.Start
-  start = c .before .before .before .before .before
-
-  variable : kindOf (start .args .word .0) ≡ variableKind
-  variable = sym (c .before .before .before .kind .ensures) ∙ c .before .before .if1 .taken
+  start = c .before .before .before
 
   free : start .args .depth ≤ payloadOf (start .args .word .0)
-  free = rw (c .before .before .before .before .payload .ensures) at (c .before .if2 .taken)
+  free = rw (c .before .before .payload .ensures) at (c .before .if1 .taken)
 
   distance : toZ w32 (ofZ w32 (c .down .result)) ≡ negℤ (pos (start .args .depth))
   distance = toZ-ofZ w32 (c .down .result) (record { sfits = c .down .ok }) ∙ c .down .ensures
 
 moved-requires : tie.Need-moved-requires
 moved-requires c κs =
-    subst₂ Moves (sym (distance c)) (sym (c .before .before .before .before .payload .ensures))
+    subst₂ Moves (sym (distance c)) (sym (c .before .before .payload .ensures))
     (moves-down (start c .args .depth) (payloadOf (start c .args .word .0)) (free c) (omega (arith, start c .good .0)))
 
 cast-k : tie.Need-cast-k
@@ -50,7 +44,7 @@ cast-k c = search needs
 counted : (c : tie.After-moved) → c .moved .result ≡ payloadOf (start (c .before) .args .word .0) - start (c .before) .args .depth
 counted c =
     c .moved .ensures
-    ∙ ap₂ move (distance (c .before)) (c .before .before .before .before .before .payload .ensures)
+    ∙ ap₂ move (distance (c .before)) (c .before .before .before .payload .ensures)
     ∙ move-down (start (c .before) .args .depth) (payloadOf (start (c .before) .args .word .0))
 
 sub-result : tie.Need-sub-result
@@ -63,32 +57,24 @@ returns : tie.Need-returns
 returns c =
     let d = c .before .before in
     let a = start d .args in
-    ap (λ k. a .count - 1 - k) (counted (c .before)) ∙ sym (place-argument (a .count) (a .depth) (a .word .0) (variable d) (free d) (omega (arith, counted (c .before))))
+    ap (λ k. a .count - 1 - k) (counted (c .before)) ∙ sym (place-argument (a .count) (a .depth) (a .word .0) (start d .pre .0) (free d) (omega (arith, counted (c .before))))
 
 returns-2 : tie.Need-returns-2
 returns-2 c =
     let d = c .before .before in
     let a = start d .args in
-    sym (place-past (a .count) (a .depth) (a .word .0) (variable d) (free d) (omega (arith, counted (c .before))))
+    sym (place-past (a .count) (a .depth) (a .word .0) (start d .pre .0) (free d) (omega (arith, counted (c .before))))
 
 returns-3 : tie.Need-returns-3
 returns-3 c =
-    let a = c .before .before .before .before .args in
-    sym (place-bound (a .count) (a .depth) (a .word .0)
-    (sym (c .before .before .kind .ensures) ∙ c .before .if1 .taken)
-    (rw (c .before .before .before .payload .ensures) at (c .if2 .left)))
-
-returns-4 : tie.Need-returns-4
-returns-4 c =
-    let a = c .before .before .before .args in
-    sym (place-other (a .count) (a .depth) (a .word .0) (λ q. c .if1 .left (c .before .kind .ensures ∙ q)))
+    let s = c .before .before in
+    sym (place-bound (s .args .count) (s .args .depth) (s .args .word .0) (s .pre .0) (rw (c .before .payload .ensures) at (c .if1 .left)))
 
 pub argument-spec : {M : Type 1} → statement M
 argument-spec =
     tie.close
     (tie.spec
     payload-requires
-    kind-requires
     down-requires
     moved-requires
     cast-k
@@ -97,4 +83,4 @@ argument-spec =
     returns
     returns-2
     returns-3
-    returns-4)
+    )
