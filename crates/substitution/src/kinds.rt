@@ -17,7 +17,7 @@ pub struct Visited {
 }
 
 // The work at a word under so many binders, where `count` arguments are put for the first free indices and the others move by a distance; without an
-// argument it is a shift. The kinds stand in the order of the maker's service notes.
+// argument it is a shift. The kinds stand in the order of the maker's service notes; a word that is kept comes with its items and the binders around them.
 pub fn visit(word: Word, depth: u32, count: usize, distance: i32) -> Visited
     requires { ⌜ Visitable (word .0) depth count distance ⌝ }
     ensures { λ r. ⌜ Visits (word .0) depth count distance (r .place) (r .word .0) (r .items) (r .binders) ⌝ }
