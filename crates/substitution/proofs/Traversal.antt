@@ -94,7 +94,7 @@ flat-shift z t = flat-inside (shifting z) 0 t
 pub flat-subst : (xs : Terms) (t : Term) → flat (substituting xs) (inside 0 t) ≡ words (subst xs 0 t)
 flat-subst xs t = flat-inside (substituting xs) 0 t
 
--- What `shift_word` asks of a word.
+-- A word that is a variable may be moved.
 abbrev pub MovableWord : ℤ → (d w : ℕ) → Type 0
 MovableWord z = IfVariable (MayMove z)
 
