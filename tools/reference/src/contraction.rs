@@ -1,6 +1,7 @@
 //! Shift, substitution, the three rules and the leftmost outermost step.
 
 use crate::term::{abs, app, branch, case, con, num, var, Branch, Term};
+use std::fmt;
 
 /// An index moved by a signed distance.
 fn moved(index: u32, distance: i64) -> u32 {
@@ -68,11 +69,37 @@ pub fn church(n: u32) -> Term {
     abs(abs((0..n).fold(var(0), |term, _| app(var(1), term))))
 }
 
+/// A rule of contraction; the case rule is two by what it takes, a branch of
+/// the tag or the default.
+#[derive(Clone, Copy, Debug, PartialEq, Eq)]
+pub enum Rule {
+    Beta,
+    Case,
+    Default,
+    Numeral,
+}
+
+impl fmt::Display for Rule {
+    fn fmt(&self, f: &mut fmt::Formatter<'_>) -> fmt::Result {
+        f.pad(match self {
+            Rule::Beta => "beta",
+            Rule::Case => "case",
+            Rule::Default => "default",
+            Rule::Numeral => "numeral",
+        })
+    }
+}
+
 /// What the term becomes if it is itself a redex.
 pub fn contractum(term: &Term) -> Option<Term> {
+    contraction(term).map(|(_, next)| next)
+}
+
+/// The rule by which the term is itself a redex, and what it becomes.
+fn contraction(term: &Term) -> Option<(Rule, Term)> {
     match term {
         Term::App(function, argument) => match function.as_ref() {
-            Term::Abs(body) => Some(substitute(body, std::slice::from_ref(argument))),
+            Term::Abs(body) => Some((Rule::Beta, substitute(body, std::slice::from_ref(argument)))),
             _ => None,
         },
         Term::Case {
@@ -82,24 +109,64 @@ pub fn contractum(term: &Term) -> Option<Term> {
             Term::Con { tag, args } => taken(branches, *tag, args),
             _ => None,
         },
-        Term::Num(numeral) => Some(church(*numeral)),
+        Term::Num(numeral) => Some((Rule::Numeral, church(*numeral))),
         _ => None,
     }
 }
 
 /// What a case of a constructor becomes. A branch of the tag decides alone,
 /// taken or not; where there is none, a default's body stays as it is.
-fn taken(branches: &[Branch], tag: u32, args: &[Term]) -> Option<Term> {
+fn taken(branches: &[Branch], tag: u32, args: &[Term]) -> Option<(Rule, Term)> {
     let mut listed = branches.iter().filter(|branch| !branch.is_default());
     match listed.find(|branch| branch.tag == tag) {
         Some(branch) => {
             let fits = branch.bound as usize == args.len();
-            fits.then(|| substitute(&branch.body, args))
+            fits.then(|| (Rule::Case, substitute(&branch.body, args)))
         }
         None => {
             let default = branches.iter().find(|branch| branch.is_default());
-            default.map(|branch| branch.body.clone())
+            default.map(|branch| (Rule::Default, branch.body.clone()))
         }
+    }
+}
+
+/// A redex: the position of its first word, counted from 0, and its rule.
+#[derive(Clone, Copy, Debug, PartialEq, Eq)]
+pub struct Redex {
+    pub position: usize,
+    pub rule: Rule,
+}
+
+/// The leftmost outermost redex; none if the term is normal.
+pub fn redex(term: &Term) -> Option<Redex> {
+    let mut position = 0;
+    let rule = first_rule(term, &mut position)?;
+    Some(Redex { position, rule })
+}
+
+/// Passes the words before the leftmost outermost redex, or all if there is
+/// none.
+fn first_rule(term: &Term, passed: &mut usize) -> Option<Rule> {
+    if let Some((rule, _)) = contraction(term) {
+        return Some(rule);
+    }
+    *passed += 1;
+    match term {
+        Term::Var(_) | Term::Num(_) => None,
+        Term::Abs(body) => first_rule(body, passed),
+        Term::App(function, argument) => {
+            first_rule(function, passed).or_else(|| first_rule(argument, passed))
+        }
+        Term::Con { args, .. } => args.iter().find_map(|arg| first_rule(arg, passed)),
+        Term::Case {
+            scrutinee,
+            branches,
+        } => first_rule(scrutinee, passed).or_else(|| {
+            branches.iter().find_map(|branch| {
+                *passed += 1;
+                first_rule(&branch.body, passed)
+            })
+        }),
     }
 }
 

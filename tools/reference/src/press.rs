@@ -48,30 +48,50 @@ impl Rounds {
     }
 }
 
+/// One round of two terms, in workspaces of `capacity` words: the verdict that
+/// ends it before it is made, or the next term of each side that is not normal.
+/// `budget` is what earlier rounds left.
+pub fn round(
+    left: &Term,
+    right: &Term,
+    capacity: usize,
+    budget: u32,
+) -> Result<[Option<Term>; 2], Verdict> {
+    if left == right {
+        return Err(Verdict::Same);
+    }
+    let next = [step(left), step(right)];
+    let moving = contractions(&next);
+    if moving == 0 {
+        return Err(Verdict::Different);
+    }
+    if moving > budget {
+        return Err(Verdict::Budget);
+    }
+    if next.iter().flatten().any(|term| term.size() > capacity) {
+        return Err(Verdict::Full);
+    }
+    Ok(next)
+}
+
+/// The contractions of a round: one for each side that has a next term.
+pub fn contractions(next: &[Option<Term>; 2]) -> u32 {
+    next.iter().flatten().count() as u32
+}
+
 /// Rounds from two terms, in workspaces of `capacity` words.
 pub fn rounds(mut left: Term, mut right: Term, capacity: usize, budget: u32) -> Rounds {
     let mut spent = 0;
     let verdict = loop {
-        if left == right {
-            break Verdict::Same;
+        match round(&left, &right, capacity, budget - spent) {
+            Err(verdict) => break verdict,
+            Ok(next) => {
+                spent += contractions(&next);
+                let [next_left, next_right] = next;
+                left = next_left.unwrap_or(left);
+                right = next_right.unwrap_or(right);
+            }
         }
-        let next = (step(&left), step(&right));
-        let moving = u32::from(next.0.is_some()) + u32::from(next.1.is_some());
-        if moving == 0 {
-            break Verdict::Different;
-        }
-        if spent + moving > budget {
-            break Verdict::Budget;
-        }
-        if [&next.0, &next.1]
-            .iter()
-            .any(|side| side.as_ref().is_some_and(|term| term.size() > capacity))
-        {
-            break Verdict::Full;
-        }
-        left = next.0.unwrap_or(left);
-        right = next.1.unwrap_or(right);
-        spent += moving;
     };
     Rounds {
         verdict,

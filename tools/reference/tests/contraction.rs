@@ -3,11 +3,17 @@
 
 mod common;
 
+use common::census::Census;
 use common::{answer, different, next, pressed, term};
-use reference::contraction::{church, contractum, shift, step, substitute};
+use reference::contraction::{church, contractum, redex, shift, step, substitute, Redex, Rule};
+use reference::generate::pairs::pair;
+use reference::generate::terms::subterms;
+use reference::on_large_stack;
 use reference::press::Verdict::{Budget, Same};
-use reference::term::{abs, app, branch, case, con, default, num, var};
-use reference::words::words;
+use reference::random::Random;
+use reference::term::{abs, app, branch, case, con, default, num, var, Term};
+use reference::words::{kind, kind_of, words};
+use std::iter::successors;
 
 #[test]
 fn argument_rises_under_a_binder() {
@@ -434,4 +440,109 @@ fn example_of_gregoire_and_leroy() {
     assert_eq!(next(&left), Some(vec![1, 2, 2, 1, 0, 0, 1, 0]));
     assert_eq!(pressed(&left, &right, 16, 2), answer(Same, 2, 5, 5));
     assert_eq!(words(&term(&right)), right);
+}
+
+// Where the leftmost outermost redex stands, and its rule.
+
+/// Position and rule of the redex in a term of these words.
+fn found(of: &[u32]) -> Option<(usize, Rule)> {
+    redex(&term(of)).map(|Redex { position, rule }| (position, rule))
+}
+
+#[test]
+fn each_rule_is_named_at_its_first_word() {
+    // (\ 0) f0 as a whole, under a binder and as an argument of f0.
+    assert_eq!(found(&[2, 1, 0, 0]), Some((0, Rule::Beta)));
+    assert_eq!(found(&[1, 2, 1, 0, 0]), Some((1, Rule::Beta)));
+    assert_eq!(found(&[2, 0, 2, 1, 0, 0]), Some((2, Rule::Beta)));
+    // The bench pair: the outer application is none, its function is one.
+    assert_eq!(found(&[2, 2, 1, 1, 8, 0, 8]), Some((1, Rule::Beta)));
+    // case 2(f5) of 1/0 -> f0, 2/1 -> 0.
+    assert_eq!(found(&[20, 267, 40, 133, 0, 269, 0]), Some((0, Rule::Case)));
+    // case 3() of _ -> f7, alone and as the second argument of 1(f0, ..).
+    assert_eq!(found(&[12, 387, 5, 56]), Some((0, Rule::Default)));
+    assert_eq!(found(&[147, 0, 12, 387, 5, 56]), Some((2, Rule::Default)));
+    // case 1() of _ -> f7, 1/0 -> f8 takes the branch of the tag.
+    assert_eq!(found(&[20, 131, 5, 56, 133, 64]), Some((0, Rule::Case)));
+    // Numeral 3 alone, applied, and as a subject.
+    assert_eq!(found(&[30]), Some((0, Rule::Numeral)));
+    assert_eq!(found(&[2, 22, 30]), Some((1, Rule::Numeral)));
+    assert_eq!(found(&[12, 6, 5, 56]), Some((1, Rule::Numeral)));
+}
+
+#[test]
+fn words_of_branches_count_in_a_position() {
+    // case f0 of 1/0 -> f1, 2/1 -> (\ 0) 0: words 0 to 4 are the case, f0, the
+    // first branch with its body, and the second branch.
+    assert_eq!(
+        found(&[20, 0, 133, 8, 269, 2, 1, 0, 0]),
+        Some((5, Rule::Beta))
+    );
+    // A stuck case, case 1(f0) of 1/0 -> case 2() of _ -> f0.
+    assert_eq!(
+        found(&[12, 139, 0, 133, 12, 259, 5, 0]),
+        Some((4, Rule::Default))
+    );
+}
+
+#[test]
+fn a_normal_term_has_no_redex() {
+    for normal in [&[0][..], &[1, 2, 8, 0], &[12, 139, 0, 133, 0], &[2, 131, 0]] {
+        assert_eq!(found(normal), None);
+    }
+}
+
+/// The parts of a term that are redexes, each with its first word's position,
+/// told by the words alone which of them begin a part.
+fn redexes(of: &Term) -> Vec<(usize, &Term)> {
+    let list = words(of);
+    let starts = (0..list.len()).filter(|at| kind_of(list[*at]) != kind::BRANCH);
+    let parts = subterms(of).into_iter().map(|(part, _)| part);
+    let all = starts.zip(parts);
+    all.filter(|(_, part)| contractum(part).is_some()).collect()
+}
+
+/// The rule of a part that is a redex.
+fn rule_of(part: &Term) -> Rule {
+    match part {
+        Term::App(..) => Rule::Beta,
+        Term::Num(_) => Rule::Numeral,
+        Term::Case {
+            scrutinee,
+            branches,
+        } => match scrutinee.as_ref() {
+            Term::Con { tag, .. } if branches.iter().all(|branch| branch.tag != *tag) => {
+                Rule::Default
+            }
+            _ => Rule::Case,
+        },
+        _ => panic!("no redex: {part:?}"),
+    }
+}
+
+#[test]
+fn a_step_contracts_the_redex_that_is_found() {
+    on_large_stack(|| {
+        let mut census = Census::default();
+        for case in 0..2_000 {
+            let (left, right) = pair(&mut Random::new(13, case));
+            for first in [left, right] {
+                for term in successors(Some(first), step).take(4) {
+                    let Some(&(position, part)) = redexes(&term).first() else {
+                        assert_eq!((redex(&term), step(&term)), (None, None));
+                        census.meet("normal");
+                        continue;
+                    };
+                    let rule = rule_of(part);
+                    assert_eq!(redex(&term), Some(Redex { position, rule }));
+                    let contracted = contractum(part).expect("the part is a redex");
+                    let mut list = words(&term);
+                    list.splice(position..position + part.size(), words(&contracted));
+                    assert_eq!(step(&term).map(|next| words(&next)), Some(list));
+                    census.meet(rule.to_string());
+                }
+            }
+        }
+        census.assert_reaches(100, &["normal", "beta", "case", "default", "numeral"]);
+    });
 }
