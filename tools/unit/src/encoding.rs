@@ -11,11 +11,10 @@
 //! one, and every bit past the count is 0.
 
 use std::fmt;
-use std::iter::repeat_n;
 
 use crate::limits::MAX_INDEX;
-use crate::notation::quoted;
 use crate::term::{Node, Term};
+use crate::text::quoted;
 use crate::words::{words_text, WordError};
 
 const BYTE: usize = 8;
@@ -37,16 +36,9 @@ impl Term {
     /// The bits of the term's encoding, or the first word for which it has none.
     pub fn bits(&self) -> Result<Vec<bool>, WordError> {
         let mut bits = Vec::new();
-        // The binders around each term that is to come, the next one last.
-        let mut binders = vec![0];
-        for (position, &node) in self.nodes.iter().enumerate() {
-            let around = binders.pop().expect("a term is whole");
-            bits.extend(node_bits(node, around).map_err(|reason| WordError {
-                place: position + 1,
-                reason,
-            })?);
-            let within = around + usize::from(node == Node::Abstraction);
-            binders.extend(repeat_n(within, node.children()));
+        for (place, (node, binders)) in (1..).zip(self.with_binders()) {
+            let word = node_bits(node, binders).map_err(|reason| WordError { place, reason });
+            bits.extend(word?);
         }
         Ok(bits)
     }

@@ -39,8 +39,15 @@ impl fmt::Display for ProgramError {
 
 /// Runs the command on the input and takes the line that it prints.
 pub fn ask(command: &mut Command, input: &[u8]) -> Result<String, ProgramError> {
-    let output = run(command, input).map_err(ProgramError::NotRun)?;
-    line(output)
+    match ask_lines(command, input)? {
+        line if !line.is_empty() && !line.contains('\n') => Ok(line),
+        _ => Err(ProgramError::NoLine),
+    }
+}
+
+/// Runs the command on the input and takes the lines that it prints, without the last newline.
+pub fn ask_lines(command: &mut Command, input: &[u8]) -> Result<String, ProgramError> {
+    lines(run(command, input).map_err(ProgramError::NotRun)?)
 }
 
 fn run(command: &mut Command, input: &[u8]) -> io::Result<Output> {
@@ -63,14 +70,6 @@ fn feed(mut stdin: ChildStdin, input: &[u8]) -> io::Result<()> {
     match stdin.write_all(input) {
         Err(error) if error.kind() == ErrorKind::BrokenPipe => Ok(()),
         result => result,
-    }
-}
-
-/// The one line that a program printed, without its newline.
-fn line(output: Output) -> Result<String, ProgramError> {
-    match lines(output)? {
-        line if !line.is_empty() && !line.contains('\n') => Ok(line),
-        _ => Err(ProgramError::NoLine),
     }
 }
 

@@ -1,5 +1,7 @@
 //! The syntax of terms.
 
+use std::iter::repeat_n;
+
 use crate::word::{ABSTRACTION, APPLICATION, BRANCH, CASE, CONSTRUCTOR, NUMERAL, VARIABLE};
 
 /// The head of a term or branch; what it governs follows it in prefix order.
@@ -23,6 +25,15 @@ impl Node {
             Node::Application => 2,
             Node::Constructor { arguments, .. } => arguments,
             Node::Case { branches } => branches + 1,
+        }
+    }
+
+    /// The number of variables that it binds in what is below.
+    pub(crate) fn binds(self) -> usize {
+        match self {
+            Node::Abstraction => 1,
+            Node::Branch { bound, .. } => bound as usize,
+            _ => 0,
         }
     }
 
@@ -51,5 +62,42 @@ impl Term {
     /// The number of its words.
     pub fn length(&self) -> usize {
         self.nodes.len()
+    }
+
+    /// Each node with the number of binders around it.
+    pub(crate) fn with_binders(&self) -> impl Iterator<Item = (Node, usize)> + '_ {
+        // The binders around each term and branch that is to come, the next one last.
+        let mut binders = vec![0];
+        self.nodes.iter().map(move |&node| {
+            let around = binders.pop().expect("a term is whole");
+            binders.extend(repeat_n(around + node.binds(), node.children()));
+            (node, around)
+        })
+    }
+}
+
+/// How the nodes of a whole term hang together.
+pub(crate) struct Shape {
+    /// The position behind each node and all that it governs.
+    ends: Vec<usize>,
+}
+
+impl Shape {
+    pub(crate) fn new(nodes: &[Node]) -> Shape {
+        let mut ends = vec![0; nodes.len()];
+        for (position, node) in nodes.iter().enumerate().rev() {
+            let end = (0..node.children()).fold(position + 1, |child, _| ends[child]);
+            ends[position] = end;
+        }
+        Shape { ends }
+    }
+
+    /// The positions of what is directly below a node, in order.
+    pub(crate) fn children(&self, position: usize) -> impl Iterator<Item = usize> + '_ {
+        let end = self.ends[position];
+        let first = (position + 1 < end).then_some(position + 1);
+        std::iter::successors(first, move |&child| {
+            Some(self.ends[child]).filter(|&next| next < end)
+        })
     }
 }

@@ -320,6 +320,11 @@ fn a_number_is_not_as_it_must_be() {
         error("0 %99999999999"),
         "4: a numeral, at most 31, 99999999999"
     );
+    // A long one is cut.
+    assert_eq!(
+        error(&"7".repeat(100_000)),
+        format!("1: an index, at most 32767, {}..", "7".repeat(40))
+    );
     assert_eq!(error("%01"), "2: a numeral without leading zeros, 01");
     assert_eq!(error("%"), "2: a numeral, the end");
     assert_eq!(error("% 1"), "2: a numeral, a space");

@@ -1,0 +1,127 @@
+//! Declarations of definitions and constructors.
+
+use super::lexer::{quoted_word, Kind, Lexer, Token};
+use super::reader::Reader;
+use super::{Declared, Meaning, NameError, Names, MAX_DEFINED};
+use crate::limits::{MAX_COUNT, TAGS};
+
+/// Reads a declaration and adds it to the names.
+pub(super) fn read(names: &mut Names, line: &str, number: usize) -> Result<(), NameError> {
+    let mut lexer = Lexer::new(line);
+    let first = lexer.next()?;
+    if first.is_word("let") {
+        definition(names, lexer, number)
+    } else if first.is_word("constructor") {
+        constructors(names, lexer, number)
+    } else {
+        Err(first.expected("`let` or `constructor`"))
+    }
+}
+
+fn definition(names: &mut Names, mut lexer: Lexer, line: usize) -> Result<(), NameError> {
+    let name = new_name(names, &mut lexer)?;
+    expect(&mut lexer, '=')?;
+    let (term, free) = Reader::definition(names, name.text, lexer)?.term()?;
+    let words = names.words + term.length();
+    if words > MAX_DEFINED {
+        let reason = format!("all definitions together have more than {MAX_DEFINED} words");
+        return Err(name.error(reason));
+    }
+    names.words = words;
+    names.use_free(&free, line);
+    let meaning = Meaning::Definition { term, free };
+    let declared = Declared { line, meaning };
+    names.declared.insert(name.text.to_string(), declared);
+    Ok(())
+}
+
+fn constructors(names: &mut Names, lexer: Lexer, line: usize) -> Result<(), NameError> {
+    let mut added = Vec::new();
+    let done = add_constructors(names, lexer, line, &mut added);
+    if done.is_err() {
+        for tag in added {
+            let name = names.tags.remove(&tag);
+            names.declared.remove(&name.expect("a tag was added"));
+        }
+    }
+    done
+}
+
+/// Adds constructors to the names, and their tags to `added`, up to the end or an error.
+fn add_constructors(
+    names: &mut Names,
+    mut lexer: Lexer,
+    line: usize,
+    added: &mut Vec<u32>,
+) -> Result<(), NameError> {
+    loop {
+        let name = new_name(names, &mut lexer)?;
+        expect(&mut lexer, '=')?;
+        let tag = new_tag(names, &mut lexer)?;
+        expect(&mut lexer, '.')?;
+        let count = lexer.next()?.number("a count of arguments", MAX_COUNT)?;
+        let meaning = Meaning::Constructor {
+            tag,
+            count: count as usize,
+        };
+        let declared = Declared { line, meaning };
+        names.declared.insert(name.text.to_string(), declared);
+        names.tags.insert(tag, name.text.to_string());
+        added.push(tag);
+        let next = lexer.next()?;
+        match next.kind {
+            Kind::Sign(',') => {}
+            Kind::End => return Ok(()),
+            _ => return Err(next.expected("`,` or the end")),
+        }
+    }
+}
+
+/// A name that means nothing so far.
+fn new_name<'a>(names: &Names, lexer: &mut Lexer<'a>) -> Result<Token<'a>, NameError> {
+    let token = lexer.next()?;
+    if token.kind != Kind::Name {
+        return Err(token.expected("a name"));
+    }
+    let name = quoted_word(token.text);
+    if let Some(declared) = names.declared.get(token.text) {
+        let line = on_line(declared.line);
+        return Err(token.error(format!("{name} is already declared{line}")));
+    }
+    if let Some(&line) = names.free.get(token.text) {
+        let line = on_line(line);
+        return Err(token.error(format!(
+            "{name} stands for a free variable{line}; declare it before its first use"
+        )));
+    }
+    Ok(token)
+}
+
+/// A tag that no constructor has so far.
+fn new_tag(names: &Names, lexer: &mut Lexer) -> Result<u32, NameError> {
+    let token = lexer.next()?;
+    let tag = token.number("a tag", *TAGS.end())?;
+    if !TAGS.contains(&tag) {
+        return Err(token.expected(&format!("a tag, at least {}", TAGS.start())));
+    }
+    if let Some(name) = names.tags.get(&tag) {
+        let (line, name) = (on_line(names.declared[name].line), quoted_word(name));
+        return Err(token.error(format!("tag {tag} is already declared{line}, for {name}")));
+    }
+    Ok(tag)
+}
+
+fn expect(lexer: &mut Lexer, sign: char) -> Result<(), NameError> {
+    let token = lexer.next()?;
+    match token.is(sign) {
+        true => Ok(()),
+        false => Err(token.expected(&format!("`{sign}`"))),
+    }
+}
+
+fn on_line(line: usize) -> String {
+    match line {
+        0 => String::new(),
+        _ => format!(" on line {line}"),
+    }
+}
