@@ -5,6 +5,7 @@ use std::path::PathBuf;
 use std::slice::Iter;
 
 use crate::failure::Failure;
+use crate::verdict::Limits;
 
 /// The bench pair 2,2,1,1,8,0,8 against the free variable 0.
 const DEFAULT_PAIR: [&str; 2] = [r"(\\1) 0 1", "0"];
@@ -18,6 +19,7 @@ pub const STANDARD_INPUT: &str = "-";
 pub enum Task {
     Help,
     Version,
+    Explain(String),
     Table(String),
     Words(String),
     Text(Vec<String>),
@@ -25,7 +27,13 @@ pub enum Task {
     FromEncoding(Vec<String>),
     Bits(String),
     FromBits(Vec<String>),
-    Judge(Terms, Settings),
+    /// The line of a pair.
+    Judge(Terms),
+    Forms(Terms),
+    Trace(Terms),
+    Needs(Terms),
+    /// A key file, or standard input.
+    Key(String, Format),
 }
 
 /// The terms to be judged.
@@ -38,19 +46,30 @@ pub enum Terms {
     Given(String, String),
 }
 
-/// How a pair is judged.
+/// How a judged key is printed.
+#[derive(Clone, Copy, Debug, PartialEq, Eq)]
+pub enum Format {
+    Text,
+    Csv,
+    Html,
+}
+
+/// How terms are read and judged.
 #[derive(Debug, PartialEq, Eq)]
 pub struct Settings {
-    pub budget: u32,
-    pub words: u32,
+    pub limits: Limits,
     pub program: Option<PathBuf>,
     pub repository: Option<PathBuf>,
     /// The verdict decides the exit status.
     pub exit_code: bool,
+    /// Terms have names, not indices.
+    pub named: bool,
+    /// Files with declarations.
+    pub using: Vec<PathBuf>,
 }
 
 /// What is done with the arguments that are no options.
-#[derive(Clone, Copy, Debug, PartialEq, Eq)]
+#[derive(Clone, Debug, PartialEq, Eq)]
 enum Mode {
     Judge,
     Table,
@@ -60,17 +79,27 @@ enum Mode {
     FromEncoding,
     Bits,
     FromBits,
+    Forms,
+    Trace,
+    Needs,
+    Key(String),
+    Explain(String),
 }
 
 /// Reads the arguments after the command's name.
-pub fn read(arguments: &[&str]) -> Result<Task, Failure> {
+pub fn read(arguments: &[&str]) -> Result<(Task, Settings), Failure> {
     let mut mode = Mode::Judge;
+    let mut given = Given::default();
     let mut settings = Settings {
-        budget: DEFAULT_BUDGET,
-        words: DEFAULT_WORDS,
+        limits: Limits {
+            budget: DEFAULT_BUDGET,
+            words: DEFAULT_WORDS,
+        },
         program: None,
         repository: None,
         exit_code: false,
+        named: false,
+        using: Vec::new(),
     };
     let mut texts = Vec::new();
     let mut rest = arguments.iter().peekable();
@@ -82,25 +111,70 @@ pub fn read(arguments: &[&str]) -> Result<Task, Failure> {
         } else {
             let mut option = Argument::new(argument, &mut rest);
             match option.name {
-                "--help" | "-h" => return option.is_alone().map(|_| Task::Help),
-                "--version" | "-V" => return option.is_alone().map(|_| Task::Version),
-                "--table" => mode = option.mode(mode, Mode::Table)?,
-                "--show-words" => mode = option.mode(mode, Mode::Words)?,
-                "--text" => mode = option.mode(mode, Mode::Text)?,
-                "--encoding" => mode = option.mode(mode, Mode::Encoding)?,
-                "--from-encoding" => mode = option.mode(mode, Mode::FromEncoding)?,
-                "--bits" => mode = option.mode(mode, Mode::Bits)?,
-                "--from-bits" => mode = option.mode(mode, Mode::FromBits)?,
+                "--help" | "-h" => return option.is_alone().map(|_| (Task::Help, settings)),
+                "--version" | "-V" => return option.is_alone().map(|_| (Task::Version, settings)),
+                "--table" => option.mode(&mut mode, Mode::Table)?,
+                "--show-words" => option.mode(&mut mode, Mode::Words)?,
+                "--text" => option.mode(&mut mode, Mode::Text)?,
+                "--encoding" => option.mode(&mut mode, Mode::Encoding)?,
+                "--from-encoding" => option.mode(&mut mode, Mode::FromEncoding)?,
+                "--bits" => option.mode(&mut mode, Mode::Bits)?,
+                "--from-bits" => option.mode(&mut mode, Mode::FromBits)?,
+                "--forms" => option.mode(&mut mode, Mode::Forms)?,
+                "--trace" => option.mode(&mut mode, Mode::Trace)?,
+                "--needs" => option.mode(&mut mode, Mode::Needs)?,
+                "--key" => {
+                    let file = option.value()?.to_string();
+                    option.sole_mode(&mut mode, Mode::Key(file))?;
+                }
+                "--explain" => {
+                    let subject = option.value()?.to_string();
+                    option.sole_mode(&mut mode, Mode::Explain(subject))?;
+                }
+                "--format" => given.format = Some(option.format()?),
+                "--named" => settings.named = option.is_alone()?,
+                "--using" => settings.using.push(option.value()?.into()),
                 "--exit-code" => settings.exit_code = option.is_alone()?,
-                "--budget" => settings.budget = option.number()?,
-                "--words" => settings.words = option.number()?,
+                "--budget" => given.budget = Some(option.number()?),
+                "--words" => given.words = Some(option.number()?),
                 "--program" => settings.program = Some(option.value()?.into()),
                 "--repository" => settings.repository = Some(option.value()?.into()),
                 name => return Err(Failure::usage(format!("{name} is no option"))),
             }
         }
     }
-    task(mode, &texts, settings)
+    given.suit(&mode, &settings)?;
+    settings.limits.budget = given.budget.unwrap_or(DEFAULT_BUDGET);
+    settings.limits.words = given.words.unwrap_or(DEFAULT_WORDS);
+    let task = task(mode, &texts, given.format.unwrap_or(Format::Text))?;
+    Ok((task, settings))
+}
+
+/// Values that were given, and have defaults.
+#[derive(Default)]
+struct Given {
+    budget: Option<u32>,
+    words: Option<u32>,
+    format: Option<Format>,
+}
+
+impl Given {
+    /// Whether each option has something to do with what is asked for.
+    fn suit(&self, mode: &Mode, settings: &Settings) -> Result<(), Failure> {
+        let is_key = matches!(mode, Mode::Key(_));
+        let reason = if self.format.is_some() && !is_key {
+            "--format goes with --key"
+        } else if settings.exit_code && is_key {
+            "--exit-code goes with one pair; the exit status of --key says whether every pair was decided"
+        } else if !settings.using.is_empty() && !settings.named {
+            "--using goes with --named"
+        } else if *mode == Mode::Needs && (self.budget.is_some() || self.words.is_some()) {
+            "--needs finds the budget and the words; it takes neither"
+        } else {
+            return Ok(());
+        };
+        Err(Failure::usage(reason.to_string()))
+    }
 }
 
 /// An option, and its value behind `=` or in the next argument.
@@ -126,21 +200,38 @@ impl<'a, 'r> Argument<'a, 'r> {
         }
     }
 
-    /// The mode that it asks for, unless an option before it asked for one.
-    fn mode(&self, before: Mode, mode: Mode) -> Result<Mode, Failure> {
+    /// Sets the mode that it asks for, unless an option before it asked for one.
+    fn mode(&self, mode: &mut Mode, asked: Mode) -> Result<(), Failure> {
         self.is_alone()?;
-        if before == Mode::Judge {
-            return Ok(mode);
+        self.sole_mode(mode, asked)
+    }
+
+    /// The same of an option with a value.
+    fn sole_mode(&self, mode: &mut Mode, asked: Mode) -> Result<(), Failure> {
+        if *mode != Mode::Judge {
+            return Err(Failure::usage(format!(
+                "{} and another option ask for two things at once",
+                self.name
+            )));
         }
-        Err(Failure::usage(format!(
-            "{} and another option ask for two things at once",
-            self.name
-        )))
+        *mode = asked;
+        Ok(())
     }
 
     fn value(&mut self) -> Result<&'a str, Failure> {
         let value = self.value.or_else(|| self.rest.next().copied());
         value.ok_or_else(|| Failure::usage(format!("{} needs a value", self.name)))
+    }
+
+    fn format(&mut self) -> Result<Format, Failure> {
+        match self.value()? {
+            "text" => Ok(Format::Text),
+            "csv" => Ok(Format::Csv),
+            "html" => Ok(Format::Html),
+            other => Err(Failure::usage(format!(
+                "--format needs text, csv or html, found `{other}`"
+            ))),
+        }
     }
 
     fn number(&mut self) -> Result<u32, Failure> {
@@ -154,9 +245,14 @@ impl<'a, 'r> Argument<'a, 'r> {
     }
 }
 
-fn task(mode: Mode, texts: &[&str], settings: Settings) -> Result<Task, Failure> {
+fn task(mode: Mode, texts: &[&str], format: Format) -> Result<Task, Failure> {
     match mode {
-        Mode::Judge => Ok(Task::Judge(terms(texts)?, settings)),
+        Mode::Judge => terms(texts).map(Task::Judge),
+        Mode::Forms => terms(texts).map(Task::Forms),
+        Mode::Trace => terms(texts).map(Task::Trace),
+        Mode::Needs => terms(texts).map(Task::Needs),
+        Mode::Key(file) => none(texts, "--key").map(|()| Task::Key(file, format)),
+        Mode::Explain(subject) => none(texts, "--explain").map(|()| Task::Explain(subject)),
         Mode::Table => term(texts).map(Task::Table),
         Mode::Words => term(texts).map(Task::Words),
         Mode::Text => Ok(Task::Text(all(texts))),
@@ -164,6 +260,15 @@ fn task(mode: Mode, texts: &[&str], settings: Settings) -> Result<Task, Failure>
         Mode::FromEncoding => Ok(Task::FromEncoding(all(texts))),
         Mode::Bits => term(texts).map(Task::Bits),
         Mode::FromBits => Ok(Task::FromBits(all(texts))),
+    }
+}
+
+fn none(texts: &[&str], option: &str) -> Result<(), Failure> {
+    match texts {
+        [] => Ok(()),
+        [text, ..] => Err(Failure::usage(format!(
+            "{option} takes one value; `{text}` is too much"
+        ))),
     }
 }
 

@@ -2,6 +2,7 @@
 
 use crate::failure::Failure;
 use unit::limits::{MAX_BUDGET, MAX_COUNT, MAX_FREE, TAGS, WORKSPACE};
+use unit::script::Side;
 use unit::Term;
 
 /// The exit status that tells of the line, if the user asks for it.
@@ -16,78 +17,108 @@ pub fn status(line: &str) -> u8 {
     }
 }
 
+#[derive(Clone, Copy, Debug, PartialEq, Eq)]
+pub struct Limits {
+    /// The most contractions to make.
+    pub budget: u32,
+    /// C, the words in each workspace.
+    pub words: u32,
+}
+
 /// What the program was asked.
 pub struct Question<'a> {
     pub left: &'a Term,
     pub right: &'a Term,
-    pub budget: u32,
-    pub words: u32,
+    pub limits: Limits,
 }
 
-/// Why the line has no verdict, if it has none. Which side a number is about the program tells
-/// itself, by its line for the left term on both sides.
-pub fn reason(
-    line: &str,
-    question: &Question,
-    left_alone: impl FnOnce() -> Result<String, Failure>,
-) -> Result<Option<String>, Failure> {
-    if line == "Input" {
-        return Ok(Some(format!(
+impl Question<'_> {
+    /// Why the line has no verdict, if it has none. Which side a number is about the program tells
+    /// itself, by its line for the left term on both sides.
+    pub fn reason(
+        &self,
+        line: &str,
+        left_alone: impl FnOnce() -> Result<String, Failure>,
+    ) -> Result<Option<String>, Failure> {
+        if line == "Input" {
+            return Ok(Some(self.too_long()));
+        }
+        let Some(number) = line.strip_prefix("Refused ") else {
+            return Ok(None);
+        };
+        let number = number.parse().unwrap_or_default();
+        if let Some(reason) = self.of_call(number) {
+            return Ok(Some(reason));
+        }
+        let side = match left_alone()? == line {
+            true => Side::Left,
+            false => Side::Right,
+        };
+        Ok(Some(self.refusal(number, Some(side))))
+    }
+
+    pub fn too_long(&self) -> String {
+        format!(
             "a table holds {} words of a term; left has {}, right {}",
             WORKSPACE.end(),
-            question.left.length(),
-            question.right.length()
-        )));
+            self.left.length(),
+            self.right.length()
+        )
     }
-    let Some(number) = line.strip_prefix("Refused ") else {
-        return Ok(None);
-    };
-    if let Some(reason) = of_call(number, question) {
-        return Ok(Some(reason));
-    }
-    let (side, term) = match left_alone()? == line {
-        true => ("left", question.left),
-        false => ("right", question.right),
-    };
-    let reason = of_term(number, term, question);
-    Ok(Some(format!("{side} term: {reason}")))
-}
 
-/// What a refusal says of C or the budget.
-fn of_call(number: &str, question: &Question) -> Option<String> {
-    match number {
-        "7" => Some(format!(
-            "C, the words in each workspace, is {} and must be {} to {}",
-            question.words,
-            WORKSPACE.start(),
-            WORKSPACE.end()
-        )),
-        "9" => Some(format!(
-            "the budget is {} and must be at most {MAX_BUDGET}",
-            question.budget
-        )),
-        _ => None,
+    /// What a refusal says, with the side if it is about a term.
+    pub fn refusal(&self, number: u32, side: Option<Side>) -> String {
+        match (self.of_call(number), side) {
+            (Some(reason), _) => reason,
+            (None, None) => format!("refusal {number}"),
+            (None, Some(side)) => format!("{side} term: {}", self.of_term(number, side)),
+        }
     }
-}
 
-/// What a refusal says of a term.
-fn of_term(number: &str, term: &Term, question: &Question) -> String {
-    match number {
-        "3" => format!(
-            "a tag is outside {} to {}; only a default, `_:BODY`, has tag 0, and it binds nothing",
-            TAGS.start(),
-            TAGS.end()
-        ),
-        "5" => format!(
-            "more than {MAX_COUNT} arguments or branches, or branch tags that do not rise; a default \
-             stands first"
-        ),
-        "6" => format!("a free number, an index less the binders around it, is above {MAX_FREE}"),
-        "8" => format!(
-            "{} words are more than C, which is {}",
-            term.length(),
-            question.words
-        ),
-        _ => format!("refusal {number}"),
+    /// What a refusal says of C or the budget.
+    fn of_call(&self, number: u32) -> Option<String> {
+        match number {
+            7 => Some(format!(
+                "C, the words in each workspace, is {} and must be {} to {}",
+                self.limits.words,
+                WORKSPACE.start(),
+                WORKSPACE.end()
+            )),
+            9 => Some(format!(
+                "the budget is {} and must be at most {MAX_BUDGET}",
+                self.limits.budget
+            )),
+            _ => None,
+        }
+    }
+
+    /// What a refusal says of a term.
+    fn of_term(&self, number: u32, side: Side) -> String {
+        match number {
+            3 => format!(
+                "a tag is outside {} to {}; only a default, `_:BODY`, has tag 0, and it binds nothing",
+                TAGS.start(),
+                TAGS.end()
+            ),
+            5 => format!(
+                "more than {MAX_COUNT} arguments or branches, or branch tags that do not rise; a default \
+                 stands first"
+            ),
+            6 => {
+                format!("a free number, an index less the binders around it, is above {MAX_FREE}")
+            }
+            8 => {
+                let term = match side {
+                    Side::Left => self.left,
+                    Side::Right => self.right,
+                };
+                format!(
+                    "{} words are more than C, which is {}",
+                    term.length(),
+                    self.limits.words
+                )
+            }
+            _ => format!("refusal {number}"),
+        }
     }
 }

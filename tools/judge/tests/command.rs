@@ -158,8 +158,10 @@ fn after_two_dashes_nothing_is_an_option() {
     let line = judge(&["0", "1"]);
     assert_eq!(judge(&["--", "0", "1"]), line);
     assert_eq!(judge(&["0", "--", "1"]), line);
-    assert!(refused(2, &["--", "--budget", "1"]).starts_with("judge: left term, column 1: "));
-    assert!(refused(2, &["--", "0", "--help"]).starts_with("judge: right term, column 1: "));
+    assert!(
+        refused(2, &["--", "--budget", "1"]).starts_with("judge: left term, line 1, column 1: ")
+    );
+    assert!(refused(2, &["--", "0", "--help"]).starts_with("judge: right term, line 1, column 1: "));
 }
 
 #[test]
@@ -615,12 +617,12 @@ fn a_reader_that_has_gone_is_not_told() {
 fn text_errors_name_the_term_and_the_place() {
     assert_eq!(
         refused(2, &["0", "0 (1"]),
-        "judge: right term, column 5: expected a space or `)`, found the end\n    0 (1\n        ^\n"
+        "judge: right term, line 1, column 5: expected a space or `)`, found the end\n    0 (1\n        ^\n"
     );
     assert_eq!(
         refused(2, &["0 λ1", "("]),
-        "judge: left term, column 3: expected an index, `(`, `\\`, `#`, `?`, `%` or the end, found `λ`\n    \
-         0 λ1\n      ^\n"
+        "judge: left term, line 1, column 3: expected an index, `(`, `\\`, `#`, `?`, `%` or the end, found `λ`; names \
+         are read with --named\n    0 λ1\n      ^\n"
     );
     for (text, column, expected, found) in [
         ("%32", 2, "a numeral, at most 31", "32"),
@@ -634,7 +636,7 @@ fn text_errors_name_the_term_and_the_place() {
         assert_eq!(
             refused(2, &[text, "0"]),
             format!(
-                "judge: left term, column {column}: expected {expected}, found {found}\n    \
+                "judge: left term, line 1, column {column}: expected {expected}, found {found}\n    \
                  {text}\n{caret}^\n"
             )
         );
@@ -643,16 +645,16 @@ fn text_errors_name_the_term_and_the_place() {
     assert_eq!(
         refused(2, &[&long, "0"]),
         format!(
-            "judge: left term, column 100001: \
+            "judge: left term, line 1, column 100001: \
              expected an index, `(`, `\\`, `#`, `?` or `%`, found the end\n    ..{}\n{}^\n",
             "(".repeat(60),
             " ".repeat(66)
         )
     );
-    assert!(refused(2, &["--table", "0 )"]).starts_with("judge: term, column 3: "));
-    assert!(refused(2, &["--show-words", ""]).starts_with("judge: term, column 1: "));
-    assert!(refused(2, &["--encoding", "0)"]).starts_with("judge: term, column 2: "));
-    assert!(refused(2, &["--bits", "\\"]).starts_with("judge: term, column 2: "));
+    assert!(refused(2, &["--table", "0 )"]).starts_with("judge: term, line 1, column 3: "));
+    assert!(refused(2, &["--show-words", ""]).starts_with("judge: term, line 1, column 1: "));
+    assert!(refused(2, &["--encoding", "0)"]).starts_with("judge: term, line 1, column 2: "));
+    assert!(refused(2, &["--bits", "\\"]).starts_with("judge: term, line 1, column 2: "));
 }
 
 #[test]
@@ -961,7 +963,7 @@ fn word_errors_name_the_place() {
 fn help_is_short() {
     let (status, help, message) = judge(&["--help"]);
     assert_eq!((status, message.as_str()), (0, ""));
-    assert!(help.lines().count() <= 70);
+    assert!(help.lines().count() <= 80);
     for option in [
         "--budget",
         "--words",
@@ -976,6 +978,14 @@ fn help_is_short() {
         "--from-encoding",
         "--bits",
         "--from-bits",
+        "--key",
+        "--format",
+        "--forms",
+        "--trace",
+        "--needs",
+        "--explain",
+        "--named",
+        "--using",
     ] {
         assert!(help.contains(option), "{option}");
     }

@@ -1,0 +1,130 @@
+//! The two notations of terms.
+
+use crate::place;
+use unit::{quoted, NameError, Names, Printed, Term, TextError};
+
+/// Around the bits of an encoding, which may stand for a whole term in either notation.
+const OPEN: char = '<';
+const CLOSE: char = '>';
+
+pub enum Notation {
+    Indices,
+    Named(Names),
+}
+
+/// What is wrong with a text, and where.
+#[derive(Debug, PartialEq, Eq)]
+pub struct Fault {
+    /// Counted in characters from 1.
+    pub column: usize,
+    pub reason: String,
+}
+
+impl Fault {
+    /// The fault of a text with a name: its line, column and reason, and below them the place.
+    pub fn told(&self, name: &str, text: &str) -> String {
+        let (line, column, text) = place::line_of(text, self.column);
+        told(name, line, column, &self.reason, text)
+    }
+
+    /// The fault of a line of a file.
+    pub fn told_on(&self, file: &str, line: usize, text: &str) -> String {
+        told(file, line, self.column, &self.reason, text)
+    }
+}
+
+fn told(name: &str, line: usize, column: usize, reason: &str, text: &str) -> String {
+    let place = place::marked(text, column);
+    format!("{name}, line {line}, column {column}: {reason}\n{place}")
+}
+
+impl From<NameError> for Fault {
+    fn from(error: NameError) -> Fault {
+        let NameError { column, reason } = error;
+        Fault { column, reason }
+    }
+}
+
+impl Fault {
+    fn of_indices(error: &TextError, text: &str) -> Fault {
+        let found = text.chars().nth(error.column - 1);
+        let hint = match found.is_some_and(char::is_alphabetic) {
+            true => "; names are read with --named",
+            false => "",
+        };
+        Fault {
+            column: error.column,
+            reason: format!("expected {}, found {}{hint}", error.expected, error.found),
+        }
+    }
+}
+
+impl Notation {
+    /// Reads a term on a line, 0 where the text has none. Names that are free in it are added to `free`.
+    pub fn term(&mut self, text: &str, free: &mut Vec<String>, line: usize) -> Result<Term, Fault> {
+        if text.trim_start().starts_with(OPEN) {
+            return encoded(text);
+        }
+        match self {
+            Notation::Indices => text
+                .parse()
+                .map_err(|error| Fault::of_indices(&error, text)),
+            Notation::Named(names) => Ok(names.term(text, free, line)?),
+        }
+    }
+
+    /// A term whose free numbers have these names, if the notation has names.
+    pub fn printed(&self, term: &Term, free: &[String]) -> Printed {
+        match self {
+            Notation::Indices => term.printed(),
+            Notation::Named(names) => names.printed(term, free),
+        }
+    }
+}
+
+/// The closed term whose encoding is written as `<0010>`, with blanks between bits where one likes.
+fn encoded(text: &str) -> Result<Term, Fault> {
+    let fault = |column: usize, reason: String| Fault { column, reason };
+    let mut bits = Vec::new();
+    // The columns of the bits and of what stands behind the last.
+    let mut columns = Vec::new();
+    let mut rest = (1..)
+        .zip(text.chars())
+        .filter(|(_, character)| !character.is_whitespace())
+        .skip(1);
+    loop {
+        let (column, next) = match rest.next() {
+            Some((column, character)) => (column, Some(character)),
+            None => (text.chars().count() + 1, None),
+        };
+        columns.push(column);
+        match next {
+            Some('0') => bits.push(false),
+            Some('1') => bits.push(true),
+            Some(CLOSE) => break,
+            other => {
+                let reason = format!("expected 0, 1 or `>`, found {}", found(other));
+                return Err(fault(column, reason));
+            }
+        }
+    }
+    if let Some((column, character)) = rest.next() {
+        let reason = format!("expected the end, found {}", found(Some(character)));
+        return Err(fault(column, reason));
+    }
+    let term = Term::from_bits(&bits).map_err(|error| {
+        let place = error.place.min(columns.len());
+        fault(columns[place - 1], error.reason)
+    })?;
+    match term.bits() {
+        Ok(_) => Ok(term),
+        Err(_) => Err(fault(
+            columns[0],
+            "the bits of a term that is not closed".to_string(),
+        )),
+    }
+}
+
+fn found(character: Option<char>) -> String {
+    character.map_or("the end".to_string(), quoted)
+}

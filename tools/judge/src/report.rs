@@ -1,0 +1,255 @@
+//! A judged key: what each of its formats prints.
+
+use std::ops::Range;
+
+use crate::answers::{Answer, Press, Verdict};
+use crate::key::Line;
+use crate::notation::Notation;
+use crate::verdict::{Limits, Question};
+use unit::characters::is_mark;
+use unit::script::Side;
+use unit::Printed;
+
+pub struct Report {
+    /// Where the key was read from.
+    pub name: String,
+    pub limits: Limits,
+    pub declarations: Vec<String>,
+    pub rows: Vec<Row>,
+}
+
+/// What came of a line.
+pub struct Row {
+    pub line: usize,
+    /// The line without its comment, and both terms, as they are written.
+    pub text: String,
+    pub sides: [String; 2],
+    pub outcome: Outcome,
+}
+
+pub enum Outcome {
+    Pressed {
+        press: Press,
+        form: Form,
+        /// The names that are free in the pair.
+        free: Vec<String>,
+    },
+    Refused {
+        number: u32,
+        side: Option<Side>,
+        reason: String,
+    },
+    /// No table holds the terms.
+    Input { reason: String },
+    /// The line cannot be read.
+    Broken { column: usize, reason: String },
+}
+
+/// The shorter of the two current terms.
+pub struct Form {
+    pub side: Side,
+    pub text: String,
+    /// The part of the text that stands for the first word that differs.
+    pub mark: Option<Range<usize>>,
+}
+
+impl Row {
+    /// The row of a line and of the answer for its pair, if it was read.
+    pub fn new(line: Line, answer: Option<Answer>, limits: Limits, notation: &Notation) -> Row {
+        let text = line.text.trim().to_string();
+        let sides = line.sides().map(str::to_string);
+        let outcome = match (line.content, answer) {
+            (Err(fault), _) => Outcome::Broken {
+                column: fault.column,
+                reason: fault.reason,
+            },
+            (Ok(content), answer) => {
+                let question = Question {
+                    left: &content.pair.left,
+                    right: &content.pair.right,
+                    limits,
+                };
+                match answer {
+                    Some(Answer::Pressed(press, terms)) => {
+                        let form = terms.into_iter().next().map(|(side, term)| {
+                            Form::new(side, notation.printed(&term, &content.free), &press)
+                        });
+                        Outcome::Pressed {
+                            press,
+                            form: form.expect("a form is shown of every press"),
+                            free: content.free,
+                        }
+                    }
+                    Some(Answer::Refused { side, number }) => Outcome::Refused {
+                        number,
+                        side,
+                        reason: question.refusal(number, side),
+                    },
+                    Some(Answer::TooLong) | None => Outcome::Input {
+                        reason: question.too_long(),
+                    },
+                }
+            }
+        };
+        Row {
+            line: line.number,
+            text,
+            sides,
+            outcome,
+        }
+    }
+
+    pub fn is_decided(&self) -> bool {
+        matches!(&self.outcome, Outcome::Pressed { press, .. } if press.verdict.decides())
+    }
+}
+
+impl Form {
+    fn new(side: Side, printed: Printed, press: &Press) -> Form {
+        let mark = press.position.and_then(|word| printed.spans.get(word));
+        Form {
+            side,
+            mark: mark.cloned(),
+            text: printed.text,
+        }
+    }
+
+    /// The text, or so many characters of it where it has more, the start of the mark among them.
+    pub fn excerpt(&self, most: usize) -> Excerpt<'_> {
+        let text = self.text.as_str();
+        let mark = self.mark.clone().unwrap_or(text.len()..text.len());
+        let window = match self.mark {
+            _ if text.chars().count() <= most => 0..text.len(),
+            None => 0..forward(text, 0, most),
+            Some(_) => {
+                let start = backward(text, mark.start, most / 2);
+                start..forward(text, start, most)
+            }
+        };
+        let mark = mark.start.min(window.end)..mark.end.min(window.end);
+        Excerpt {
+            before: &text[window.start..mark.start],
+            marked: &text[mark.clone()],
+            after: &text[mark.end..window.end],
+            is_cut: [window.start > 0, window.end < text.len()],
+        }
+    }
+}
+
+/// The byte position so many characters further, or the next one where no mark is cut from its letter.
+fn forward(text: &str, from: usize, characters: usize) -> usize {
+    let mut rest = text[from..].char_indices().skip(characters);
+    let place = rest.find(|(_, character)| !is_mark(*character));
+    place.map_or(text.len(), |(place, _)| from + place)
+}
+
+/// The byte position so many characters back, or the first one before where no mark is cut.
+fn backward(text: &str, from: usize, characters: usize) -> usize {
+    let mut rest = text[..from].char_indices().rev().skip(characters);
+    let place = rest.find(|(_, character)| !is_mark(*character));
+    place.map_or(0, |(place, _)| place)
+}
+
+/// Part of a form's text: what stands before the mark, in it and after it. Without a mark all of it
+/// stands before.
+pub struct Excerpt<'a> {
+    pub before: &'a str,
+    pub marked: &'a str,
+    pub after: &'a str,
+    /// Whether something is left out at the start, and at the end.
+    pub is_cut: [bool; 2],
+}
+
+impl Report {
+    pub fn is_decided(&self) -> bool {
+        self.rows.iter().all(Row::is_decided)
+    }
+
+    /// How many lines came to what: `3 lines: 2 Same, 1 refused`.
+    pub fn counts(&self) -> String {
+        let of_verdict = |verdict: Verdict| {
+            let is_it = |row: &&Row| matches!(&row.outcome, Outcome::Pressed { press, .. } if press.verdict == verdict);
+            (self.rows.iter().filter(is_it).count(), verdict.name())
+        };
+        let others = |name: &'static str, is_it: fn(&Outcome) -> bool| {
+            let count = self.rows.iter().filter(|row| is_it(&row.outcome)).count();
+            (count, name)
+        };
+        let counts: Vec<String> = Verdict::ALL
+            .map(of_verdict)
+            .into_iter()
+            .chain([
+                others("refused", |outcome| {
+                    matches!(outcome, Outcome::Refused { .. })
+                }),
+                others("too long", |outcome| {
+                    matches!(outcome, Outcome::Input { .. })
+                }),
+                others("not read", |outcome| {
+                    matches!(outcome, Outcome::Broken { .. })
+                }),
+            ])
+            .filter(|(count, _)| *count > 0)
+            .map(|(count, name)| format!("{count} {name}"))
+            .collect();
+        let lines = match self.rows.len() {
+            1 => "1 line".to_string(),
+            count => format!("{count} lines"),
+        };
+        format!("{lines}: {}", counts.join(", "))
+    }
+
+    pub fn limits(&self) -> String {
+        let Limits { budget, words } = self.limits;
+        format!("Limits: {budget} contractions a pair, both sides together; workspaces of {words} words")
+    }
+
+    /// What a press says of the limits where it decides nothing.
+    pub fn remark(&self, press: &Press) -> Option<String> {
+        let Limits { budget, words } = self.limits;
+        match press.verdict {
+            Verdict::Same | Verdict::Different => None,
+            Verdict::Budget => Some(format!(
+                "not decided: the next round would pass the budget of {budget} contractions"
+            )),
+            Verdict::Full => Some(format!(
+                "not decided: a next term would be longer than {words} words"
+            )),
+        }
+    }
+
+    /// The lines that were not decided, if any.
+    pub fn undecided(&self) -> Option<String> {
+        let lines = self.rows.iter().filter(|row| !row.is_decided());
+        let lines: Vec<String> = lines.map(|row| row.line.to_string()).collect();
+        match &lines[..] {
+            [] => None,
+            [line] => Some(format!("Not decided: line {line}")),
+            lines => Some(format!("Not decided: lines {}", lines.join(", "))),
+        }
+    }
+}
+
+/// What the verdicts say, for a reader of a key.
+pub const MEANINGS: [(Verdict, &str); 4] = [
+    (
+        Verdict::Same,
+        "The two terms are convertible: contractions lead from each to one common term.",
+    ),
+    (
+        Verdict::Different,
+        "The two terms are not convertible: they have distinct normal forms. There is no eta.",
+    ),
+    (
+        Verdict::Budget,
+        "Nothing was found out: the next round would have passed the budget.",
+    ),
+    (
+        Verdict::Full,
+        "Nothing was found out: a next term would have been longer than a workspace.",
+    ),
+];
+
+/// What the form of a row is.
+pub const FORM: &str =
+    "The form is the shorter of the two terms at the end, the right one if both are equally long";

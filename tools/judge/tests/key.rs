@@ -1,0 +1,427 @@
+//! `judge --key`: the stored keys, whose verdicts come from mathematics, and what is printed of a key.
+
+mod common;
+
+use common::{file, judge, judge_on, records, run};
+use std::fs;
+use std::path::{Path, PathBuf};
+
+fn stored_keys() -> Vec<PathBuf> {
+    let folder = Path::new(env!("CARGO_MANIFEST_DIR")).join("tests/keys");
+    let entries = fs::read_dir(folder).expect("the stored keys");
+    let mut paths: Vec<PathBuf> = entries.map(|entry| entry.expect("a key").path()).collect();
+    paths.sort();
+    paths
+}
+
+/// The lines of a stored key that expect something: number and verdict. A pair's comment starts with it.
+fn expectations(text: &str) -> Vec<(String, String)> {
+    let mut expected = Vec::new();
+    for (number, line) in (1..).zip(text.lines()) {
+        let (content, comment) = line.split_once("--").unwrap_or((line, ""));
+        if content.contains('|') {
+            let word: String = comment
+                .trim()
+                .chars()
+                .take_while(|c| c.is_alphabetic())
+                .collect();
+            expected.push((number.to_string(), word));
+        }
+    }
+    expected
+}
+
+#[test]
+fn stored_keys_have_the_verdicts_of_mathematics() {
+    let mut pairs = 0;
+    for path in stored_keys() {
+        let text = fs::read_to_string(&path).expect("a key");
+        let name = path.to_str().expect("a path that is text");
+        let mut arguments = vec!["--key", name, "--format", "csv", "--budget", "1000000"];
+        if !name.ends_with("indices.key") {
+            arguments.push("--named");
+        }
+        let answer = judge(&arguments);
+        assert_eq!(answer.message, "", "{name}");
+        let found: Vec<(String, String)> = records(&answer.output)[1..]
+            .iter()
+            .map(|record| (record[0].clone(), record[3].clone()))
+            .collect();
+        let expected = expectations(&text);
+        let is_verdict =
+            |word: &String| ["Same", "Different", "Budget", "Full"].contains(&word.as_str());
+        assert!(expected.iter().all(|(_, word)| is_verdict(word)), "{name}");
+        assert_eq!(found, expected, "{name}");
+        let decided = |(_, word): &(String, String)| word == "Same" || word == "Different";
+        let status = if expected.iter().all(decided) { 0 } else { 1 };
+        assert_eq!(answer.status, status, "{name}");
+        pairs += expected.len();
+    }
+    assert!(pairs >= 150, "{pairs} pairs");
+}
+
+/// Every kind of row. The verdicts are those of the README; `%2 %3` is the Church numeral 3 to the power 2.
+const KEY: &str = r"-- A key with a row of each kind.
+(\\1) 0 1 | 0   -- a comment
+\0 1|\0 2
+
+(\0 0) (\0 0) | 0
+(\0 0 0) (\0 0 0) | 0
+#256 | 0
+0 | 256
+0 (1 | 0
+?#3[5]{_:0,2.1:0} | 0
+";
+
+const TEXT: &str = r" line  verdict     contractions   left  right  word  pair
+    2  Same                   2      1      1        (\\1) 0 1 | 0
+                                               form  0
+    3  Different              0      4      4     3  \0 1|\0 2
+                                               form  \0 2
+                                                        ^
+    5  Budget                 5      9      1        (\0 0) (\0 0) | 0
+                                               form  0
+                                                why  not decided: the next round would pass the budget of 5 contractions
+    6  Full                   1     20      1        (\0 0 0) (\0 0 0) | 0
+                                               form  0
+                                                why  not decided: a next term would be longer than 24 words
+    7  Refused 3                                     #256 | 0
+                                                why  left term: a tag is outside 1 to 255; only a default, `_:BODY`, has tag 0, and it binds nothing
+    8  Refused 6                                     0 | 256
+                                                why  right term: a free number, an index less the binders around it, is above 255
+    9  not read                                      0 (1 | 0
+                                                why  column 6: expected an index, `(`, `\`, `#`, `?`, `%` or `)`, found `|`
+   10  Same                   1      1      1        ?#3[5]{_:0,2.1:0} | 0
+                                               form  0
+
+8 lines: 2 Same, 1 Different, 1 Budget, 1 Full, 2 refused, 1 not read.
+Limits: 5 contractions a pair, both sides together; workspaces of 24 words.
+The form is the shorter of the two terms at the end, the right one if both are equally long.
+Not decided: lines 5, 6, 7, 8, 9. Nothing is said of these pairs; `judge --explain Budget`, or Full, or a refusal's number, says more.
+";
+
+const BROKEN: &str = r"judge: rows.key, line 9, column 6: expected an index, `(`, `\`, `#`, `?`, `%` or `)`, found `|`
+    0 (1 | 0
+         ^
+";
+
+const LIMITS: [&str; 4] = ["--budget", "5", "--words", "24"];
+
+#[test]
+fn a_key_is_printed_as_aligned_text() {
+    let key = file("rows.key", KEY);
+    let answer = judge(&[&["--key", &key], &LIMITS[..]].concat());
+    assert_eq!(answer.output, TEXT);
+    assert_eq!(answer.message, BROKEN);
+    assert_eq!(answer.status, 1);
+}
+
+#[test]
+fn a_key_is_printed_as_comma_separated_values() {
+    let key = file("rows.csv.key", KEY);
+    let answer = judge(&[&["--key", &key, "--format", "csv"], &LIMITS[..]].concat());
+    let records = records(&answer.output);
+    let fields = |record: &[&str]| {
+        record
+            .iter()
+            .map(|field| field.to_string())
+            .collect::<Vec<_>>()
+    };
+    assert_eq!(records.len(), 9);
+    assert_eq!(records[0].len(), 16);
+    assert_eq!(
+        records[2],
+        fields(&[
+            "3",
+            r"\0 1",
+            r"\0 2",
+            "Different",
+            "0",
+            "4",
+            "4",
+            "right",
+            r"\0 2",
+            "3",
+            "4",
+            "",
+            "",
+            "",
+            "5",
+            "24"
+        ])
+    );
+    assert_eq!(records[5][..4], fields(&["7", "#256", "0", "Refused 3"]));
+    assert_eq!(records[5][12], "left");
+    assert_eq!(records[7][3], "not read");
+    assert_eq!(records[8][1], "?#3[5]{_:0,2.1:0}");
+    assert_eq!(answer.status, 1);
+}
+
+#[test]
+fn a_key_is_read_from_standard_input() {
+    let answer = judge_on(KEY.as_bytes(), &[&["--key", "-"], &LIMITS[..]].concat());
+    assert_eq!(answer.output, TEXT);
+    assert_eq!(answer.message, BROKEN.replace("rows.key", "standard input"));
+}
+
+#[test]
+fn the_status_says_whether_every_line_was_decided() {
+    for (key, status) in [
+        ("0 | 0", 0),
+        ("0 | 1", 0),
+        ("0 | 0\n0 | 1\n", 0),
+        (r"0 | (\0 0) (\0 0)", 1),
+        (r"0 | (\0 0 0) (\0 0 0)", 1),
+        ("0 | 0\n0 | #0", 1),
+        ("0 | 0\n0 |", 1),
+        ("0", 1),
+    ] {
+        let answer = judge_on(key.as_bytes(), &["--key", "-"]);
+        assert_eq!(answer.status, status, "{key}");
+        assert_ne!(answer.output, "", "{key}");
+    }
+}
+
+#[test]
+fn a_file_without_pairs_is_said() {
+    for key in ["", "\n\n", "-- 0 | 1\n", "\u{feff}\r\n"] {
+        let answer = judge_on(key.as_bytes(), &["--key", "-"]);
+        assert_eq!((answer.status, answer.output.as_str()), (2, ""), "{key:?}");
+        assert_eq!(
+            answer.message,
+            "judge: standard input has no pair: a line is LEFT | RIGHT, and `--` starts a comment\n"
+        );
+    }
+}
+
+#[test]
+fn a_file_that_cannot_be_read_is_said() {
+    let answer = judge(&["--key", "no/such.key"]);
+    assert_eq!((answer.status, answer.output.as_str()), (2, ""));
+    assert!(
+        answer
+            .message
+            .starts_with("judge: no/such.key cannot be read: "),
+        "{}",
+        answer.message
+    );
+}
+
+#[test]
+fn line_ends_and_marks_of_other_systems_mean_nothing() {
+    let plain = judge_on(b"0 | 0\n0 | 1\n", &["--key", "-"]);
+    let marked = judge_on(
+        "\u{feff}0 | 0\r\n0\t|\t1 \t\r\n".as_bytes(),
+        &["--key", "-"],
+    );
+    assert_eq!(plain.output, marked.output);
+    assert_eq!(marked.message, "");
+}
+
+#[test]
+fn broken_lines_are_told_with_their_places() {
+    let lines: [(&[u8], &str); 6] = [
+        (
+            b"0 1",
+            "column 4: expected `|` and the right term, found the end\n    0 1\n       ^",
+        ),
+        (
+            b"0 | 1 | 2",
+            "column 7: expected the end, found a second `|`\n    0 | 1 | 2\n          ^",
+        ),
+        (
+            b"0 | 1 2)",
+            "column 8: expected a space or the end, found `)`\n    0 | 1 2)\n           ^",
+        ),
+        (
+            b"0 | 1 \xff2",
+            "column 7: expected UTF-8, found the byte 255\n    0 | 1 \u{fffd}2\n          ^",
+        ),
+        (
+            "0 | x".as_bytes(),
+            "column 5: expected an index, `(`, `\\`, `#`, `?` or `%`, found `x`; names are read with --named\n    \
+             0 | x\n        ^",
+        ),
+        (
+            b"| 0",
+            "column 1: expected an index, `(`, `\\`, `#`, `?` or `%`, found `|`\n    | 0\n    ^",
+        ),
+    ];
+    for (line, message) in lines {
+        let key = [b"-- first\n0 | 0\n", line, b"\n0 | 1\n"].concat();
+        let answer = judge_on(&key, &["--key", "-", "--format", "csv"]);
+        assert_eq!(
+            answer.message,
+            format!("judge: standard input, line 3, {message}\n")
+        );
+        let verdicts: Vec<String> = records(&answer.output)
+            .into_iter()
+            .map(|mut record| record.remove(3))
+            .collect();
+        assert_eq!(verdicts, ["verdict", "Same", "not read", "Different"]);
+        assert_eq!(answer.status, 1);
+    }
+}
+
+#[test]
+fn a_comment_may_hold_any_bytes() {
+    let answer = judge_on(b"0 | 0 -- \xff\n-- \xfe\n", &["--key", "-"]);
+    assert_eq!((answer.status, answer.message.as_str()), (0, ""));
+}
+
+#[test]
+fn many_pairs_keep_their_order() {
+    let pair = |place: usize| match place % 3 {
+        0 => (format!("(\\\\1) {place} 0 | {place}\n"), "Same"),
+        1 => (format!("{place} | {}\n", place + 1), "Different"),
+        _ => (format!("{place} | (\\0 0) (\\0 0)\n"), "Budget"),
+    };
+    let key: String = (0..200).map(|place| pair(place).0).collect();
+    let answer = judge_on(key.as_bytes(), &["--key", "-", "--format", "csv"]);
+    let records = records(&answer.output);
+    assert_eq!(records.len(), 201);
+    for (place, record) in records[1..].iter().enumerate() {
+        assert_eq!(record[0], (place + 1).to_string());
+        assert_eq!(record[3], pair(place).1, "{place}");
+        if place % 3 < 2 {
+            let form = place + place % 3;
+            assert_eq!(record[8], form.to_string());
+        }
+    }
+}
+
+#[test]
+fn a_term_that_no_table_holds_is_a_row() {
+    let long = "\\".repeat(2_048) + "0";
+    let key = format!("{long} | 0\n0 | {}\n0 | 1\n", &long[1..]);
+    let answer = judge_on(key.as_bytes(), &["--key", "-", "--format", "csv"]);
+    let rows: Vec<(String, String)> = records(&answer.output)[1..]
+        .iter()
+        .map(|record| (record[3].clone(), record[13].clone()))
+        .collect();
+    let row = |verdict: &str, reason: &str| (verdict.to_string(), reason.to_string());
+    assert_eq!(
+        rows,
+        [
+            row(
+                "Input",
+                "a table holds 2048 words of a term; left has 2049, right 1"
+            ),
+            row("Different", ""),
+            row("Different", ""),
+        ]
+    );
+}
+
+#[test]
+fn limits_out_of_range_are_refused_in_every_row() {
+    for (limits, verdict, reason) in [
+        (
+            ["--words", "15"],
+            "Refused 7",
+            "C, the words in each workspace, is 15 and must be 16 to 2048",
+        ),
+        (
+            ["--words", "2049"],
+            "Refused 7",
+            "C, the words in each workspace, is 2049 and must be 16 to 2048",
+        ),
+        (
+            ["--words", "4294967295"],
+            "Refused 7",
+            "C, the words in each workspace, is 4294967295 and must be 16 to 2048",
+        ),
+        (
+            ["--budget", "1000001"],
+            "Refused 9",
+            "the budget is 1000001 and must be at most 1000000",
+        ),
+    ] {
+        let answer = judge_on(
+            b"0 | 0\n0 | 1\n",
+            &[&["--key", "-", "--format", "csv"], &limits[..]].concat(),
+        );
+        for record in &records(&answer.output)[1..] {
+            assert_eq!((record[3].as_str(), record[13].as_str()), (verdict, reason));
+        }
+        assert_eq!(answer.status, 1);
+    }
+}
+
+#[test]
+fn a_long_form_is_cut_around_its_mark() {
+    let row = |answer: &str| -> Vec<String> {
+        answer.lines().skip(1).take(3).map(str::to_string).collect()
+    };
+    let long = |middle: &str| format!("{}{middle}{}", "0 ".repeat(100), " 0".repeat(100));
+    let key = format!("{} | {}\n", long("7"), long("8"));
+    let lines = row(&judge_on(key.as_bytes(), &["--key", "-"]).output);
+    let form = lines[1].trim_start();
+    assert!(
+        form.starts_with("form  ..") && form.ends_with(".."),
+        "{form}"
+    );
+    let column = lines[2].find('^').expect("a caret");
+    assert_eq!(&lines[1][column..=column], "8");
+    // A form that nothing is marked in is cut at its end.
+    let key = format!("{} | {}\n", long("7"), long("7"));
+    let lines = row(&judge_on(key.as_bytes(), &["--key", "-"]).output);
+    let form = lines[1].trim_start();
+    assert!(
+        form.starts_with("form  0 0") && form.ends_with(".."),
+        "{form}"
+    );
+    assert_eq!(form.len(), "form  ".len() + 160 + "..".len());
+}
+
+#[test]
+fn a_program_that_prints_something_else_is_status_3() {
+    use std::os::unix::fs::PermissionsExt;
+    for (name, script) in [
+        ("mute", "cat >/dev/null"),
+        ("short", "cat >/dev/null\necho load 1"),
+        ("odd", "cat >/dev/null\necho load 1\necho stored 1"),
+        ("failing", "cat >/dev/null\nexit 4"),
+    ] {
+        let path = file(name, format!("#!/bin/sh\n{script}\n"));
+        fs::set_permissions(&path, fs::Permissions::from_mode(0o755)).expect("executable");
+        let answer = run(b"0 | 0\n", &["--program", &path, "--key", "-"]);
+        assert_eq!((answer.status, answer.output.as_str()), (3, ""), "{name}");
+        assert_ne!(answer.message, "", "{name}");
+    }
+}
+
+/// Bytes that look random, from a fixed start.
+fn bytes(seed: u64, count: usize) -> Vec<u8> {
+    let mut state = seed.wrapping_mul(0x9e37_79b9_7f4a_7c15) | 1;
+    let alphabet = b"01 |\\()#[]?{}.,:_%\n\n-;=xyz\xce\xbb\xff";
+    let mut next = || {
+        state ^= state << 13;
+        state ^= state >> 7;
+        state ^= state << 17;
+        state
+    };
+    let byte = |random: u64| match random % 4 {
+        0 => (random >> 8) as u8,
+        _ => alphabet[(random >> 8) as usize % alphabet.len()],
+    };
+    (0..count).map(|_| byte(next())).collect()
+}
+
+#[test]
+fn random_bytes_are_told_and_never_stop_the_command() {
+    for seed in 0..60 {
+        let key = bytes(seed, 2_000);
+        for notation in [&[][..], &["--named"]] {
+            let arguments = [&["--key", "-", "--format", "csv"], notation].concat();
+            let answer = judge_on(&key, &arguments);
+            assert!(
+                (0..=2).contains(&answer.status),
+                "{seed}: {}",
+                answer.message
+            );
+            let rows = records(&answer.output).len() - 1;
+            assert!(rows > 0, "{seed}");
+        }
+    }
+}
