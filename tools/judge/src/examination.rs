@@ -54,11 +54,10 @@ pub fn examine(
         }
     };
     let mut answers = answers.into_iter();
-    let rows = key.lines.into_iter().map(|line| {
-        let answer = line.content.as_ref().ok().and_then(|_| answers.next());
-        Row::new(line, answer, settings.limits, &notation)
-    });
-    let rows = rows.collect();
+    let lines = key.lines.into_iter();
+    let rows = lines
+        .map(|line| Row::new(line, &mut answers, settings.limits, &notation))
+        .collect();
     let report = Report {
         name,
         limits: settings.limits,

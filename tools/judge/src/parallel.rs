@@ -9,8 +9,10 @@ use crate::answers::{answers, Answer, Forms, Pair, Run};
 use crate::failure::Failure;
 use crate::verdict::Limits;
 
-/// So many pairs are handed to a program at once.
+/// At most so many pairs are handed to a program at once.
 const BATCH: usize = 16;
+/// With few pairs each processor has so many batches at least, so that none waits long for another.
+const BATCHES: usize = 4;
 
 /// The answer for each pair, with the form that the unit shows. `done` is told how many more have
 /// theirs.
@@ -20,11 +22,12 @@ pub fn judge(
     run: &Run,
     done: &mut dyn FnMut(usize),
 ) -> Result<Vec<Answer>, Failure> {
-    let batches: Vec<&[&Pair]> = pairs.chunks(BATCH).collect();
+    let workers = thread::available_parallelism().map_or(1, NonZero::get);
+    let size = (pairs.len() / (BATCHES * workers)).clamp(1, BATCH);
+    let batches: Vec<&[&Pair]> = pairs.chunks(size).collect();
     let next = AtomicUsize::new(0);
     let (sender, receiver) = mpsc::channel();
     let mut found: Vec<Option<Vec<Answer>>> = batches.iter().map(|_| None).collect();
-    let workers = thread::available_parallelism().map_or(1, NonZero::get);
     thread::scope(|scope| {
         for _ in 0..workers.min(batches.len()) {
             let sender = sender.clone();
@@ -49,5 +52,8 @@ pub fn judge(
         }
         Ok(())
     })?;
-    Ok(found.into_iter().flatten().flatten().collect())
+    let found = found
+        .into_iter()
+        .map(|batch| batch.expect("every batch was judged"));
+    Ok(found.flatten().collect())
 }

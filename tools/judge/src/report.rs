@@ -3,7 +3,7 @@
 use std::ops::Range;
 
 use crate::answers::{Answer, Press, Verdict};
-use crate::key::Line;
+use crate::key::{Content, Line};
 use crate::notation::Notation;
 use crate::verdict::{Limits, Question};
 use unit::characters::is_mark;
@@ -54,41 +54,23 @@ pub struct Form {
 }
 
 impl Row {
-    /// The row of a line and of the answer for its pair, if it was read.
-    pub fn new(line: Line, answer: Option<Answer>, limits: Limits, notation: &Notation) -> Row {
+    /// The row of a line, with the next answer if it has a pair.
+    pub fn new(
+        line: Line,
+        answers: &mut impl Iterator<Item = Answer>,
+        limits: Limits,
+        notation: &Notation,
+    ) -> Row {
         let text = line.text.trim().to_string();
         let sides = line.sides().map(str::to_string);
-        let outcome = match (line.content, answer) {
-            (Err(fault), _) => Outcome::Broken {
+        let outcome = match line.content {
+            Err(fault) => Outcome::Broken {
                 column: fault.column,
                 reason: fault.reason,
             },
-            (Ok(content), answer) => {
-                let question = Question {
-                    left: &content.pair.left,
-                    right: &content.pair.right,
-                    limits,
-                };
-                match answer {
-                    Some(Answer::Pressed(press, terms)) => {
-                        let form = terms.into_iter().next().map(|(side, term)| {
-                            Form::new(side, notation.printed(&term, &content.free), &press)
-                        });
-                        Outcome::Pressed {
-                            press,
-                            form: form.expect("a form is shown of every press"),
-                            free: content.free,
-                        }
-                    }
-                    Some(Answer::Refused { side, number }) => Outcome::Refused {
-                        number,
-                        side,
-                        reason: question.refusal(number, side),
-                    },
-                    Some(Answer::TooLong) | None => Outcome::Input {
-                        reason: question.too_long(),
-                    },
-                }
+            Ok(content) => {
+                let answer = answers.next().expect("every pair has its answer");
+                Outcome::new(content, answer, limits, notation)
             }
         };
         Row {
@@ -101,6 +83,32 @@ impl Row {
 
     pub fn is_decided(&self) -> bool {
         matches!(&self.outcome, Outcome::Pressed { press, .. } if press.verdict.decides())
+    }
+}
+
+impl Outcome {
+    fn new(content: Content, answer: Answer, limits: Limits, notation: &Notation) -> Outcome {
+        let Content { pair, free } = content;
+        let question = Question {
+            left: &pair.left,
+            right: &pair.right,
+            limits,
+        };
+        match answer {
+            Answer::Pressed(press, terms) => {
+                let (side, term) = &terms[0];
+                let form = Form::new(*side, notation.printed(term, &free), &press);
+                Outcome::Pressed { press, form, free }
+            }
+            Answer::Refused { side, number } => Outcome::Refused {
+                number,
+                side,
+                reason: question.refusal(number, side),
+            },
+            Answer::TooLong => Outcome::Input {
+                reason: question.too_long(),
+            },
+        }
     }
 }
 
@@ -136,14 +144,14 @@ impl Form {
     }
 }
 
-/// The byte position so many characters further, or the next one where no mark is cut from its letter.
+/// The byte position so many characters further, or the next that cuts no combining mark from its letter.
 fn forward(text: &str, from: usize, characters: usize) -> usize {
     let mut rest = text[from..].char_indices().skip(characters);
     let place = rest.find(|(_, character)| !is_mark(*character));
     place.map_or(text.len(), |(place, _)| from + place)
 }
 
-/// The byte position so many characters back, or the first one before where no mark is cut.
+/// The byte position so many characters back, or the first before it that cuts no combining mark off.
 fn backward(text: &str, from: usize, characters: usize) -> usize {
     let mut rest = text[..from].char_indices().rev().skip(characters);
     let place = rest.find(|(_, character)| !is_mark(*character));
@@ -220,12 +228,24 @@ impl Report {
 
     /// The lines that were not decided, if any.
     pub fn undecided(&self) -> Option<String> {
-        let lines = self.rows.iter().filter(|row| !row.is_decided());
-        let lines: Vec<String> = lines.map(|row| row.line.to_string()).collect();
-        match &lines[..] {
+        let undecided = self.rows.iter().filter(|row| !row.is_decided());
+        let mut ranges: Vec<[usize; 2]> = Vec::new();
+        for line in undecided.map(|row| row.line) {
+            match ranges.last_mut() {
+                Some([_, last]) if *last + 1 == line => *last = line,
+                _ => ranges.push([line, line]),
+            }
+        }
+        let range = |&[first, last]: &[usize; 2]| match last - first {
+            0 => first.to_string(),
+            1 => format!("{first}, {last}"),
+            _ => format!("{first} to {last}"),
+        };
+        let lines: Vec<String> = ranges.iter().map(range).collect();
+        match &ranges[..] {
             [] => None,
-            [line] => Some(format!("Not decided: line {line}")),
-            lines => Some(format!("Not decided: lines {}", lines.join(", "))),
+            [[first, last]] if first == last => Some(format!("Not decided: line {first}")),
+            _ => Some(format!("Not decided: lines {}", lines.join(", "))),
         }
     }
 }

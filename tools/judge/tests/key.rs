@@ -3,6 +3,7 @@
 mod common;
 
 use common::{file, judge, judge_on, records, run};
+use reference::random::Random;
 use std::fs;
 use std::path::{Path, PathBuf};
 
@@ -97,7 +98,7 @@ const TEXT: &str = r" line  verdict     contractions   left  right  word  pair
 8 lines: 2 Same, 1 Different, 1 Budget, 1 Full, 2 refused, 1 not read.
 Limits: 5 contractions a pair, both sides together; workspaces of 24 words.
 The form is the shorter of the two terms at the end, the right one if both are equally long.
-Not decided: lines 5, 6, 7, 8, 9. Nothing is said of these pairs; `judge --explain Budget`, or Full, or a refusal's number, says more.
+Not decided: lines 5 to 9. Nothing is said of these pairs; `judge --explain Budget`, or Full, or a refusal's number, says more.
 ";
 
 const BROKEN: &str = r"judge: rows.key, line 9, column 6: expected an index, `(`, `\`, `#`, `?`, `%` or `)`, found `|`
@@ -372,6 +373,109 @@ fn a_long_form_is_cut_around_its_mark() {
         "{form}"
     );
     assert_eq!(form.len(), "form  ".len() + 160 + "..".len());
+}
+
+/// The marked parts of a key's page, row by row.
+fn marks(key: &str, notation: &[&str]) -> Vec<String> {
+    let arguments = [&["--key", "-", "--format", "html"], notation].concat();
+    let page = judge_on(key.as_bytes(), &arguments).output;
+    let parts = page.split("<mark>").skip(1);
+    parts
+        .map(|part| part.split("</mark>").next().expect("an end").to_string())
+        .collect()
+}
+
+#[test]
+fn the_first_difference_is_marked_whatever_word_it_is() {
+    // Pairs, and the mark in the shorter form, the right one at equal lengths.
+    for (pair, mark) in [
+        (r"\0 1 | \0 2", "2"),
+        (r"0 | \0", "0"),
+        (r"\0 | 0 1", r"\"),
+        ("#1[2,3] | 0 1", "0 1"),
+        ("0 #1[2,3] | 0 (1 2)", "1 2"),
+        ("0 1 | #1[2,3]", "#1"),
+        ("?1{1.0:2} | ?1{2.0:2}", "2.0:"),
+        ("?1{1.0:2} | ?1{_:2}", "_:"),
+        (r"\?0{} | \0 1", "?"),
+        ("?0{_:1,3.0:2} | ?0{_:1,3.0:4}", "4"),
+    ] {
+        assert_eq!(marks(pair, &[]), [mark], "{pair}");
+    }
+    for (pair, mark) in [
+        ("\\x y. x | \\x. a", "a"),
+        ("\\x. a b | \\x y. x", "y"),
+        ("a b | \\x y. x", "\\x"),
+        ("Cons a Nil | Cons b Nil", "b"),
+        ("f (Cons a Nil) | f (a b)", "a b"),
+        ("f (a b c) | f (Cons a Nil)", "Cons"),
+        (
+            "case l of {Nil -> a; Cons h t -> h} | case l of {Nil -> a; Cons h t -> t}",
+            "y",
+        ),
+        (
+            "case l of {Nil -> a; _ -> b} | case l of {_ -> c; Nil -> a}",
+            "c",
+        ),
+        ("case l of {Nil -> a} | case l of {_ -> a}", "_ -&gt;"),
+        (
+            "case l of {Cons h t -> a} | case l of {Cons h t -> case l of {}}",
+            "a",
+        ),
+        ("l a b c | case l of {}", "case"),
+    ] {
+        let key = format!("constructor Nil = 1.0, Cons = 2.2\n{pair}\n");
+        assert_eq!(marks(&key, &["--named"]), [mark], "{pair}");
+    }
+}
+
+/// Generated pairs as text, with some that the unit refuses and some that are no terms.
+fn generated(count: u64) -> Vec<(String, Option<String>)> {
+    let text = |term: &reference::term::Term| {
+        let term = unit::Term::from_words(&reference::words::words(term));
+        term.expect("words of a term")
+    };
+    let line = |case: u64| {
+        let trial = reference::generate::pairs::trial(&mut Random::new(5, case), None);
+        let (left, right) = (text(&trial.left), text(&trial.right));
+        match case % 10 {
+            1 => ("0 | 0 #0".to_string(), Some("Refused 3".to_string())),
+            3 => (format!("0 #0 | {right}"), Some("Refused 3".to_string())),
+            5 => (format!("{left} {right} ("), None),
+            7 => (format!("256 | {right}"), Some("Refused 6".to_string())),
+            _ => {
+                let input = unit::program::input(300, 200, &left, &right);
+                let outcome = reference::verdict::outcome(&input).to_string();
+                (
+                    format!("{left} | {right}"),
+                    Some(outcome.trim_end().to_string()),
+                )
+            }
+        }
+    };
+    reference::on_large_stack(|| (0..count).map(line).collect())
+}
+
+#[test]
+fn generated_pairs_have_the_line_of_the_reference() {
+    let lines = generated(400);
+    let key: String = lines.iter().map(|(line, _)| format!("{line}\n")).collect();
+    let limits = ["--budget", "300", "--words", "200"];
+    let arguments = [&["--key", "-", "--format", "csv"], &limits[..]].concat();
+    let records = records(&judge_on(key.as_bytes(), &arguments).output);
+    assert_eq!(records.len(), 401);
+    for (record, (line, expected)) in records[1..].iter().zip(&lines) {
+        let fields = [&record[3..7], &record[9..10]].concat();
+        let found = fields.join(" ");
+        let expected = expected.as_deref().unwrap_or("not read");
+        assert_eq!(found.trim_end(), expected, "{line}");
+    }
+    for verdict in ["Same", "Different", "Budget", "Full", "Refused 8"] {
+        let is_it = |(_, line): &&(String, Option<String>)| {
+            line.as_ref().is_some_and(|line| line.starts_with(verdict))
+        };
+        assert!(lines.iter().filter(is_it).count() > 2, "{verdict}");
+    }
 }
 
 #[test]

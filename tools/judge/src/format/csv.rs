@@ -1,5 +1,7 @@
 //! A judged key as comma-separated values: RFC 4180, with a header.
 
+use std::collections::HashMap;
+
 use crate::report::{Outcome, Report, Row};
 
 const HEADER: [&str; 16] = [
@@ -29,81 +31,57 @@ pub fn csv(report: &Report) -> String {
     lines.join("\r\n") + "\r"
 }
 
-/// The fields of a row, in the order of the header.
+/// The fields of a row, in the order of the header; those that are not named are empty.
 fn fields(report: &Report, row: &Row) -> [String; HEADER.len()] {
     let [left, right] = row.sides.clone();
-    let mut fields = Fields {
-        verdict: String::new(),
-        numbers: Default::default(),
-        form: Default::default(),
-        place: Default::default(),
-        free: String::new(),
-        side: String::new(),
-        reason: String::new(),
-    };
+    let mut fields = vec![
+        ("line", row.line.to_string()),
+        ("left", left),
+        ("right", right),
+        ("budget", report.limits.budget.to_string()),
+        ("words", report.limits.words.to_string()),
+    ];
     match &row.outcome {
         Outcome::Pressed { press, form, free } => {
             let [left, right] = press.lengths;
-            fields.verdict = press.verdict.name().to_string();
-            fields.numbers = [press.contractions, left, right].map(|number| number.to_string());
-            fields.form = [form.side.to_string(), form.text.clone()];
+            fields.extend([
+                ("verdict", press.verdict.name().to_string()),
+                ("contractions", press.contractions.to_string()),
+                ("left words", left.to_string()),
+                ("right words", right.to_string()),
+                ("form of", form.side.to_string()),
+                ("form", form.text.clone()),
+                ("free names", free.join(" ")),
+                ("reason", report.remark(press).unwrap_or_default()),
+            ]);
             if let (Some(word), Some(mark)) = (press.position, &form.mark) {
                 let column = form.text[..mark.start].chars().count() + 1;
-                fields.place = [word, column].map(|number| number.to_string());
+                fields.push(("differs at word", word.to_string()));
+                fields.push(("differs at column of form", column.to_string()));
             }
-            fields.free = free.join(" ");
-            fields.reason = report.remark(press).unwrap_or_default();
         }
         Outcome::Refused {
             number,
             side,
             reason,
-        } => {
-            fields.verdict = format!("Refused {number}");
-            fields.side = side.map(|side| side.to_string()).unwrap_or_default();
-            fields.reason = reason.clone();
-        }
+        } => fields.extend([
+            ("verdict", format!("Refused {number}")),
+            (
+                "side",
+                side.map(|side| side.to_string()).unwrap_or_default(),
+            ),
+            ("reason", reason.clone()),
+        ]),
         Outcome::Input { reason } => {
-            fields.verdict = "Input".to_string();
-            fields.reason = reason.clone();
+            fields.extend([("verdict", "Input".to_string()), ("reason", reason.clone())])
         }
-        Outcome::Broken { column, reason } => {
-            fields.verdict = "not read".to_string();
-            fields.reason = format!("column {column}: {reason}");
-        }
+        Outcome::Broken { column, reason } => fields.extend([
+            ("verdict", "not read".to_string()),
+            ("reason", format!("column {column}: {reason}")),
+        ]),
     }
-    let [contractions, left_words, right_words] = fields.numbers;
-    let [form_of, form] = fields.form;
-    let [word, column] = fields.place;
-    [
-        row.line.to_string(),
-        left,
-        right,
-        fields.verdict,
-        contractions,
-        left_words,
-        right_words,
-        form_of,
-        form,
-        word,
-        column,
-        fields.free,
-        fields.side,
-        fields.reason,
-        report.limits.budget.to_string(),
-        report.limits.words.to_string(),
-    ]
-}
-
-/// What differs from outcome to outcome.
-struct Fields {
-    verdict: String,
-    numbers: [String; 3],
-    form: [String; 2],
-    place: [String; 2],
-    free: String,
-    side: String,
-    reason: String,
+    let fields: HashMap<&str, String> = fields.into_iter().collect();
+    HEADER.map(|name| fields.get(name).cloned().unwrap_or_default())
 }
 
 fn quoted(field: String) -> String {

@@ -112,10 +112,10 @@ fn marked(form: &Form) -> String {
 fn declarations(declarations: &[String]) -> String {
     match declarations {
         [] => String::new(),
-        lines => format!(
-            "<h2>Declarations</h2>\n<pre>{}</pre>\n",
-            escaped(&lines.join("\n"))
-        ),
+        lines => {
+            let lines: Vec<String> = lines.iter().map(|line| escaped(line)).collect();
+            format!("<h2>Declarations</h2>\n<pre>{}</pre>\n", lines.join("\n"))
+        }
     }
 }
 
