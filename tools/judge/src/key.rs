@@ -48,7 +48,11 @@ pub fn read(bytes: &[u8], notation: &mut Notation) -> Key {
     };
     for (number, text, decoded) in lines(bytes) {
         let content = match decoded {
-            Err(fault) => Err(fault),
+            Err(fault) => {
+                // A declaration takes its names away, since it cannot be read.
+                declared(&text, number, notation);
+                Err(fault)
+            }
             Ok(()) => match declared(&text, number, notation) {
                 Some(Ok(())) => {
                     key.declarations.push(text.trim().to_string());

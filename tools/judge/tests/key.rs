@@ -265,6 +265,31 @@ fn broken_lines_are_told_with_their_places() {
 }
 
 #[test]
+fn a_pair_that_uses_a_broken_declaration_is_not_judged() {
+    let key = b"let one = (\nlet two = %2 \xff\none | %1\ntwo | %2\nthree | %3\n";
+    let answer = judge_on(key, &["--named", "--key", "-", "--format", "csv"]);
+    let rows: Vec<(String, String)> = records(&answer.output)[1..]
+        .iter()
+        .map(|record| (record[3].clone(), record[13].clone()))
+        .collect();
+    let row = |verdict: &str, reason: &str| (verdict.to_string(), reason.to_string());
+    assert_eq!(
+        rows[2..],
+        [
+            row(
+                "not read",
+                "column 1: the declaration of `one` on line 1 cannot be read"
+            ),
+            row(
+                "not read",
+                "column 1: the declaration of `two` on line 2 cannot be read"
+            ),
+            row("Different", ""),
+        ]
+    );
+}
+
+#[test]
 fn a_comment_may_hold_any_bytes() {
     let answer = judge_on(b"0 | 0 -- \xff\n-- \xfe\n", &["--key", "-"]);
     assert_eq!((answer.status, answer.message.as_str()), (0, ""));

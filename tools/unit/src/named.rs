@@ -28,7 +28,7 @@ use std::fmt;
 use crate::print::{written, Printed};
 use crate::term::Term;
 use crate::text::TextError;
-use lexer::Lexer;
+use lexer::{quoted_word, Lexer, Token};
 use printer::ByName;
 use reader::Reader;
 
@@ -60,10 +60,13 @@ impl From<TextError> for NameError {
     }
 }
 
-/// The definitions and constructors of a key file. A call that fails changes nothing.
+/// The definitions and constructors of a key file. A call that fails declares nothing.
 #[derive(Clone, Debug, Default)]
 pub struct Names {
     declared: HashMap<String, Declared>,
+    /// The names whose declaration could not be read, each with its line. No term may use them: what they
+    /// mean is not known.
+    unread: HashMap<String, usize>,
     /// The name of the constructor with a tag.
     tags: HashMap<u32, String>,
     /// The names that stood for free variables, each with the line where it did first.
@@ -103,9 +106,17 @@ impl Names {
         first.is_ok_and(|token| token.is_word("let") || token.is_word("constructor"))
     }
 
-    /// Takes a declaration from the line of this number, or from no line if it is 0.
+    /// Takes a declaration from the line of this number, or from no line if it is 0. Names that a line
+    /// declares wrongly can no longer be used.
     pub fn declare(&mut self, line: &str, number: usize) -> Result<(), NameError> {
-        declaration::read(self, line, number)
+        let done = declaration::read(self, line, number);
+        for name in declaration::names(line) {
+            match done {
+                Ok(()) => self.unread.remove(name),
+                Err(_) => self.unread.insert(name.to_string(), number),
+            };
+        }
+        done
     }
 
     /// Reads a term from the line of this number, or from no line if it is 0. The names free in it are
@@ -135,6 +146,18 @@ impl Names {
         }
     }
 
+    /// Fails if the name's declaration could not be read.
+    fn test(&self, token: Token) -> Result<(), NameError> {
+        match self.unread.get(token.text) {
+            None => Ok(()),
+            Some(&line) => Err(token.error(format!(
+                "the declaration of {}{} cannot be read",
+                quoted_word(token.text),
+                on_line(line)
+            ))),
+        }
+    }
+
     /// Notes that names stood for free variables.
     fn use_free(&mut self, names: &[String], line: usize) {
         for name in names {
@@ -142,5 +165,13 @@ impl Names {
                 self.free.insert(name.clone(), line);
             }
         }
+    }
+}
+
+/// Where something was read.
+fn on_line(line: usize) -> String {
+    match line {
+        0 => String::new(),
+        _ => format!(" on line {line}"),
     }
 }

@@ -849,6 +849,49 @@ fn an_index_has_a_limit() {
 }
 
 #[test]
+fn a_name_whose_declaration_cannot_be_read_is_not_used() {
+    let names = &mut Names::new();
+    for (line, number) in [
+        ("let add = (", 1),
+        ("let mul \\x. x", 2),
+        ("constructor Nil = 1.0, Cons = 300.2", 3),
+        ("let one = %1", 4),
+        ("let one = %2", 5),
+    ] {
+        let read = names.declare(line, number);
+        assert_eq!(read.is_ok(), number == 4, "{line}");
+    }
+    for (text, reason) in [
+        (
+            "x add",
+            "3: the declaration of `add` on line 1 cannot be read",
+        ),
+        (
+            "mul",
+            "1: the declaration of `mul` on line 2 cannot be read",
+        ),
+        (
+            "Nil",
+            "1: the declaration of `Nil` on line 3 cannot be read",
+        ),
+        (
+            "case x of {Cons y z -> y}",
+            "12: the declaration of `Cons` on line 3 cannot be read",
+        ),
+        (
+            "one",
+            "1: the declaration of `one` on line 5 cannot be read",
+        ),
+    ] {
+        assert_eq!(term_error(names, text), reason, "{text}");
+    }
+    // A binder gives the name a meaning, and so does a declaration that can be read.
+    reads(names, r"\add. add", r"\0", &[]);
+    assert_eq!(names.declare("let add = \\x. x", 6), Ok(()));
+    reads(names, "add", r"\0", &[]);
+}
+
+#[test]
 fn doubling_definitions_end_in_an_error() {
     let names = &mut Names::new();
     names.declare("let d0 = a", 1).expect("a definition");

@@ -532,7 +532,7 @@ fn random_declarations_are_taken_or_leave_everything() {
     for _ in 0..2_000 {
         let mut names = Names::new();
         for number in 1..8 {
-            let name = random.one(&["a", "b", "C", "D", "ערך"]);
+            let name = random.one(&DECLARED);
             let line = match random.below(3) {
                 0 => format!(
                     "constructor {name} = {}.{}",
@@ -556,7 +556,13 @@ fn random_declarations_are_taken_or_leave_everything() {
                 Ok(()) => taken += 1,
                 Err(error) => {
                     assert!((1..=line.chars().count() + 1).contains(&error.column));
-                    assert_eq!(before, meanings(&names), "{line}");
+                    let after = meanings(&names);
+                    for ((name, before), after) in DECLARED.iter().zip(before).zip(after) {
+                        match line.contains(&format!("{name} = ")) {
+                            true => assert!(after[1].contains("cannot be read"), "{line}"),
+                            false => assert_eq!(before, after, "{line}"),
+                        }
+                    }
                 }
             }
         }
@@ -564,14 +570,14 @@ fn random_declarations_are_taken_or_leave_everything() {
     assert!(taken > 2_000, "{taken}");
 }
 
-/// What each name means, and what its declaration would meet.
-fn meanings(names: &Names) -> Vec<String> {
-    let mut names = names.clone();
-    let mut meanings = Vec::new();
-    for name in ["a", "b", "C", "D", "ערך"] {
+const DECLARED: [&str; 5] = ["a", "b", "C", "D", "ערך"];
+
+/// What the declaration of each name would meet, and what the name means.
+fn meanings(names: &Names) -> [[String; 2]; 5] {
+    DECLARED.map(|name| {
         let line = format!("let {name} = %0");
-        meanings.push(format!("{:?}", names.clone().declare(&line, 0)));
-        meanings.push(format!("{:?}", names.term(name, &mut Vec::new(), 0)));
-    }
-    meanings
+        let declared = names.clone().declare(&line, 0);
+        let term = names.clone().term(name, &mut Vec::new(), 0);
+        [format!("{declared:?}"), format!("{term:?}")]
+    })
 }

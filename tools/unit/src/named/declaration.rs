@@ -2,7 +2,7 @@
 
 use super::lexer::{quoted_word, Kind, Lexer, Token};
 use super::reader::Reader;
-use super::{Declared, Meaning, NameError, Names, MAX_DEFINED};
+use super::{on_line, Declared, Meaning, NameError, Names, MAX_DEFINED};
 use crate::limits::{MAX_COUNT, TAGS};
 
 /// Reads a declaration and adds it to the names.
@@ -16,6 +16,24 @@ pub(super) fn read(names: &mut Names, line: &str, number: usize) -> Result<(), N
     } else {
         Err(first.expected("`let` or `constructor`"))
     }
+}
+
+/// The names that a line declares, or would if it could be read.
+pub(super) fn names(line: &str) -> Vec<&str> {
+    let mut lexer = Lexer::new(line);
+    let mut tokens = Vec::new();
+    while let Ok(token) = lexer.next() {
+        if token.kind == Kind::End {
+            break;
+        }
+        tokens.push(token);
+    }
+    let declared = tokens.windows(2).filter_map(|pair| match pair {
+        [first, name] if first.is_word("let") && name.kind == Kind::Name => Some(name.text),
+        [name, next] if name.kind == Kind::Name && next.is('=') => Some(name.text),
+        _ => None,
+    });
+    declared.collect()
 }
 
 fn definition(names: &mut Names, mut lexer: Lexer, line: usize) -> Result<(), NameError> {
@@ -116,12 +134,5 @@ fn expect(lexer: &mut Lexer, sign: char) -> Result<(), NameError> {
     match token.is(sign) {
         true => Ok(()),
         false => Err(token.expected(&format!("`{sign}`"))),
-    }
-}
-
-fn on_line(line: usize) -> String {
-    match line {
-        0 => String::new(),
-        _ => format!(" on line {line}"),
     }
 }

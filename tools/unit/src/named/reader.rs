@@ -158,13 +158,16 @@ impl<'a> Reader<'a> {
             return self.variable(index);
         }
         let names = self.names;
+        if self.own == Some(token.text) {
+            return Err(token.error(format!(
+                "{} is used in its own definition; recursion takes a fixpoint combinator",
+                quoted_word(token.text)
+            )));
+        }
+        names.test(token)?;
         match names.declared.get(token.text).map(|known| &known.meaning) {
             Some(&Meaning::Constructor { tag, count }) => self.constructor(tag, count),
             Some(Meaning::Definition { term, free }) => self.put(term, free),
-            None if self.own == Some(token.text) => Err(token.error(format!(
-                "{} is used in its own definition; recursion takes a fixpoint combinator",
-                quoted_word(token.text)
-            ))),
             None => {
                 let number = self.free.number(token.text);
                 self.variable(self.scope.depth() + number)
@@ -363,6 +366,7 @@ impl<'a> Reader<'a> {
     fn branch(&mut self, expected: &str) -> Result<Next, NameError> {
         let token = self.token;
         let name = quoted_word(token.text);
+        self.names.test(token)?;
         let (tag, binders) = match token.kind {
             Kind::Sign('_') => (0, 0),
             Kind::Name => self.names.constructor(token.text).ok_or_else(|| {
