@@ -38,19 +38,27 @@ impl Verdict {
     }
 }
 
+/// Two terms. They are left out where no table holds one of them: definitions can make long ones of a
+/// short file.
 pub struct Pair {
-    pub left: Term,
-    pub right: Term,
+    lengths: [usize; 2],
+    terms: Option<[Term; 2]>,
 }
 
 impl Pair {
-    fn is_too_long(&self) -> bool {
-        let fits = |term: &Term| term.length() <= *WORKSPACE.end();
-        !(fits(&self.left) && fits(&self.right))
+    pub fn new(left: Term, right: Term) -> Pair {
+        let terms = [left, right];
+        let lengths = terms.each_ref().map(Term::length);
+        let is_held = lengths.iter().all(|length| length <= WORKSPACE.end());
+        Pair {
+            lengths,
+            terms: is_held.then_some(terms),
+        }
     }
 
-    fn lengths(&self) -> [u32; 2] {
-        [&self.left, &self.right].map(|term| term.length() as u32)
+    /// The words of both terms.
+    pub fn lengths(&self) -> [usize; 2] {
+        self.lengths
     }
 }
 
@@ -111,7 +119,7 @@ pub fn answers(
 ) -> Result<Vec<Answer>, Failure> {
     let mut answers: Vec<Option<Answer>> = pairs
         .iter()
-        .map(|pair| pair.is_too_long().then_some(Answer::TooLong))
+        .map(|pair| pair.terms.is_none().then_some(Answer::TooLong))
         .collect();
     let replay = Replay { pairs, limits, run };
 
@@ -124,7 +132,8 @@ pub fn answers(
     let open = positions(&answers, Option::is_none);
     let press = |script: &mut Script, place: usize| {
         script.fresh_session();
-        script.press(pairs[place].lengths(), limits.budget);
+        let lengths = pairs[place].lengths.map(|length| length as u32);
+        script.press(lengths, limits.budget);
     };
     let presses = replay.lines(&open, LOADS + PRESS_LINES, press)?;
     for (&place, lines) in open.iter().zip(&presses) {
@@ -155,7 +164,10 @@ pub fn answers(
             *terms = forms.read(&lines[LOADS + PRESS_LINES..], press)?;
         }
     }
-    Ok(answers.into_iter().flatten().collect())
+    let answers = answers.into_iter();
+    Ok(answers
+        .map(|answer| answer.expect("every pair has its answer"))
+        .collect())
 }
 
 /// The lines printed of two loads, and of a session and a press.
@@ -219,8 +231,10 @@ impl Replay<'_> {
         }
         let mut script = Script::new(self.limits.words);
         for &place in places {
-            script.load(Side::Left, &self.pairs[place].left);
-            script.load(Side::Right, &self.pairs[place].right);
+            let terms = self.pairs[place].terms.as_ref();
+            let [left, right] = terms.expect("tables hold both terms");
+            script.load(Side::Left, left);
+            script.load(Side::Right, right);
             operations(&mut script, place);
         }
         let printed = (self.run)(&script.bytes())?;

@@ -18,26 +18,28 @@ use crate::{standard_input, tell};
 /// The exit status where a pair was not decided.
 const UNDECIDED: u8 = 1;
 
-/// What is printed of a key file, and the exit status.
+/// What is printed of a key file, and the exit status. Declarations from other files stand before its own.
 pub fn examine(
     file: &str,
     format: Format,
     settings: &Settings,
     mut notation: Notation,
+    mut declarations: Vec<String>,
 ) -> Result<(String, u8), Failure> {
-    let (name, bytes) = match file {
-        STANDARD_INPUT => ("standard input".to_string(), standard_input()?),
-        path => (file_name(path), read(Path::new(path))?),
+    let (path, bytes) = match file {
+        STANDARD_INPUT => ("standard input", standard_input()?),
+        path => (path, read(Path::new(path))?),
     };
-    let key = key::read(&bytes, &mut notation);
+    let key = key::read(&bytes, path, &mut notation);
+    declarations.extend(key.declarations);
     if key.lines.is_empty() {
         return Err(Failure::text(format!(
-            "{name} has no pair: a line is LEFT | RIGHT, and `--` starts a comment"
+            "{path} has no pair: a line is LEFT | RIGHT, and `--` starts a comment"
         )));
     }
     for line in &key.lines {
         if let Err(fault) = &line.content {
-            tell(&fault.told_on(&name, line.number, &line.text));
+            tell(&fault.told_on(path, line.number, &line.text));
         }
     }
     let pairs = key.lines.iter().flat_map(|line| &line.content);
@@ -59,9 +61,9 @@ pub fn examine(
         .map(|line| Row::new(line, &mut answers, settings.limits, &notation))
         .collect();
     let report = Report {
-        name,
+        name: file_name(path),
         limits: settings.limits,
-        declarations: key.declarations,
+        declarations,
         rows,
     };
     let printed = match format {

@@ -1,4 +1,4 @@
-//! A key file: pairs to be judged, one a line, and in the named notation declarations.
+//! A key file: pairs to be judged, one a line, headings, and in the named notation declarations.
 
 use crate::answers::Pair;
 use crate::notation::{Fault, Notation};
@@ -6,8 +6,9 @@ use unit::Names;
 
 /// Stands between the two terms of a pair.
 const BETWEEN: char = '|';
-/// From here to the end of its line stands a comment.
+/// From here to the end of its line stands a comment; with a third dash, alone on its line, a heading.
 const COMMENT: &str = "--";
+const DASH: char = '-';
 /// May stand before the first line and means nothing.
 const BYTE_ORDER_MARK: &str = "\u{feff}";
 
@@ -21,8 +22,11 @@ pub struct Key {
 pub struct Line {
     /// Counted from 1.
     pub number: usize,
+    /// The heading above it.
+    pub heading: String,
     /// The line without its comment.
     pub text: String,
+    pub comment: String,
     pub content: Result<Content, Fault>,
 }
 
@@ -40,136 +44,238 @@ impl Line {
     }
 }
 
-/// Reads a key file. Lines that cannot be read are among the others.
-pub fn read(bytes: &[u8], notation: &mut Notation) -> Key {
+/// Reads a key file of this name. Lines that cannot be read are among the others.
+pub fn read(bytes: &[u8], file: &str, notation: &mut Notation) -> Key {
     let mut key = Key {
         lines: Vec::new(),
         declarations: Vec::new(),
     };
-    for (number, text, decoded) in lines(bytes) {
-        let content = match decoded {
-            Err(fault) => {
-                // A declaration takes its names away, since it cannot be read.
-                declared(&text, number, notation);
-                Err(fault)
+    let mut heading = String::new();
+    // The declaration right above, if one is.
+    let mut above: Option<Written> = None;
+    for written in written_lines(bytes, file, notation) {
+        if written.is_blank() {
+            heading = written.heading().unwrap_or(heading);
+            continue;
+        }
+        let declaration = above.take();
+        let content = match (&written.decoded, notation.declare(&written)) {
+            (Err(fault), _) => Err(fault.clone()),
+            (Ok(()), Some(Err(fault))) => Err(fault),
+            (Ok(()), Some(Ok(()))) => {
+                key.declarations.push(written.text.trim().to_string());
+                above = Some(written);
+                continue;
             }
-            Ok(()) => match declared(&text, number, notation) {
-                Some(Ok(())) => {
-                    key.declarations.push(text.trim().to_string());
-                    continue;
-                }
-                Some(Err(fault)) => Err(fault),
-                None => pair(&text, number, notation),
-            },
+            (Ok(()), None) => pair(&written.text, written.number, notation),
         };
+        if content.is_err() && !written.is_pair() {
+            // It may be a declaration, or the rest of the one above.
+            notation.revoke(&written);
+            if let Some(declaration) = declaration.filter(|_| !written.is_declaration()) {
+                notation.revoke(&declaration);
+            }
+        }
         key.lines.push(Line {
-            number,
-            text,
+            number: written.number,
+            heading: heading.clone(),
+            text: written.text,
+            comment: written.comment,
             content,
         });
     }
     key
 }
 
-/// Takes the declarations of a key file and leaves its pairs; what is wrong with the first declaration
-/// that cannot be taken.
-pub fn declarations(bytes: &[u8], file: &str, notation: &mut Notation) -> Result<(), String> {
-    for (number, text, _) in lines(bytes) {
-        if let Some(Err(fault)) = declared(&text, number, notation) {
-            return Err(fault.told_on(file, number, &text));
+/// Takes the declarations of a key file and leaves its pairs: the declarations as they are written, or
+/// what is wrong with the first that cannot be taken.
+pub fn declarations(
+    bytes: &[u8],
+    file: &str,
+    notation: &mut Notation,
+) -> Result<Vec<String>, String> {
+    let mut declarations = Vec::new();
+    for written in written_lines(bytes, file, notation) {
+        if written.is_blank() || written.is_pair() {
+            continue;
         }
+        let declared = match notation.declare(&written) {
+            Some(declared) => declared,
+            None => Err(Fault::no_declaration()),
+        };
+        if let Err(fault) = written.decoded.clone().and(declared) {
+            return Err(fault.told_on(file, written.number, &written.text));
+        }
+        declarations.push(written.text.trim().to_string());
     }
-    Ok(())
+    Ok(declarations)
 }
 
-/// The lines without their comments that are not blank, with their numbers, and whether all bytes are
-/// text.
-fn lines(bytes: &[u8]) -> impl Iterator<Item = (usize, String, Result<(), Fault>)> + '_ {
+/// A line as it is written.
+struct Written {
+    number: usize,
+    text: String,
+    comment: String,
+    /// Whether all bytes before the comment are text.
+    decoded: Result<(), Fault>,
+}
+
+/// The lines of a file, after all that they declare is announced.
+fn written_lines(bytes: &[u8], file: &str, notation: &mut Notation) -> Vec<Written> {
     let mark = BYTE_ORDER_MARK.as_bytes();
     let bytes = bytes.strip_prefix(mark).unwrap_or(bytes);
-    let lines = (1..).zip(bytes.split(|&byte| byte == b'\n'));
-    let texts = lines.map(|(number, line)| {
-        let (text, decoded) = decoded(without_comment(line));
-        (number, text.trim_end().to_string(), decoded)
-    });
-    texts.filter(|(_, text, decoded)| decoded.is_err() || !text.trim().is_empty())
+    let lines = (1..).zip(split_lines(bytes));
+    let lines: Vec<Written> = lines
+        .map(|(number, line)| Written::new(number, line))
+        .collect();
+    if let Notation::Named(names) = notation {
+        names.begin(file);
+        for line in lines.iter().filter(|line| line.is_declaration()) {
+            names.announce(&line.text, line.number);
+        }
+    }
+    lines
 }
 
-/// What comes of a declaration; none if the line is no declaration.
-fn declared(text: &str, number: usize, notation: &mut Notation) -> Option<Result<(), Fault>> {
-    match notation {
-        Notation::Named(names) if Names::is_declaration(text) => {
-            Some(names.declare(text, number).map_err(Fault::from))
+/// A line ends in LF, CR LF or CR.
+fn split_lines(bytes: &[u8]) -> Vec<&[u8]> {
+    let mut lines = Vec::new();
+    let mut rest = bytes;
+    while let Some(end) = rest.iter().position(|byte| b"\r\n".contains(byte)) {
+        lines.push(&rest[..end]);
+        let is_double = rest[end..].starts_with(b"\r\n");
+        rest = &rest[end + 1 + usize::from(is_double)..];
+    }
+    lines.push(rest);
+    lines
+}
+
+impl Written {
+    fn new(number: usize, line: &[u8]) -> Written {
+        let mut starts = line.windows(COMMENT.len());
+        let end = starts.position(|bytes| bytes == COMMENT.as_bytes());
+        let (code, comment) = match end {
+            Some(end) => (&line[..end], &line[end + COMMENT.len()..]),
+            None => (line, &[][..]),
+        };
+        Written {
+            number,
+            text: String::from_utf8_lossy(code).trim_end().to_string(),
+            comment: String::from_utf8_lossy(comment).trim().to_string(),
+            decoded: decoded(code),
         }
-        _ => None,
+    }
+
+    fn is_blank(&self) -> bool {
+        self.text.trim().is_empty() && self.decoded.is_ok()
+    }
+
+    fn is_declaration(&self) -> bool {
+        Names::is_declaration(&self.text)
+    }
+
+    /// Whether it is meant as a pair.
+    fn is_pair(&self) -> bool {
+        self.text.contains(BETWEEN) && !self.is_declaration()
+    }
+
+    /// The heading that a blank line with a comment is, if it is one.
+    fn heading(&self) -> Option<String> {
+        let heading = self.comment.strip_prefix(DASH)?.trim_matches(DASH).trim();
+        (!heading.is_empty()).then(|| heading.to_string())
     }
 }
 
-fn without_comment(line: &[u8]) -> &[u8] {
-    let mut starts = line.windows(COMMENT.len());
-    let end = starts.position(|bytes| bytes == COMMENT.as_bytes());
-    &line[..end.unwrap_or(line.len())]
-}
-
-/// A line as text, and whether all of it is.
-fn decoded(bytes: &[u8]) -> (String, Result<(), Fault>) {
-    let text = String::from_utf8_lossy(bytes).into_owned();
-    let result = std::str::from_utf8(bytes).map(|_| ()).map_err(|error| {
-        let valid = String::from_utf8_lossy(&bytes[..error.valid_up_to()]);
+/// Whether all bytes are text.
+fn decoded(bytes: &[u8]) -> Result<(), Fault> {
+    std::str::from_utf8(bytes).map(|_| ()).map_err(|error| {
+        let end = error.valid_up_to();
+        let valid = String::from_utf8_lossy(&bytes[..end]);
         Fault {
             column: valid.chars().count() + 1,
             reason: format!(
-                "expected UTF-8, found the byte {}",
-                bytes[error.valid_up_to()]
+                "expected UTF-8, found the byte {}; save the file as UTF-8",
+                bytes[end]
             ),
         }
-    });
-    (text, result)
+    })
 }
 
-impl Fault {
-    /// The same where the left term ends too early: what is found is the sign between the terms.
-    fn found_between(self) -> Fault {
-        let reason = self.reason.replace("found the end", "found `|`");
-        Fault { reason, ..self }
+impl Notation {
+    /// What comes of a declaration; none if the line is no declaration.
+    fn declare(&mut self, line: &Written) -> Option<Result<(), Fault>> {
+        match self {
+            Notation::Named(names) if line.is_declaration() => {
+                let declared = names.declare(&line.text, line.number);
+                Some(declared.map_err(Fault::from))
+            }
+            _ => None,
+        }
+    }
+
+    /// Takes what a line declares away.
+    fn revoke(&mut self, line: &Written) {
+        if let Notation::Named(names) = self {
+            names.revoke(&line.text, line.number);
+        }
     }
 }
 
 fn pair(text: &str, number: usize, notation: &mut Notation) -> Result<Content, Fault> {
-    let mut free = Vec::new();
     let parts: Vec<&str> = text.split(BETWEEN).collect();
-    let after = |parts: &[&str]| parts.iter().map(|part| part.chars().count() + 1).sum();
-    let left = notation.term(parts[0], &mut free, number);
-    let left =
-        left.map_err(
-            |fault| match parts.len() > 1 && fault.column == after(&parts[..1]) {
-                true => fault.found_between(),
+    let mut free = Vec::new();
+    let mut terms = Vec::new();
+    // The column where a part starts.
+    let mut column = 1;
+    for (place, part) in parts.iter().take(2).enumerate() {
+        let length = part.chars().count();
+        let is_followed = place + 1 < parts.len();
+        let term = notation.term(part, &mut free, number);
+        terms.push(term.map_err(|fault| {
+            let fault = match place {
+                0 => fault.reworded("or the end,", "or `|`,"),
+                _ => fault,
+            };
+            let fault = match is_followed && fault.column > length {
+                true => fault.reworded("found the end", "found `|`"),
                 false => fault,
-            },
-        )?;
-    let missing = |column: usize, reason: &str| Fault {
+            };
+            Fault {
+                column: fault.column + column - 1,
+                ..fault
+            }
+        })?);
+        column += length + 1;
+    }
+    let wrong = |column: usize, reason: &str| Fault {
         column,
         reason: reason.to_string(),
     };
-    if parts.len() == 1 {
-        return Err(missing(
-            after(&parts),
-            "expected `|` and the right term, found the end",
-        ));
+    match <[_; 2]>::try_from(terms) {
+        Ok([left, right]) if parts.len() == 2 => Ok(Content {
+            pair: Pair::new(left, right),
+            free,
+        }),
+        Ok(_) => Err(wrong(column - 1, "expected the end, found a second `|`")),
+        Err(_) => {
+            let reason =
+                "expected `|` and the right term, found the end; a pair stands on one line";
+            Err(wrong(column - 1, reason))
+        }
     }
-    let shifted = |fault: Fault| Fault {
-        column: fault.column + after(&parts[..1]),
-        ..fault
-    };
-    let right = notation
-        .term(parts[1], &mut free, number)
-        .map_err(shifted)?;
-    if parts.len() > 2 {
-        return Err(missing(
-            after(&parts[..2]),
-            "expected the end, found a second `|`",
-        ));
+}
+
+impl Fault {
+    fn no_declaration() -> Fault {
+        Fault {
+            column: 1,
+            reason: "expected `let`, `constructor` or a pair".to_string(),
+        }
     }
-    let pair = Pair { left, right };
-    Ok(Content { pair, free })
+
+    /// The fault of a part of a line, in words of the whole line.
+    fn reworded(self, part: &str, whole: &str) -> Fault {
+        let reason = self.reason.replace(part, whole);
+        Fault { reason, ..self }
+    }
 }

@@ -71,7 +71,10 @@ fn run(arguments: Vec<OsString>) -> Result<(String, u8), Failure> {
     let texts: Option<Vec<&str>> = arguments.iter().map(|text| text.to_str()).collect();
     let texts = texts.ok_or_else(|| Failure::usage("an argument is not UTF-8".to_string()))?;
     let (task, settings) = options::read(&texts)?;
-    let mut notation = notation(&settings)?;
+    let (mut notation, declarations) = match task {
+        Task::Help | Task::Version | Task::Explain(_) => (Notation::Indices, Vec::new()),
+        _ => notation(&settings)?,
+    };
     let text = match task {
         Task::Help => HELP.trim_end().to_string(),
         Task::Version => concat!("judge ", env!("CARGO_PKG_VERSION")).to_string(),
@@ -97,24 +100,26 @@ fn run(arguments: Vec<OsString>) -> Result<(String, u8), Failure> {
         Task::Trace(terms) => return pair::trace(terms, &settings, notation),
         Task::Needs(terms) => return pair::needs(terms, &settings, notation),
         Task::Key(file, format) => {
-            return examination::examine(&file, format, &settings, notation);
+            return examination::examine(&file, format, &settings, notation, declarations);
         }
     };
     Ok((text, 0))
 }
 
-/// The notation that is asked for, with the declarations of the files that are named.
-fn notation(settings: &Settings) -> Result<Notation, Failure> {
+/// The notation that is asked for, and the declarations that it takes from files.
+fn notation(settings: &Settings) -> Result<(Notation, Vec<String>), Failure> {
     if !settings.named {
-        return Ok(Notation::Indices);
+        return Ok((Notation::Indices, Vec::new()));
     }
-    let mut notation = Notation::Named(Names::new());
+    let mut notation = Notation::Named(Box::new(Names::new()));
+    let mut declarations = Vec::new();
     for path in &settings.using {
         let bytes = examination::read(path)?;
         let name = path.display().to_string();
-        key::declarations(&bytes, &name, &mut notation).map_err(Failure::text)?;
+        let declared = key::declarations(&bytes, &name, &mut notation);
+        declarations.extend(declared.map_err(Failure::text)?);
     }
-    Ok(notation)
+    Ok((notation, declarations))
 }
 
 fn explained(subject: &str) -> Result<String, Failure> {

@@ -4,7 +4,14 @@
 use std::fmt;
 
 use crate::failure::Failure;
+use crate::verdict::Limits;
 use unit::limits::{MAX_BUDGET, WORKSPACE};
+
+/// The largest limits, with which the search begins.
+pub const LARGEST: Limits = Limits {
+    budget: MAX_BUDGET,
+    words: MOST_WORDS,
+};
 
 const LEAST_WORDS: u32 = *WORKSPACE.start() as u32;
 const MOST_WORDS: u32 = *WORKSPACE.end() as u32;
@@ -73,7 +80,7 @@ impl fmt::Display for Needs {
 
 /// What the pair needs that `run` asks the program about.
 pub fn needs(run: &mut Run) -> Result<Needs, Failure> {
-    let line = run(MAX_BUDGET, MOST_WORDS)?;
+    let line = run(LARGEST.budget, LARGEST.words)?;
     let fields: Vec<&str> = line.split(' ').collect();
     let spent = match fields[..] {
         ["Same", spent, _, _] | ["Different", spent, _, _, _] => spent.parse().ok(),

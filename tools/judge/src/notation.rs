@@ -1,19 +1,21 @@
 //! The two notations of terms.
 
 use crate::place;
+use unit::characters::is_format;
 use unit::{quoted, NameError, Names, Printed, Term, TextError};
 
 /// Around the bits of an encoding, which may stand for a whole term in either notation.
 const OPEN: char = '<';
 const CLOSE: char = '>';
+const BLANKS: [char; 4] = [' ', '\t', '\n', '\r'];
 
 pub enum Notation {
     Indices,
-    Named(Names),
+    Named(Box<Names>),
 }
 
 /// What is wrong with a text, and where.
-#[derive(Debug, PartialEq, Eq)]
+#[derive(Clone, Debug, PartialEq, Eq)]
 pub struct Fault {
     /// Counted in characters from 1.
     pub column: usize,
@@ -25,6 +27,11 @@ impl Fault {
     pub fn told(&self, name: &str, text: &str) -> String {
         let (line, column, text) = place::line_of(text, self.column);
         told(name, line, column, &self.reason, text)
+    }
+
+    fn with(self, hint: &str) -> Fault {
+        let reason = self.reason + hint;
+        Fault { reason, ..self }
     }
 
     /// The fault of a line of a file.
@@ -45,31 +52,58 @@ impl From<NameError> for Fault {
     }
 }
 
-impl Fault {
-    fn of_indices(error: &TextError, text: &str) -> Fault {
-        let found = text.chars().nth(error.column - 1);
-        let hint = match found.is_some_and(char::is_alphabetic) {
-            true => "; names are read with --named",
-            false => "",
-        };
-        Fault {
-            column: error.column,
-            reason: format!("expected {}, found {}{hint}", error.expected, error.found),
-        }
+impl From<TextError> for Fault {
+    fn from(error: TextError) -> Fault {
+        let TextError {
+            column,
+            expected,
+            found,
+        } = error;
+        let reason = format!("expected {expected}, found {found}");
+        Fault { column, reason }
     }
 }
 
 impl Notation {
     /// Reads a term on a line, 0 where the text has none. Names that are free in it are added to `free`.
     pub fn term(&mut self, text: &str, free: &mut Vec<String>, line: usize) -> Result<Term, Fault> {
-        if text.trim_start().starts_with(OPEN) {
+        if text.trim_start_matches(BLANKS).starts_with(OPEN) {
             return encoded(text);
         }
+        let term = match self {
+            Notation::Indices => text.parse().map_err(|error: TextError| error.into()),
+            Notation::Named(names) => names.term(text, free, line).map_err(Fault::from),
+        };
+        term.map_err(|fault| {
+            let found = text.chars().nth(fault.column - 1);
+            let hint = found.and_then(|found| self.hint(found, &fault.reason));
+            fault.with(hint.unwrap_or_default())
+        })
+    }
+
+    /// What may help whoever wrote a character that cannot stand where it does.
+    fn hint(&self, found: char, reason: &str) -> Option<&'static str> {
+        let is_named = matches!(self, Notation::Named(_));
+        match found {
+            '0'..='9' if is_named && reason.contains("a name") => {
+                Some("; indices are read without --named")
+            }
+            '=' if is_named => Some("; a declaration starts with `let` or `constructor`"),
+            _ if !is_named && found.is_alphabetic() => Some("; names are read with --named"),
+            '“' | '”' | '‘' | '’' | '–' | '—' | '！'..='～' => {
+                Some("; write the sign of a plain keyboard")
+            }
+            _ if !found.is_ascii() && found.is_whitespace() => Some("; write a plain space"),
+            _ if is_format(found) => Some("; it cannot be seen, take it out"),
+            _ => None,
+        }
+    }
+
+    /// What free names may have been meant to be, where they look like slips of the pen.
+    pub fn doubts(&self, free: &[String]) -> Vec<String> {
         match self {
-            Notation::Indices => text
-                .parse()
-                .map_err(|error| Fault::of_indices(&error, text)),
-            Notation::Named(names) => Ok(names.term(text, free, line)?),
+            Notation::Indices => Vec::new(),
+            Notation::Named(names) => free.iter().filter_map(|name| names.doubt(name)).collect(),
         }
     }
 
@@ -90,7 +124,7 @@ fn encoded(text: &str) -> Result<Term, Fault> {
     let mut columns = Vec::new();
     let mut rest = (1..)
         .zip(text.chars())
-        .filter(|(_, character)| !character.is_whitespace())
+        .filter(|(_, character)| !BLANKS.contains(character))
         .skip(1);
     loop {
         let (column, next) = match rest.next() {

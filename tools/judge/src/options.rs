@@ -55,7 +55,7 @@ pub enum Format {
 }
 
 /// How terms are read and judged.
-#[derive(Debug, PartialEq, Eq)]
+#[derive(Debug, Default, PartialEq, Eq)]
 pub struct Settings {
     pub limits: Limits,
     pub program: Option<PathBuf>,
@@ -90,17 +90,7 @@ enum Mode {
 pub fn read(arguments: &[&str]) -> Result<(Task, Settings), Failure> {
     let mut mode = Mode::Judge;
     let mut given = Given::default();
-    let mut settings = Settings {
-        limits: Limits {
-            budget: DEFAULT_BUDGET,
-            words: DEFAULT_WORDS,
-        },
-        program: None,
-        repository: None,
-        exit_code: false,
-        named: false,
-        using: Vec::new(),
-    };
+    let mut settings = Settings::default();
     let mut texts = Vec::new();
     let mut rest = arguments.iter().peekable();
     while let Some(&argument) = rest.next() {
@@ -143,7 +133,7 @@ pub fn read(arguments: &[&str]) -> Result<(Task, Settings), Failure> {
             }
         }
     }
-    given.suit(&mode, &settings)?;
+    given.suit(&mode, &settings, &texts)?;
     settings.limits.budget = given.budget.unwrap_or(DEFAULT_BUDGET);
     settings.limits.words = given.words.unwrap_or(DEFAULT_WORDS);
     let task = task(mode, &texts, given.format.unwrap_or(Format::Text))?;
@@ -160,14 +150,17 @@ struct Given {
 
 impl Given {
     /// Whether each option has something to do with what is asked for.
-    fn suit(&self, mode: &Mode, settings: &Settings) -> Result<(), Failure> {
+    fn suit(&self, mode: &Mode, settings: &Settings, texts: &[&str]) -> Result<(), Failure> {
         let is_key = matches!(mode, Mode::Key(_));
+        let is_pair = matches!(mode, Mode::Judge | Mode::Forms | Mode::Trace | Mode::Needs);
         let reason = if self.format.is_some() && !is_key {
             "--format goes with --key"
         } else if settings.exit_code && is_key {
             "--exit-code goes with one pair; the exit status of --key says whether every pair was decided"
         } else if !settings.using.is_empty() && !settings.named {
             "--using goes with --named"
+        } else if settings.named && is_pair && texts.is_empty() {
+            "--named needs two terms, each in single quotes, or --key FILE"
         } else if *mode == Mode::Needs && (self.budget.is_some() || self.words.is_some()) {
             "--needs finds the budget and the words; it takes neither"
         } else {
@@ -218,8 +211,10 @@ impl<'a, 'r> Argument<'a, 'r> {
         Ok(())
     }
 
+    /// The next argument is none if it is an option itself.
     fn value(&mut self) -> Result<&'a str, Failure> {
-        let value = self.value.or_else(|| self.rest.next().copied());
+        let is_value = |argument: &&&str| !argument.starts_with("--");
+        let value = self.value.or_else(|| self.rest.next_if(is_value).copied());
         value.ok_or_else(|| Failure::usage(format!("{} needs a value", self.name)))
     }
 
@@ -239,7 +234,7 @@ impl<'a, 'r> Argument<'a, 'r> {
         text.parse().map_err(|_| {
             let (name, limit) = (self.name, u32::MAX);
             Failure::usage(format!(
-                "{name} needs a number from 0 to {limit}, found `{text}`"
+                "{name} needs a number from 0 to {limit} in digits alone, found `{text}`"
             ))
         })
     }
@@ -298,7 +293,7 @@ fn terms(texts: &[&str]) -> Result<Terms, Failure> {
         ))),
         [left, right] => Ok(Terms::Given(left.to_string(), right.to_string())),
         _ => Err(Failure::usage(format!(
-            "two terms are needed, each in single quotes, or none; found {}",
+            "two terms are needed, each in single quotes, or none; found {} (a file of pairs goes with --key)",
             texts.len()
         ))),
     }

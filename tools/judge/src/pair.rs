@@ -16,7 +16,8 @@ use unit::Term;
 
 /// A pair as it was read.
 struct Read {
-    pair: Pair,
+    left: Term,
+    right: Term,
     notation: Notation,
     /// The names that are free in it.
     free: Vec<String>,
@@ -39,17 +40,20 @@ impl Read {
                  input"
             ));
         }
+        for doubt in notation.doubts(&free) {
+            tell(&doubt);
+        }
         Ok(Read {
-            pair: Pair { left, right },
+            left,
+            right,
             notation,
             free,
         })
     }
 
-    fn question(&self, limits: Limits) -> Question<'_> {
+    fn question(&self, limits: Limits) -> Question {
         Question {
-            left: &self.pair.left,
-            right: &self.pair.right,
+            lengths: [self.left.length(), self.right.length()],
             limits,
         }
     }
@@ -60,14 +64,13 @@ impl Read {
 
     /// The program's line for the pair within these limits.
     fn line(&self, program: &Program, limits: Limits) -> Result<String, Failure> {
-        ask(program, limits, &self.pair.left, &self.pair.right)
+        ask(program, limits, &self.left, &self.right)
     }
 
     /// Tells why the program's line has no verdict, if it has none.
     fn tell_reason(&self, line: &str, program: &Program, limits: Limits) -> Result<(), Failure> {
-        let left = &self.pair.left;
-        let question = self.question(limits);
-        let reason = question.reason(line, || ask(program, limits, left, left))?;
+        let left_alone = || ask(program, limits, &self.left, &self.left);
+        let reason = self.question(limits).reason(line, left_alone)?;
         if let Some(reason) = reason {
             tell(&reason);
         }
@@ -132,7 +135,8 @@ pub fn forms(
     let read = Read::new(terms, notation)?;
     let program = Program::find(REPLAY, settings)?;
     let run = |input: &[u8]| program.lines(input);
-    let answers = answers(&[&read.pair], settings.limits, Forms::Both, &run)?;
+    let pair = Pair::new(read.left.clone(), read.right.clone());
+    let answers = answers(&[&pair], settings.limits, Forms::Both, &run)?;
     let question = read.question(settings.limits);
     let mut lines = Vec::new();
     for answer in answers {
@@ -173,14 +177,7 @@ pub fn trace(
     let mut output = BufWriter::new(io::stdout());
     let show = |term: &Term| read.text(term);
     let Limits { budget, words } = settings.limits;
-    let traced = trace::trace(
-        &read.pair.left,
-        &read.pair.right,
-        budget,
-        words,
-        &show,
-        &mut output,
-    );
+    let traced = trace::trace(&read.left, &read.right, budget, words, &show, &mut output);
     let traced = traced
         .and_then(|traced| output.flush().map(|()| traced))
         .map_err(unwritten)?;
@@ -202,7 +199,7 @@ pub fn needs(
     let program = Program::find(VERDICT, settings)?;
     let run = &mut |budget, words| read.line(&program, Limits { budget, words });
     let needs = needs::needs(run)?;
-    read.tell_reason(needs.line(), &program, settings.limits)?;
+    read.tell_reason(needs.line(), &program, needs::LARGEST)?;
     let status = exit_status(needs.line(), settings);
     Ok((needs.to_string(), status))
 }

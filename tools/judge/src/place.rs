@@ -8,9 +8,11 @@ use unit::characters::{is_format, is_mark, is_right_to_left, width};
 const AROUND: usize = 60;
 const CUT: &str = "..";
 
-/// Put around text, they make every terminal write it from left to right.
-const LEFT_TO_RIGHT: char = '\u{202d}';
-const AS_BEFORE: char = '\u{202c}';
+/// Makes a terminal that knows of directions write a line from left to right.
+const LEFT_TO_RIGHT: char = '\u{200e}';
+/// Around a word they keep its direction to itself.
+const ISOLATE: char = '\u{2068}';
+const END_OF_ISOLATE: char = '\u{2069}';
 
 /// The text around a column, counted in characters from 1, and below it a caret, in text of any script.
 pub fn marked(text: &str, column: usize) -> String {
@@ -43,7 +45,7 @@ pub fn shown(text: &str) -> String {
 pub fn columns(text: &str) -> usize {
     let cells = Cells(text.chars().collect());
     let places = 0..cells.0.len();
-    let starts = places.filter(|&place| cells.start(place) == place);
+    let starts = places.filter(|&place| !cells.is_drawn_on_the_one_before(place));
     starts.map(|start| cells.width(start)).sum()
 }
 
@@ -62,6 +64,25 @@ pub fn line_of(text: &str, column: usize) -> (usize, usize, &str) {
     unreachable!("every text has a last line")
 }
 
+/// The words of a text and what stands between them, and whether each has letters that run from right to
+/// left.
+pub fn words(text: &str) -> Vec<(&str, bool)> {
+    let in_word = |character: char| {
+        character.is_alphanumeric()
+            || is_mark(character)
+            || "_'\u{200c}\u{200d}".contains(character)
+    };
+    let mut parts = Vec::new();
+    let mut rest = text;
+    while let Some(first) = rest.chars().next() {
+        let end = rest.find(|character| in_word(character) != in_word(first));
+        let (part, after) = rest.split_at(end.unwrap_or(rest.len()));
+        parts.push((part, part.contains(is_right_to_left)));
+        rest = after;
+    }
+    parts
+}
+
 /// The characters of a text. A cell is a character and those drawn on it.
 struct Cells(Vec<char>);
 
@@ -69,10 +90,21 @@ impl Cells {
     /// The characters of a range as they are shown, from left to right.
     fn text(&self, range: Range<usize>) -> String {
         let text: String = range.map(|position| self.shown(position)).collect();
-        match text.contains(is_right_to_left) {
-            true => format!("{LEFT_TO_RIGHT}{text}{AS_BEFORE}"),
-            false => text,
+        if !text.contains(is_right_to_left) {
+            return text;
         }
+        let mut line = LEFT_TO_RIGHT.to_string();
+        for (word, is_turned) in words(&text) {
+            match is_turned {
+                true => line.extend([
+                    ISOLATE.to_string(),
+                    word.to_string(),
+                    END_OF_ISOLATE.to_string(),
+                ]),
+                false => line.push_str(word),
+            }
+        }
+        line
     }
 
     /// The first position of the cell around a position.
@@ -198,9 +230,13 @@ mod tests {
 
     #[test]
     fn text_from_right_to_left_is_turned() {
-        assert_eq!(marked("ערך )", 5), below("\u{202d}ערך )\u{202c}", 4));
-        assert_eq!(marked("f قيمة )", 8), below("\u{202d}f قيمة )\u{202c}", 7));
-        assert_eq!(marked("٣ ٤", 3), below("\u{202d}٣ ٤\u{202c}", 2));
+        let turned = |word: &str| format!("\u{2068}{word}\u{2069}");
+        let line = format!("\u{200e}{} )", turned("ערך"));
+        assert_eq!(marked("ערך )", 5), below(&line, 4));
+        let line = format!("\u{200e}f {} )", turned("قيمة"));
+        assert_eq!(marked("f قيمة )", 8), below(&line, 7));
+        let line = format!("\u{200e}{} {}", turned("٣"), turned("٤"));
+        assert_eq!(marked("٣ ٤", 3), below(&line, 2));
         // Only what is shown counts.
         let text = format!("ערך{}", "a".repeat(100));
         assert_eq!(

@@ -21,9 +21,12 @@ pub struct Report {
 /// What came of a line.
 pub struct Row {
     pub line: usize,
+    /// The heading above it in the file.
+    pub heading: String,
     /// The line without its comment, and both terms, as they are written.
     pub text: String,
     pub sides: [String; 2],
+    pub comment: String,
     pub outcome: Outcome,
 }
 
@@ -31,8 +34,9 @@ pub enum Outcome {
     Pressed {
         press: Press,
         form: Form,
-        /// The names that are free in the pair.
+        /// The names that are free in the pair, and what is doubtful about them.
         free: Vec<String>,
+        doubts: Vec<String>,
     },
     Refused {
         number: u32,
@@ -47,7 +51,8 @@ pub enum Outcome {
 
 /// The shorter of the two current terms.
 pub struct Form {
-    pub side: Side,
+    /// `left`, `right`, or `both` where the terms are equal.
+    pub whose: String,
     pub text: String,
     /// The part of the text that stands for the first word that differs.
     pub mark: Option<Range<usize>>,
@@ -75,8 +80,10 @@ impl Row {
         };
         Row {
             line: line.number,
+            heading: line.heading,
             text,
             sides,
+            comment: line.comment,
             outcome,
         }
     }
@@ -90,15 +97,20 @@ impl Outcome {
     fn new(content: Content, answer: Answer, limits: Limits, notation: &Notation) -> Outcome {
         let Content { pair, free } = content;
         let question = Question {
-            left: &pair.left,
-            right: &pair.right,
+            lengths: pair.lengths(),
             limits,
         };
         match answer {
             Answer::Pressed(press, terms) => {
                 let (side, term) = &terms[0];
                 let form = Form::new(*side, notation.printed(term, &free), &press);
-                Outcome::Pressed { press, form, free }
+                let doubts = notation.doubts(&free);
+                Outcome::Pressed {
+                    press,
+                    form,
+                    free,
+                    doubts,
+                }
             }
             Answer::Refused { side, number } => Outcome::Refused {
                 number,
@@ -116,7 +128,10 @@ impl Form {
     fn new(side: Side, printed: Printed, press: &Press) -> Form {
         let mark = press.position.and_then(|word| printed.spans.get(word));
         Form {
-            side,
+            whose: match press.verdict {
+                Verdict::Same => "both".to_string(),
+                _ => side.to_string(),
+            },
             mark: mark.cloned(),
             text: printed.text,
         }
@@ -131,7 +146,7 @@ impl Form {
             None => 0..forward(text, 0, most),
             Some(_) => {
                 let start = backward(text, mark.start, most / 2);
-                start..forward(text, start, most)
+                start..forward(text, start, most).max(forward(text, mark.start, 1))
             }
         };
         let mark = mark.start.min(window.end)..mark.end.min(window.end);
@@ -171,6 +186,16 @@ pub struct Excerpt<'a> {
 impl Report {
     pub fn is_decided(&self) -> bool {
         self.rows.iter().all(Row::is_decided)
+    }
+
+    /// The rows, each with its heading where it is the first below it.
+    pub fn rows(&self) -> impl Iterator<Item = (Option<&str>, &Row)> {
+        let mut above = "";
+        self.rows.iter().map(move |row| {
+            let is_first = row.heading != above;
+            above = &row.heading;
+            (is_first.then_some(row.heading.as_str()), row)
+        })
     }
 
     /// How many lines came to what: `3 lines: 2 Same, 1 refused`.
@@ -250,23 +275,37 @@ impl Report {
     }
 }
 
-/// What the verdicts say, for a reader of a key.
-pub const MEANINGS: [(Verdict, &str); 4] = [
+/// What stands for a line that has no verdict.
+pub const REFUSED: &str = "Refused";
+pub const INPUT: &str = "Input";
+pub const NOT_READ: &str = "Not read";
+
+/// What these and the verdicts say, for a reader of a key.
+pub const MEANINGS: [(&str, &str); 7] = [
     (
-        Verdict::Same,
+        "Same",
         "The two terms are convertible: contractions lead from each to one common term.",
     ),
     (
-        Verdict::Different,
+        "Different",
         "The two terms are not convertible: they have distinct normal forms. There is no eta.",
     ),
     (
-        Verdict::Budget,
+        "Budget",
         "Nothing was found out: the next round would have passed the budget.",
     ),
     (
-        Verdict::Full,
+        "Full",
         "Nothing was found out: a next term would have been longer than a workspace.",
+    ),
+    (
+        REFUSED,
+        "The unit does not take a term or a limit, for the reason of this number. Nothing was found out.",
+    ),
+    (INPUT, "A term has more than 2048 words. Nothing was found out."),
+    (
+        NOT_READ,
+        "The line is no pair, or uses a name whose declaration cannot be read. Nothing was found out.",
     ),
 ];
 

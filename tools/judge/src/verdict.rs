@@ -3,7 +3,6 @@
 use crate::failure::Failure;
 use unit::limits::{MAX_BUDGET, MAX_COUNT, MAX_FREE, TAGS, WORKSPACE};
 use unit::script::Side;
-use unit::Term;
 
 /// The exit status that tells of the line, if the user asks for it.
 pub fn status(line: &str) -> u8 {
@@ -17,7 +16,7 @@ pub fn status(line: &str) -> u8 {
     }
 }
 
-#[derive(Clone, Copy, Debug, PartialEq, Eq)]
+#[derive(Clone, Copy, Debug, Default, PartialEq, Eq)]
 pub struct Limits {
     /// The most contractions to make.
     pub budget: u32,
@@ -26,13 +25,13 @@ pub struct Limits {
 }
 
 /// What the program was asked.
-pub struct Question<'a> {
-    pub left: &'a Term,
-    pub right: &'a Term,
+pub struct Question {
+    /// The words of both terms.
+    pub lengths: [usize; 2],
     pub limits: Limits,
 }
 
-impl Question<'_> {
+impl Question {
     /// Why the line has no verdict, if it has none. Which side a number is about the program tells
     /// itself, by its line for the left term on both sides.
     pub fn reason(
@@ -58,11 +57,10 @@ impl Question<'_> {
     }
 
     pub fn too_long(&self) -> String {
+        let [left, right] = self.lengths;
         format!(
-            "a table holds {} words of a term; left has {}, right {}",
+            "a table holds {} words of a term; left has {left}, right {right}",
             WORKSPACE.end(),
-            self.left.length(),
-            self.right.length()
         )
     }
 
@@ -105,18 +103,15 @@ impl Question<'_> {
                  stands first"
             ),
             6 => {
-                format!("a free number, an index less the binders around it, is above {MAX_FREE}")
+                let names = MAX_FREE + 1;
+                format!(
+                    "a free number, an index less the binders around it, is above {MAX_FREE} (with names: \
+                     more than {names} are free)"
+                )
             }
             8 => {
-                let term = match side {
-                    Side::Left => self.left,
-                    Side::Right => self.right,
-                };
-                format!(
-                    "{} words are more than C, which is {}",
-                    term.length(),
-                    self.limits.words
-                )
+                let words = self.lengths[side as usize];
+                format!("{words} words are more than C, which is {}", self.limits.words)
             }
             _ => format!("refusal {number}"),
         }

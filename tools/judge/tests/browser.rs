@@ -7,9 +7,13 @@ use std::env;
 use std::fs;
 use std::path::{Path, PathBuf};
 use std::process::{Command, Output};
+use std::sync::atomic::{AtomicUsize, Ordering};
 
 /// Names under which distributions install browsers that take the options below.
 const BROWSERS: [&str; 3] = ["chromium", "chromium-browser", "google-chrome"];
+
+/// A browser that takes longer is ended, and the test fails.
+const SECONDS: &str = "120";
 
 /// A browser without a window, or none, which is said.
 fn browser(options: &[&str]) -> Option<Output> {
@@ -22,8 +26,14 @@ fn browser(options: &[&str]) -> Option<Output> {
         println!("skipped: none of {} is installed", BROWSERS.join(", "));
         return None;
     };
-    let output = Command::new(installed)
+    static RUNS: AtomicUsize = AtomicUsize::new(0);
+    let run = RUNS.fetch_add(1, Ordering::Relaxed);
+    let profile = Path::new(env!("CARGO_TARGET_TMPDIR")).join(format!("profile-{run}"));
+    let output = Command::new("timeout")
+        .arg(SECONDS)
+        .arg(installed)
         .args(["--headless", "--no-sandbox", "--disable-gpu"])
+        .arg(format!("--user-data-dir={}", profile.display()))
         .args([
             "--allow-file-access-from-files",
             "--virtual-time-budget=5000",

@@ -19,6 +19,8 @@ const SILENT: &str = "#!/bin/sh\ncat >/dev/null\n";
 const BLANK: &str = "#!/bin/sh\ncat >/dev/null\necho\n";
 const NO_LINE_END: &str = "#!/bin/sh\ncat >/dev/null\nprintf 'Same 0 1 1'\n";
 const TWO_LINES: &str = "#!/bin/sh\ncat >/dev/null\necho Same\necho Same\n";
+/// Takes a script for `replay`, and answers two loads with something else.
+const ODD: &str = "#!/bin/sh\ncat >/dev/null\necho load 1\necho stored 1\n";
 const FAILING: &str = "#!/bin/sh\ncat >/dev/null\necho Same 0 1 1\nexit 3\n";
 /// Prints its budget as a line's number: `Refused 6`, or a verdict.
 const LINES: &str = "#!/bin/sh\nset -- $(od -An -v -tu4)\ncase $1 in\n\
@@ -51,6 +53,7 @@ fn repository() -> &'static Path {
             ("blank", BLANK),
             ("no-line-end", NO_LINE_END),
             ("two-lines", TWO_LINES),
+            ("odd", ODD),
             ("failing", FAILING),
             ("lines", LINES),
             ("sides", SIDES),
@@ -254,6 +257,20 @@ fn a_program_that_prints_no_line_is_status_3() {
             message.starts_with(&format!("judge: {path} {reason}")),
             "{message}"
         );
+    }
+}
+
+#[test]
+fn a_program_that_answers_no_calls_is_status_3() {
+    for name in ["silent", "two-lines", "odd", "failing", "not-executable"] {
+        let program = format!("target/bin/{name}");
+        let (status, output, message) = judge_on(
+            repository(),
+            "0 | 0\n",
+            &["--program", &program, "--key", "-"],
+        );
+        assert_eq!((status, output.as_str()), (3, ""), "{name}");
+        assert_ne!(message, "", "{name}");
     }
 }
 
@@ -551,7 +568,7 @@ fn a_refusal_names_side_and_reason() {
         ),
         (
             "6",
-            "a free number, an index less the binders around it, is above 255",
+            "a free number, an index less the binders around it, is above 255 (with names: more than 256 are free)",
         ),
         ("8", "3 words are more than C, which is 2048"),
         ("10", "refusal 10"),
@@ -694,7 +711,7 @@ fn bad_usage_is_status_2() {
         (&["--budget=", "0", "0"], "--budget needs a number"),
         (
             &["--budget=5=6", "0", "0"],
-            "--budget needs a number from 0 to 4294967295, found `5=6`",
+            "--budget needs a number from 0 to 4294967295 in digits alone, found `5=6`",
         ),
         (&["--fast", "0", "0"], "--fast is no option"),
         (&["--exit-code=1", "0", "0"], "--exit-code takes no value"),
@@ -963,7 +980,7 @@ fn word_errors_name_the_place() {
 fn help_is_short() {
     let (status, help, message) = judge(&["--help"]);
     assert_eq!((status, message.as_str()), (0, ""));
-    assert!(help.lines().count() <= 80);
+    assert!(help.lines().count() <= 81);
     for option in [
         "--budget",
         "--words",

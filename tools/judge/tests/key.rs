@@ -2,7 +2,7 @@
 
 mod common;
 
-use common::{file, judge, judge_on, records, run};
+use common::{file, judge, judge_on, records};
 use reference::random::Random;
 use std::fs;
 use std::path::{Path, PathBuf};
@@ -67,6 +67,7 @@ const KEY: &str = r"-- A key with a row of each kind.
 \0 1|\0 2
 
 (\0 0) (\0 0) | 0
+--- Part 2 ---
 (\0 0 0) (\0 0 0) | 0
 #256 | 0
 0 | 256
@@ -74,37 +75,62 @@ const KEY: &str = r"-- A key with a row of each kind.
 ?#3[5]{_:0,2.1:0} | 0
 ";
 
-const TEXT: &str = r" line  verdict     contractions   left  right  word  pair
-    2  Same                   2      1      1        (\\1) 0 1 | 0
-                                               form  0
-    3  Different              0      4      4     3  \0 1|\0 2
-                                               form  \0 2
-                                                        ^
-    5  Budget                 5      9      1        (\0 0) (\0 0) | 0
-                                               form  0
-                                                why  not decided: the next round would pass the budget of 5 contractions
-    6  Full                   1     20      1        (\0 0 0) (\0 0 0) | 0
-                                               form  0
-                                                why  not decided: a next term would be longer than 24 words
-    7  Refused 3                                     #256 | 0
-                                                why  left term: a tag is outside 1 to 255; only a default, `_:BODY`, has tag 0, and it binds nothing
-    8  Refused 6                                     0 | 256
-                                                why  right term: a free number, an index less the binders around it, is above 255
-    9  not read                                      0 (1 | 0
-                                                why  column 6: expected an index, `(`, `\`, `#`, `?`, `%` or `)`, found `|`
-   10  Same                   1      1      1        ?#3[5]{_:0,2.1:0} | 0
-                                               form  0
+const TEXT: &str = r" line  verdict     contractions   left  right   word
+    2  Same                   2      1      1
+       --     a comment
+       pair   (\\1) 0 1 | 0
+       both   0
+    3  Different              0      4      4      3
+       pair   \0 1|\0 2
+       right  \0 2
+                 ^
+    5  Budget                 5      9      1
+       pair   (\0 0) (\0 0) | 0
+       right  0
+       why    not decided: the next round would pass the budget of 5 contractions
+
+Part 2
+    7  Full                   1     20      1
+       pair   (\0 0 0) (\0 0 0) | 0
+       right  0
+       why    not decided: a next term would be longer than 24 words
+    8  Refused 3
+       pair   #256 | 0
+       why    left term: a tag is outside 1 to 255; only a default, `_:BODY`, has tag 0, and it binds nothing
+    9  Refused 6
+       pair   0 | 256
+       why    right term: a free number, an index less the binders around it, is above 255 (with names: more than 256 are free)
+   10  Not read
+       pair   0 (1 | 0
+       why    column 6: expected an index, `(`, `\`, `#`, `?`, `%` or `)`, found `|`
+   11  Same                   1      1      1
+       pair   ?#3[5]{_:0,2.1:0} | 0
+       both   0
 
 8 lines: 2 Same, 1 Different, 1 Budget, 1 Full, 2 refused, 1 not read.
 Limits: 5 contractions a pair, both sides together; workspaces of 24 words.
 The form is the shorter of the two terms at the end, the right one if both are equally long.
-Not decided: lines 5 to 9. Nothing is said of these pairs; `judge --explain Budget`, or Full, or a refusal's number, says more.
+Not decided: lines 5, 7 to 10. Nothing is said of these pairs; `judge --explain` says more.
 ";
 
-const BROKEN: &str = r"judge: rows.key, line 9, column 6: expected an index, `(`, `\`, `#`, `?`, `%` or `)`, found `|`
-    0 (1 | 0
-         ^
-";
+/// The rows of its page, without what stands around the table's rows.
+const ROWS: [&str; 9] = [
+    r#"<td class="number">2</td><td><code>(\\1) 0 1</code><div class="note"><bdi>a comment</bdi></div></td><td><code>0</code></td><td class="Same">Same</td><td class="number">2</td><td class="number">1, 1</td><td><code>0</code><div class="note">both</div></td>"#,
+    r#"<td class="number">3</td><td><code>\0 1</code></td><td><code>\0 2</code></td><td class="Different">Different</td><td class="number">0</td><td class="number">4, 4</td><td><code>\0 <mark>2</mark></code><div class="note">right; differs at word 3</div></td>"#,
+    r#"<td class="number">5</td><td><code>(\0 0) (\0 0)</code></td><td><code>0</code></td><td class="Budget">Budget</td><td class="number">5</td><td class="number">9, 1</td><td><code>0</code><div class="note">right</div><div class="note">not decided: the next round would pass the budget of 5 contractions</div></td>"#,
+    r#"<th colspan="7" scope="rowgroup"><bdi>Part 2</bdi></th>"#,
+    r#"<td class="number">7</td><td><code>(\0 0 0) (\0 0 0)</code></td><td><code>0</code></td><td class="Full">Full</td><td class="number">1</td><td class="number">20, 1</td><td><code>0</code><div class="note">right</div><div class="note">not decided: a next term would be longer than 24 words</div></td>"#,
+    r#"<td class="number">8</td><td><code>#256</code></td><td><code>0</code></td><td class="none">Refused 3</td><td colspan="3"><bdi>left term: a tag is outside 1 to 255; only a default, `_:BODY`, has tag 0, and it binds nothing</bdi></td>"#,
+    r#"<td class="number">9</td><td><code>0</code></td><td><code>256</code></td><td class="none">Refused 6</td><td colspan="3"><bdi>right term: a free number, an index less the binders around it, is above 255 (with names: more than 256 are free)</bdi></td>"#,
+    r#"<td class="number">10</td><td colspan="2"><code>0 (1 | 0</code></td><td class="none">Not read</td><td colspan="3"><bdi>column 6: expected an index, `(`, `\`, `#`, `?`, `%` or `)`, found `|`</bdi></td>"#,
+    r#"<td class="number">11</td><td><code>?#3[5]{_:0,2.1:0}</code></td><td><code>0</code></td><td class="Same">Same</td><td class="number">1</td><td class="number">1, 1</td><td><code>0</code><div class="note">both</div></td>"#,
+];
+
+/// What is told of the line that cannot be read.
+fn broken(file: &str) -> String {
+    let reason = r"expected an index, `(`, `\`, `#`, `?`, `%` or `)`, found `|`";
+    format!("judge: {file}, line 10, column 6: {reason}\n    0 (1 | 0\n         ^\n")
+}
 
 const LIMITS: [&str; 4] = ["--budget", "5", "--words", "24"];
 
@@ -113,7 +139,7 @@ fn a_key_is_printed_as_aligned_text() {
     let key = file("rows.key", KEY);
     let answer = judge(&[&["--key", &key], &LIMITS[..]].concat());
     assert_eq!(answer.output, TEXT);
-    assert_eq!(answer.message, BROKEN);
+    assert_eq!(answer.message, broken(&key));
     assert_eq!(answer.status, 1);
 }
 
@@ -129,40 +155,160 @@ fn a_key_is_printed_as_comma_separated_values() {
             .collect::<Vec<_>>()
     };
     assert_eq!(records.len(), 9);
-    assert_eq!(records[0].len(), 16);
+    let expected = [
+        "3",
+        r"\0 1",
+        r"\0 2",
+        "Different",
+        "0",
+        "4",
+        "4",
+        "right",
+        r"\0 2",
+        "3",
+        "4",
+        "",
+        "",
+        "",
+        "5",
+        "24",
+        "",
+        "",
+    ];
+    assert_eq!(records[2], fields(&expected));
+    assert_eq!(records[1][17], "a comment");
+    let expected = ["8", "#256", "0", "Refused 3"];
+    assert_eq!(records[5][..4], fields(&expected));
     assert_eq!(
-        records[2],
-        fields(&[
-            "3",
-            r"\0 1",
-            r"\0 2",
-            "Different",
-            "0",
-            "4",
-            "4",
-            "right",
-            r"\0 2",
-            "3",
-            "4",
-            "",
-            "",
-            "",
-            "5",
-            "24"
-        ])
+        (records[5][12].as_str(), records[5][16].as_str()),
+        ("left", "Part 2")
     );
-    assert_eq!(records[5][..4], fields(&["7", "#256", "0", "Refused 3"]));
-    assert_eq!(records[5][12], "left");
-    assert_eq!(records[7][3], "not read");
+    assert_eq!(records[7][3], "Not read");
     assert_eq!(records[8][1], "?#3[5]{_:0,2.1:0}");
     assert_eq!(answer.status, 1);
+}
+
+#[test]
+fn a_key_is_printed_as_a_page() {
+    let key = file("rows.html.key", KEY);
+    let answer = judge(&[&["--key", &key, "--format", "html"], &LIMITS[..]].concat());
+    let page = answer.output;
+    let body = page
+        .split("<tbody>")
+        .nth(1)
+        .expect("rows")
+        .split("</tbody>")
+        .next();
+    let rows = body.expect("an end").split("<tr>").skip(1);
+    let rows: Vec<&str> = rows
+        .map(|row| row.trim_end().trim_end_matches("</tr>"))
+        .collect();
+    assert_eq!(rows, ROWS);
+    assert!(page.contains("<h1>Key: rows.html.key</h1>"));
+    assert!(page
+        .contains("<p>8 lines: 2 Same, 1 Different, 1 Budget, 1 Full, 2 refused, 1 not read.<br>"));
+    assert!(page.contains(
+        "Limits: 5 contractions a pair, both sides together; workspaces of 24 words.<br>"
+    ));
+    assert!(page.contains("Not decided: lines 5, 7 to 10.</p>"));
+    // It loads nothing.
+    for link in ["src=", "href=", "url(", "@import", "<script"] {
+        assert!(!page.contains(link), "{link}");
+    }
+}
+
+/// Declarations, tabs, signs that mean something in HTML, wide letters, marks, and letters from right to
+/// left.
+const NAMED: &str = "constructor Nil = 1.0, Cons = 2.2\nlet twice = \\f x. f (f x)\n\
+    twice\tg | \\x. g (h x) -- <b> & \"c\"\n\
+    变量 e\u{301}' a | 变量 e\u{301}' b\n\
+    f \u{5d0}\u{5d1} a | f \u{5d0}\u{5d1} b\n\
+    Twice a | a\n";
+
+#[test]
+fn a_named_key_in_several_scripts_is_printed() {
+    let answer = judge_on(NAMED.as_bytes(), &["--named", "--key", "-"]);
+    let rows: Vec<&str> = answer
+        .output
+        .lines()
+        .skip(1)
+        .take_while(|line| !line.is_empty())
+        .collect();
+    let turned = "\u{2068}\u{5d0}\u{5d1}\u{2069}";
+    let expected = [
+        "    3  Different              1      6      6      4",
+        "       --     <b> & \"c\"",
+        "       pair   twice g | \\x. g (h x)",
+        "       right  \\x. g (h x)",
+        "                     ^",
+        "       free   g, h",
+        "    4  Different              0      5      5      4",
+        "       pair   变量 e\u{301}' a | 变量 e\u{301}' b",
+        "       right  变量 e\u{301}' b",
+        "                      ^",
+        "       free   变量, e\u{301}', a, b",
+        "    5  Different              0      5      5      4",
+        &format!("       pair   \u{200e}f {turned} a | f {turned} b"),
+        &format!("       right  \u{200e}f {turned} b"),
+        "                   ^",
+        &format!("       free   \u{200e}f, {turned}, a, b"),
+        "    6  Different              0      3      1      0",
+        "       pair   Twice a | a",
+        "       right  a",
+        "              ^",
+        "       free   Twice, a",
+        "       note   `Twice` is free; `twice` is declared",
+    ];
+    assert_eq!(rows, expected);
+
+    let answer = judge_on(
+        NAMED.as_bytes(),
+        &["--named", "--key", "-", "--format", "csv"],
+    );
+    let record = &records(&answer.output)[1];
+    let expected = [
+        "3",
+        "twice\tg",
+        "\\x. g (h x)",
+        "Different",
+        "1",
+        "6",
+        "6",
+        "right",
+        "\\x. g (h x)",
+        "4",
+        "8",
+        "g h",
+        "",
+        "",
+        "1000",
+        "2048",
+        "",
+        "<b> & \"c\"",
+    ];
+    assert_eq!(record[..], expected);
+
+    let answer = judge_on(
+        NAMED.as_bytes(),
+        &["--named", "--key", "-", "--format", "html"],
+    );
+    for part in [
+        "<pre>constructor Nil = 1.0, Cons = 2.2\nlet twice = \\f x. f (f x)</pre>",
+        "<code>twice\tg</code><div class=\"note\"><bdi>&lt;b&gt; &amp; &quot;c&quot;</bdi></div>",
+        "<code>\\x. g (<mark>h</mark> x)</code>",
+        "<code>f <bdi>\u{5d0}\u{5d1}</bdi> <mark>b</mark></code>",
+        "<div class=\"note\">free: <code>g, h</code></div>",
+        "<bdi>`Twice` is free; `twice` is declared</bdi>",
+    ] {
+        assert!(answer.output.contains(part), "{part}\n{}", answer.output);
+    }
 }
 
 #[test]
 fn a_key_is_read_from_standard_input() {
     let answer = judge_on(KEY.as_bytes(), &[&["--key", "-"], &LIMITS[..]].concat());
     assert_eq!(answer.output, TEXT);
-    assert_eq!(answer.message, BROKEN.replace("rows.key", "standard input"));
+    assert_eq!(answer.message, broken("standard input"));
 }
 
 #[test]
@@ -216,6 +362,8 @@ fn line_ends_and_marks_of_other_systems_mean_nothing() {
         &["--key", "-"],
     );
     assert_eq!(plain.output, marked.output);
+    let old = judge_on(b"0 | 0 -- \r0 | 1\r", &["--key", "-"]);
+    assert_eq!(plain.output, old.output);
     assert_eq!(marked.message, "");
 }
 
@@ -224,7 +372,7 @@ fn broken_lines_are_told_with_their_places() {
     let lines: [(&[u8], &str); 6] = [
         (
             b"0 1",
-            "column 4: expected `|` and the right term, found the end\n    0 1\n       ^",
+            "column 4: expected `|` and the right term, found the end; a pair stands on one line\n    0 1\n       ^",
         ),
         (
             b"0 | 1 | 2",
@@ -236,7 +384,7 @@ fn broken_lines_are_told_with_their_places() {
         ),
         (
             b"0 | 1 \xff2",
-            "column 7: expected UTF-8, found the byte 255\n    0 | 1 \u{fffd}2\n          ^",
+            "column 7: expected UTF-8, found the byte 255; save the file as UTF-8\n    0 | 1 \u{fffd}2\n          ^",
         ),
         (
             "0 | x".as_bytes(),
@@ -259,7 +407,7 @@ fn broken_lines_are_told_with_their_places() {
             .into_iter()
             .map(|mut record| record.remove(3))
             .collect();
-        assert_eq!(verdicts, ["verdict", "Same", "not read", "Different"]);
+        assert_eq!(verdicts, ["verdict", "Same", "Not read", "Different"]);
         assert_eq!(answer.status, 1);
     }
 }
@@ -277,11 +425,11 @@ fn a_pair_that_uses_a_broken_declaration_is_not_judged() {
         rows[2..],
         [
             row(
-                "not read",
+                "Not read",
                 "column 1: the declaration of `one` on line 1 cannot be read"
             ),
             row(
-                "not read",
+                "Not read",
                 "column 1: the declaration of `two` on line 2 cannot be read"
             ),
             row("Different", ""),
@@ -377,27 +525,33 @@ fn limits_out_of_range_are_refused_in_every_row() {
 #[test]
 fn a_long_form_is_cut_around_its_mark() {
     let row = |answer: &str| -> Vec<String> {
-        answer.lines().skip(1).take(3).map(str::to_string).collect()
+        answer.lines().skip(3).take(2).map(str::to_string).collect()
     };
     let long = |middle: &str| format!("{}{middle}{}", "0 ".repeat(100), " 0".repeat(100));
     let key = format!("{} | {}\n", long("7"), long("8"));
     let lines = row(&judge_on(key.as_bytes(), &["--key", "-"]).output);
-    let form = lines[1].trim_start();
+    let form = lines[0].trim_start();
     assert!(
-        form.starts_with("form  ..") && form.ends_with(".."),
+        form.starts_with("right  ..") && form.ends_with(".."),
         "{form}"
     );
-    let column = lines[2].find('^').expect("a caret");
-    assert_eq!(&lines[1][column..=column], "8");
+    let column = lines[1].find('^').expect("a caret");
+    assert_eq!(&lines[0][column..=column], "8");
+    assert!(lines[0].len() < 80);
     // A form that nothing is marked in is cut at its end.
     let key = format!("{} | {}\n", long("7"), long("7"));
     let lines = row(&judge_on(key.as_bytes(), &["--key", "-"]).output);
-    let form = lines[1].trim_start();
+    let form = lines[0].trim_start();
     assert!(
-        form.starts_with("form  0 0") && form.ends_with(".."),
+        form.starts_with("both   0 0") && form.ends_with(".."),
         "{form}"
     );
-    assert_eq!(form.len(), "form  ".len() + 160 + "..".len());
+    assert_eq!(form.len(), "both   ".len() + 60 + "..".len());
+    // However many marks are drawn on a letter, the word that differs is seen.
+    let letter = format!("e{}", "\u{301}".repeat(400));
+    let key = format!("f {letter} a | f {letter} b\n");
+    let answer = judge_on(key.as_bytes(), &["--named", "--key", "-"]);
+    assert!(row(&answer.output)[0].ends_with(" b"), "{}", answer.output);
 }
 
 /// The marked parts of a key's page, row by row.
@@ -467,6 +621,10 @@ fn generated(count: u64) -> Vec<(String, Option<String>)> {
             1 => ("0 | 0 #0".to_string(), Some("Refused 3".to_string())),
             3 => (format!("0 #0 | {right}"), Some("Refused 3".to_string())),
             5 => (format!("{left} {right} ("), None),
+            9 => (
+                format!("{} | {right}", "\\".repeat(2_048) + "0"),
+                Some("Input".to_string()),
+            ),
             7 => (format!("256 | {right}"), Some("Refused 6".to_string())),
             _ => {
                 let input = unit::program::input(300, 200, &left, &right);
@@ -492,7 +650,7 @@ fn generated_pairs_have_the_line_of_the_reference() {
     for (record, (line, expected)) in records[1..].iter().zip(&lines) {
         let fields = [&record[3..7], &record[9..10]].concat();
         let found = fields.join(" ");
-        let expected = expected.as_deref().unwrap_or("not read");
+        let expected = expected.as_deref().unwrap_or("Not read");
         assert_eq!(found.trim_end(), expected, "{line}");
     }
     for verdict in ["Same", "Different", "Budget", "Full", "Refused 8"] {
@@ -500,23 +658,6 @@ fn generated_pairs_have_the_line_of_the_reference() {
             line.as_ref().is_some_and(|line| line.starts_with(verdict))
         };
         assert!(lines.iter().filter(is_it).count() > 2, "{verdict}");
-    }
-}
-
-#[test]
-fn a_program_that_prints_something_else_is_status_3() {
-    use std::os::unix::fs::PermissionsExt;
-    for (name, script) in [
-        ("mute", "cat >/dev/null"),
-        ("short", "cat >/dev/null\necho load 1"),
-        ("odd", "cat >/dev/null\necho load 1\necho stored 1"),
-        ("failing", "cat >/dev/null\nexit 4"),
-    ] {
-        let path = file(name, format!("#!/bin/sh\n{script}\n"));
-        fs::set_permissions(&path, fs::Permissions::from_mode(0o755)).expect("executable");
-        let answer = run(b"0 | 0\n", &["--program", &path, "--key", "-"]);
-        assert_eq!((answer.status, answer.output.as_str()), (3, ""), "{name}");
-        assert_ne!(answer.message, "", "{name}");
     }
 }
 

@@ -42,21 +42,18 @@ fn both_final_terms_are_printed() {
 fn a_refused_pair_has_no_final_terms() {
     for (arguments, line, reason) in [
         (
-            ["--forms", "0", "256"],
+            &["--forms", "0", "256"][..],
             "Refused 6\n",
-            "right term: a free number, an index less the binders around it, is above 255",
+            "right term: a free number, an index less the binders around it, is above 255 (with names: \
+             more than 256 are free)",
         ),
         (
-            ["--forms", "--words=15", "0 0"],
+            &["--forms", "--words=15", "0", "0"],
             "Refused 7\n",
             "C, the words in each workspace, is 15 and must be 16 to 2048",
         ),
     ] {
-        let arguments: Vec<&str> = match arguments[1].starts_with("--") {
-            true => vec![arguments[0], arguments[1], arguments[2], arguments[2]],
-            false => arguments.to_vec(),
-        };
-        let answer = judge(&arguments);
+        let answer = judge(arguments);
         assert_eq!((answer.status, answer.output.as_str()), (0, line));
         assert_eq!(answer.message, format!("judge: {reason}\n"));
     }
@@ -71,13 +68,12 @@ fn each_contraction_is_printed_and_the_units_line_compared() {
         BESIDE,
         "  round  side   rule     position  words  term",
         r"      0  left   -               -      7  (\x y. x) a b",
-        "      0  right  -               -      3  (\\x. x) a",
+        "      0  right  -               -      4  (\\x. x) a",
         "      1  left   beta            1      4  (\\x. a) b",
         "      1  right  beta            0      1  a",
         "      2  left   beta            0      1  a",
         "the unit's own line: Same 3 1 1",
     ];
-    let rows = rows.map(|row| row.replace("      3  (\\x. x) a", "      4  (\\x. x) a"));
     assert_eq!(
         printed(&["--trace", "--named", r"(\x y. x) a b", r"(\x. x) a"]),
         rows.join("\n") + "\n"
@@ -143,7 +139,7 @@ fn where_no_limits_decide_a_pair_that_is_said() {
     assert_eq!(answer.output, "Refused 6\n");
     assert_eq!(
         answer.message,
-        "judge: left term: a free number, an index less the binders around it, is above 255\n"
+        "judge: left term: a free number, an index less the binders around it, is above 255 (with names: more than 256 are free)\n"
     );
 }
 
@@ -151,7 +147,7 @@ fn where_no_limits_decide_a_pair_that_is_said() {
 fn declarations_are_taken_from_a_file() {
     let key = file(
         "course.key",
-        "constructor Nil = 1.0, Cons = 2.2 -- lists\nlet two = %2\nbroken pair (\ntwo | three\n",
+        "constructor Nil = 1.0, Cons = 2.2 -- lists\nlet two = %2\n\ntwo ( | three\n",
     );
     let with = |more: &[&str]| printed(&[&["--named", "--using", &key], more].concat());
     assert_eq!(with(&["two f x", "f (f x)"]), "Same 3 5 5\n");
@@ -164,14 +160,29 @@ fn declarations_are_taken_from_a_file() {
         "Same 1 1 1\nleft   Nil\nright  Nil\n"
     );
     assert_eq!(with(&["--show-words", "Cons x Nil"]), "275,0,131\n");
-    let bad = file("bad.key", "let one = %1\nlet one = %2\n");
-    let answer = judge(&["--named", "--using", &bad, "x", "x"]);
-    assert_eq!((answer.status, answer.output.as_str()), (2, ""));
-    assert!(
-        answer.message.contains("bad.key, line 2, column 5: "),
-        "{}",
-        answer.message
-    );
+    for (name, text) in [
+        ("twice.key", "let one = %1\nlet one = %2\n"),
+        ("odd.key", "let one = %1\n    Let two = %2\n"),
+    ] {
+        let path = file(name, text);
+        let answer = judge(&["--named", "--using", &path, "x", "x"]);
+        assert_eq!((answer.status, answer.output.as_str()), (2, ""));
+        let place = format!("judge: {path}, line 2, column ");
+        assert!(answer.message.starts_with(&place), "{}", answer.message);
+    }
+    let other = file("other.key", "let two = %3\ntwo | %3\n");
+    let answer = judge(&["--named", "--using", &key, "--key", &other]);
+    let reason = format!("line 1, column 5: `two` is already declared on line 2 of {key}\n");
+    assert!(answer.message.contains(&reason), "{}", answer.message);
+    assert!(answer.output.contains("2 not read"), "{}", answer.output);
+}
+
+#[test]
+fn a_free_name_near_a_declared_one_is_doubted() {
+    let key = file("near.key", "let add = \\m n f x. m f (n f x)\n");
+    let answer = judge(&["--named", "--using", &key, "addd %2 %3", "%5"]);
+    assert_eq!(answer.output, "Different 3 19 13 0\n");
+    assert_eq!(answer.message, "judge: `addd` is free; `add` is declared\n");
 }
 
 #[test]
@@ -249,6 +260,15 @@ fn options_that_have_nothing_to_do_with_each_other_are_refused() {
         (&["--key", "-", "0"], "--key takes one value; `0` is too much"),
         (&["--key", "-", "--format", "pdf"], "--format needs text, csv or html, found `pdf`"),
         (&["--key"], "--key needs a value"),
+        (&["--key", "--format", "csv", "x"], "--key needs a value"),
+        (
+            &["--named", "--forms"],
+            "--named needs two terms, each in single quotes, or --key FILE",
+        ),
+        (
+            &["--named", "exam.key"],
+            "two terms are needed, each in single quotes, or none; found 1 (a file of pairs goes with --key)",
+        ),
         (
             &["--forms", "--trace", "0", "0"],
             "--trace and another option ask for two things at once",

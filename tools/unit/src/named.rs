@@ -1,24 +1,9 @@
 //! The notation with names: definitions and constructors that a key file declares, and terms that use
-//! them.
-//!
-//! ```text
-//! term        = item { item }                           application, to the left
-//! item        = name | "(" term ")" | numeral | constructor without arguments | case
-//!             | ( "\" | "λ" ) binder { binder } "." term     as the last item only
-//! binder      = name | "_"                              `_` binds and cannot be named
-//! numeral     = "%" number
-//! case        = "case" term "of" "{" [ branch { ";" branch } ] "}"
-//! branch      = ( constructor { binder } | "_" ) ( "->" | "→" ) term
-//! declaration = "let" name "=" term
-//!             | "constructor" name "=" tag "." count { "," name "=" tag "." count }
-//! ```
-//!
-//! A constructor that takes arguments stands as the first item of an application, with all of them
-//! behind it, and nowhere else. Branches stand in any order. Blanks stand between any two tokens, and
-//! at least one between a number and a name.
+//! them. The grammar stands in docs/NOTATION.md.
 
 mod declaration;
 mod lexer;
+mod near;
 mod printer;
 mod reader;
 
@@ -64,22 +49,37 @@ impl From<TextError> for NameError {
 #[derive(Clone, Debug, Default)]
 pub struct Names {
     declared: HashMap<String, Declared>,
-    /// The names whose declaration could not be read, each with its line. No term may use them: what they
-    /// mean is not known.
-    unread: HashMap<String, usize>,
+    /// The names that lines declare which were not read yet, or could not be. No term may use them.
+    announced: HashMap<String, Announced>,
     /// The name of the constructor with a tag.
     tags: HashMap<u32, String>,
     /// The names that stood for free variables, each with the line where it did first.
-    free: HashMap<String, usize>,
+    free: HashMap<String, Place>,
     /// The words of all definitions.
     words: usize,
+    /// The names of the files that lines were read from; the last is being read.
+    files: Vec<String>,
+}
+
+/// A line of a file, or of none, with number 0.
+#[derive(Clone, Copy, Debug, PartialEq, Eq)]
+struct Place {
+    /// How many files were begun.
+    file: usize,
+    line: usize,
 }
 
 #[derive(Clone, Debug)]
 struct Declared {
-    /// 0 for no line.
-    line: usize,
+    place: Place,
     meaning: Meaning,
+}
+
+/// A name that a line declares, which is to come or could not be read.
+#[derive(Clone, Copy, Debug)]
+struct Announced {
+    place: Place,
+    is_read: bool,
 }
 
 #[derive(Clone, Debug)]
@@ -106,17 +106,47 @@ impl Names {
         first.is_ok_and(|token| token.is_word("let") || token.is_word("constructor"))
     }
 
+    /// The lines that are read from here on are those of a file with this name.
+    pub fn begin(&mut self, file: &str) {
+        self.files.push(file.to_string());
+    }
+
+    /// Notes what a line declares that is read later: a term before it must not take the name for free.
+    pub fn announce(&mut self, line: &str, number: usize) {
+        let place = self.place(number);
+        for name in declaration::names(line) {
+            if !self.declared.contains_key(name) && !self.announced.contains_key(name) {
+                let is_read = false;
+                self.announced
+                    .insert(name.to_string(), Announced { place, is_read });
+            }
+        }
+    }
+
     /// Takes a declaration from the line of this number, or from no line if it is 0. Names that a line
     /// declares wrongly can no longer be used.
     pub fn declare(&mut self, line: &str, number: usize) -> Result<(), NameError> {
         let done = declaration::read(self, line, number);
-        for name in declaration::names(line) {
-            match done {
-                Ok(()) => self.unread.remove(name),
-                Err(_) => self.unread.insert(name.to_string(), number),
-            };
+        match done {
+            Ok(()) => {
+                for name in declaration::names(line) {
+                    self.announced.remove(name);
+                }
+            }
+            Err(_) => self.revoke(line, number),
         }
         done
+    }
+
+    /// Takes the names that a line declares away, since it cannot be read.
+    pub fn revoke(&mut self, line: &str, number: usize) {
+        let announced = Announced {
+            place: self.place(number),
+            is_read: true,
+        };
+        for name in declaration::names(line) {
+            self.announced.insert(name.to_string(), announced);
+        }
     }
 
     /// Reads a term from the line of this number, or from no line if it is 0. The names free in it are
@@ -138,6 +168,11 @@ impl Names {
         written(term, &mut ByName::new(self, free))
     }
 
+    /// What a name that is free may have been meant to be, if it looks so.
+    pub fn doubt(&self, free: &str) -> Option<String> {
+        near::doubt(self.declared.iter(), free)
+    }
+
     /// The constructor of a name: its tag and how many arguments it takes.
     fn constructor(&self, name: &str) -> Option<(u32, usize)> {
         match self.declared.get(name)?.meaning {
@@ -146,32 +181,41 @@ impl Names {
         }
     }
 
-    /// Fails if the name's declaration could not be read.
+    /// Fails if the name is declared by a line that was not read, or could not be.
     fn test(&self, token: Token) -> Result<(), NameError> {
-        match self.unread.get(token.text) {
-            None => Ok(()),
-            Some(&line) => Err(token.error(format!(
-                "the declaration of {}{} cannot be read",
-                quoted_word(token.text),
-                on_line(line)
-            ))),
+        let Some(&Announced { place, is_read }) = self.announced.get(token.text) else {
+            return Ok(());
+        };
+        let (name, line) = (quoted_word(token.text), self.on_line(place));
+        Err(token.error(match is_read {
+            true => format!("the declaration of {name}{line} cannot be read"),
+            false => format!("{name} is declared only{line}, below its use"),
+        }))
+    }
+
+    fn place(&self, line: usize) -> Place {
+        let file = self.files.len();
+        Place { file, line }
+    }
+
+    /// Where something was read: the file is named if it is another than the one being read.
+    fn on_line(&self, Place { file, line }: Place) -> String {
+        match file.checked_sub(1) {
+            _ if line == 0 => String::new(),
+            Some(place) if file < self.files.len() => {
+                format!(" on line {line} of {}", self.files[place])
+            }
+            _ => format!(" on line {line}"),
         }
     }
 
     /// Notes that names stood for free variables.
     fn use_free(&mut self, names: &[String], line: usize) {
+        let place = self.place(line);
         for name in names {
             if !self.free.contains_key(name) {
-                self.free.insert(name.clone(), line);
+                self.free.insert(name.clone(), place);
             }
         }
-    }
-}
-
-/// Where something was read.
-fn on_line(line: usize) -> String {
-    match line {
-        0 => String::new(),
-        _ => format!(" on line {line}"),
     }
 }

@@ -1,17 +1,4 @@
-//! Reads a term from text.
-//!
-//! ```text
-//! term        = item { item }                           application, to the left
-//! item        = index | "(" term ")" | constructor | case | numeral
-//!             | "\" term                                as the last item only
-//! constructor = "#" tag [ "[" term { "," term } "]" ]
-//! case        = "?" term "{" [ branch { "," branch } ] "}"
-//! branch      = ( tag "." bound | "_" ) ":" term        `_` is the default, as 0.0
-//! numeral     = "%" number
-//! ```
-//!
-//! Blanks (spaces, tabs and line ends) stand before and after any of these parts but within a
-//! number, behind `#` and `%` and around `.`, and at least one stands between two items.
+//! Reads a term with indices from text. The grammar stands in docs/NOTATION.md.
 
 use std::str::FromStr;
 

@@ -1,4 +1,4 @@
-//! The program `verdict`: what it reads and the line it prints.
+//! The unit's programs: what `verdict` reads, and the lines that programs print.
 
 use std::fmt;
 use std::io::{self, ErrorKind, Write};
@@ -8,7 +8,7 @@ use std::thread;
 use crate::table::table;
 use crate::term::Term;
 
-/// Standard input of the program: budget, C and both tables, each after the number of its words.
+/// Standard input of the program `verdict`: budget, C and both tables, each after the number of its words.
 pub fn input(budget: u32, c: u32, left: &Term, right: &Term) -> Vec<u8> {
     let mut words = vec![budget, c];
     for term in [left, right] {
@@ -19,7 +19,7 @@ pub fn input(budget: u32, c: u32, left: &Term, right: &Term) -> Vec<u8> {
     words.into_iter().flat_map(u32::to_le_bytes).collect()
 }
 
-/// A program that printed no verdict line.
+/// A program that did not print what it must.
 #[derive(Debug)]
 pub enum ProgramError {
     NotRun(io::Error),

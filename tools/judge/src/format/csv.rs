@@ -2,9 +2,9 @@
 
 use std::collections::HashMap;
 
-use crate::report::{Outcome, Report, Row};
+use crate::report::{Outcome, Report, Row, INPUT, NOT_READ, REFUSED};
 
-const HEADER: [&str; 16] = [
+const HEADER: [&str; 18] = [
     "line",
     "left",
     "right",
@@ -21,6 +21,8 @@ const HEADER: [&str; 16] = [
     "reason",
     "budget",
     "words",
+    "heading",
+    "comment",
 ];
 
 pub fn csv(report: &Report) -> String {
@@ -40,19 +42,28 @@ fn fields(report: &Report, row: &Row) -> [String; HEADER.len()] {
         ("right", right),
         ("budget", report.limits.budget.to_string()),
         ("words", report.limits.words.to_string()),
+        ("heading", row.heading.clone()),
+        ("comment", row.comment.clone()),
     ];
     match &row.outcome {
-        Outcome::Pressed { press, form, free } => {
+        Outcome::Pressed {
+            press,
+            form,
+            free,
+            doubts,
+        } => {
             let [left, right] = press.lengths;
+            let remark = report.remark(press);
+            let reasons: Vec<String> = remark.into_iter().chain(doubts.clone()).collect();
             fields.extend([
                 ("verdict", press.verdict.name().to_string()),
                 ("contractions", press.contractions.to_string()),
                 ("left words", left.to_string()),
                 ("right words", right.to_string()),
-                ("form of", form.side.to_string()),
+                ("form of", form.whose.clone()),
                 ("form", form.text.clone()),
                 ("free names", free.join(" ")),
-                ("reason", report.remark(press).unwrap_or_default()),
+                ("reason", reasons.join("; ")),
             ]);
             if let (Some(word), Some(mark)) = (press.position, &form.mark) {
                 let column = form.text[..mark.start].chars().count() + 1;
@@ -65,7 +76,7 @@ fn fields(report: &Report, row: &Row) -> [String; HEADER.len()] {
             side,
             reason,
         } => fields.extend([
-            ("verdict", format!("Refused {number}")),
+            ("verdict", format!("{REFUSED} {number}")),
             (
                 "side",
                 side.map(|side| side.to_string()).unwrap_or_default(),
@@ -73,10 +84,10 @@ fn fields(report: &Report, row: &Row) -> [String; HEADER.len()] {
             ("reason", reason.clone()),
         ]),
         Outcome::Input { reason } => {
-            fields.extend([("verdict", "Input".to_string()), ("reason", reason.clone())])
+            fields.extend([("verdict", INPUT.to_string()), ("reason", reason.clone())])
         }
         Outcome::Broken { column, reason } => fields.extend([
-            ("verdict", "not read".to_string()),
+            ("verdict", NOT_READ.to_string()),
             ("reason", format!("column {column}: {reason}")),
         ]),
     }

@@ -1,7 +1,8 @@
 //! A judged key as one page of HTML that loads nothing else, for a browser and for paper.
 
-use crate::answers::Verdict;
-use crate::report::{Form, Outcome, Report, Row, FORM, MEANINGS};
+use crate::answers::Press;
+use crate::place::words;
+use crate::report::{Form, Outcome, Report, Row, FORM, INPUT, MEANINGS, NOT_READ, REFUSED};
 
 const STYLE: &str = include_str!("key.css");
 
@@ -12,9 +13,8 @@ const CUT: &str = "…";
 pub fn html(report: &Report) -> String {
     let title = escaped(&format!("Key: {}", report.name));
     let rows: String = report
-        .rows
-        .iter()
-        .map(|row| table_row(report, row))
+        .rows()
+        .map(|(heading, row)| table_row(report, heading, row))
         .collect();
     let undecided = report.undecided().map(|lines| format!("<br>\n{lines}."));
     format!(
@@ -33,6 +33,8 @@ pub fn html(report: &Report) -> String {
 <p>{counts}.<br>
 {limits}.{undecided}</p>
 <table>
+<colgroup><col class=\"line\"><col class=\"term\"><col class=\"term\"><col class=\"verdict\">\
+<col class=\"count\"><col class=\"count\"><col></colgroup>
 <thead>
 <tr><th scope=\"col\" class=\"number\">Line</th><th scope=\"col\">Left</th><th scope=\"col\">Right</th>\
 <th scope=\"col\">Verdict</th><th scope=\"col\" class=\"number\">Contrac&shy;tions</th>\
@@ -56,52 +58,80 @@ pub fn html(report: &Report) -> String {
     )
 }
 
-fn table_row(report: &Report, row: &Row) -> String {
-    let line = row.line;
-    let [left, right] = row.sides.each_ref().map(|side| cell(side));
+fn table_row(report: &Report, heading: Option<&str>, row: &Row) -> String {
+    let heading = heading.map(|heading| {
+        let heading = bidi(&escaped(heading));
+        format!("<tr><th colspan=\"7\" scope=\"rowgroup\">{heading}</th></tr>\n")
+    });
+    let comment = match row.comment.as_str() {
+        "" => String::new(),
+        comment => note(&bidi(&escaped(comment))),
+    };
     let pair = match row.outcome {
-        Outcome::Broken { .. } => format!("<td colspan=\"2\">{}</td>", cell(&row.text)),
-        _ => format!("<td>{left}</td><td>{right}</td>"),
+        Outcome::Broken { .. } => {
+            format!("<td colspan=\"2\">{}{comment}</td>", cell(&row.text))
+        }
+        _ => {
+            let [left, right] = row.sides.each_ref().map(|side| cell(side));
+            format!("<td>{left}{comment}</td><td>{right}</td>")
+        }
     };
     let judged = match &row.outcome {
-        Outcome::Pressed { press, form, free } => {
-            let [left, right] = press.lengths;
-            let name = press.verdict.name();
-            let differs = press.position.map(|word| format!("differs at word {word}"));
-            let remark = differs.or(report.remark(press)).map(|remark| note(&remark));
-            let free = match &free[..] {
-                [] => String::new(),
-                names => note(&format!("free: {}", bidi(&escaped(&names.join(", "))))),
-            };
-            format!(
-                "<td class=\"{name}\">{name}</td><td class=\"number\">{}</td>\
-                 <td class=\"number\">{left}, {right}</td><td>{}{}{free}</td>",
-                press.contractions,
-                code(&marked(form)),
-                remark.unwrap_or_default(),
-            )
-        }
-        Outcome::Refused { number, reason, .. } => unjudged(&format!("Refused {number}"), reason),
-        Outcome::Input { reason } => unjudged("Input", reason),
+        Outcome::Pressed {
+            press,
+            form,
+            free,
+            doubts,
+        } => pressed(report, press, form, free, doubts),
+        Outcome::Refused { number, reason, .. } => unjudged(&format!("{REFUSED} {number}"), reason),
+        Outcome::Input { reason } => unjudged(INPUT, reason),
         Outcome::Broken { column, reason } => {
-            unjudged("Not read", &format!("column {column}: {reason}"))
+            unjudged(NOT_READ, &format!("column {column}: {reason}"))
         }
     };
-    format!("<tr><td class=\"number\">{line}</td>{pair}{judged}</tr>\n")
+    format!(
+        "{}<tr><td class=\"number\">{}</td>{pair}{judged}</tr>\n",
+        heading.unwrap_or_default(),
+        row.line
+    )
+}
+
+fn pressed(
+    report: &Report,
+    press: &Press,
+    form: &Form,
+    free: &[String],
+    doubts: &[String],
+) -> String {
+    let [left, right] = press.lengths;
+    let name = press.verdict.name();
+    let differs = press
+        .position
+        .map(|word| format!("; differs at word {word}"));
+    let mut notes = vec![format!("{}{}", form.whose, differs.unwrap_or_default())];
+    notes.extend(report.remark(press));
+    if !free.is_empty() {
+        notes.push(format!("free: {}", cell(&free.join(", "))));
+    }
+    notes.extend(doubts.iter().map(|doubt| bidi(&escaped(doubt))));
+    let notes: String = notes.iter().map(|text| note(text)).collect();
+    format!(
+        "<td class=\"{name}\">{name}</td><td class=\"number\">{}</td>\
+         <td class=\"number\">{left}, {right}</td><td>{}{notes}</td>",
+        press.contractions,
+        code(&marked(form)),
+    )
 }
 
 fn unjudged(name: &str, reason: &str) -> String {
-    let reason = escaped(reason);
-    format!(
-        "<td class=\"none\">{name}</td><td colspan=\"3\">{}</td>",
-        bidi(&reason)
-    )
+    let reason = bidi(&escaped(reason));
+    format!("<td class=\"none\">{name}</td><td colspan=\"3\">{reason}</td>")
 }
 
 fn marked(form: &Form) -> String {
     let excerpt = form.excerpt(MOST);
     let [start, end] = excerpt.is_cut.map(|is_cut| if is_cut { CUT } else { "" });
-    let [before, marked, after] = [excerpt.before, excerpt.marked, excerpt.after].map(escaped);
+    let [before, marked, after] = [excerpt.before, excerpt.marked, excerpt.after].map(directed);
     let marked = match form.mark {
         Some(_) => format!("<mark>{marked}</mark>"),
         None => marked,
@@ -113,23 +143,29 @@ fn declarations(declarations: &[String]) -> String {
     match declarations {
         [] => String::new(),
         lines => {
-            let lines: Vec<String> = lines.iter().map(|line| escaped(line)).collect();
+            let lines: Vec<String> = lines.iter().map(|line| directed(line)).collect();
             format!("<h2>Declarations</h2>\n<pre>{}</pre>\n", lines.join("\n"))
         }
     }
 }
 
 fn meanings() -> String {
-    let meaning = |(verdict, meaning): (Verdict, &str)| {
-        let name = verdict.name();
-        format!("<dt class=\"{name}\">{name}</dt><dd>{meaning}</dd>\n")
-    };
+    let meaning = |(name, meaning)| format!("<dt>{name}</dt><dd>{meaning}</dd>\n");
     MEANINGS.into_iter().map(meaning).collect()
 }
 
 /// A term as it is written.
 fn cell(text: &str) -> String {
-    code(&escaped(text))
+    code(&directed(text))
+}
+
+/// Text whose words each keep their direction, while their order runs from left to right.
+fn directed(text: &str) -> String {
+    let part = |(word, is_turned): (&str, bool)| match is_turned {
+        true => bidi(&escaped(word)),
+        false => escaped(word),
+    };
+    words(text).into_iter().map(part).collect()
 }
 
 fn code(text: &str) -> String {
@@ -154,6 +190,7 @@ fn escaped(text: &str) -> String {
             '>' => escaped.push_str("&gt;"),
             '"' => escaped.push_str("&quot;"),
             '\'' => escaped.push_str("&#39;"),
+            '\t' => escaped.push('\t'),
             // Not allowed in a page.
             control if control.is_control() => escaped.push('\u{fffd}'),
             other => escaped.push(other),

@@ -2,7 +2,7 @@
 
 use super::lexer::{quoted_word, Kind, Lexer, Token};
 use super::reader::Reader;
-use super::{on_line, Declared, Meaning, NameError, Names, MAX_DEFINED};
+use super::{Declared, Meaning, NameError, Names, MAX_DEFINED};
 use crate::limits::{MAX_COUNT, TAGS};
 
 /// Reads a declaration and adds it to the names.
@@ -48,7 +48,8 @@ fn definition(names: &mut Names, mut lexer: Lexer, line: usize) -> Result<(), Na
     names.words = words;
     names.use_free(&free, line);
     let meaning = Meaning::Definition { term, free };
-    let declared = Declared { line, meaning };
+    let place = names.place(line);
+    let declared = Declared { place, meaning };
     names.declared.insert(name.text.to_string(), declared);
     Ok(())
 }
@@ -75,14 +76,17 @@ fn add_constructors(
     loop {
         let name = new_name(names, &mut lexer)?;
         expect(&mut lexer, '=')?;
-        let tag = new_tag(names, &mut lexer)?;
+        let tag_token = lexer.next()?;
+        let tag = tag_token.number("a tag", *TAGS.end())?;
         expect(&mut lexer, '.')?;
         let count = lexer.next()?.number("a count of arguments", MAX_COUNT)?;
+        test_tag(names, tag_token, tag)?;
         let meaning = Meaning::Constructor {
             tag,
             count: count as usize,
         };
-        let declared = Declared { line, meaning };
+        let place = names.place(line);
+        let declared = Declared { place, meaning };
         names.declared.insert(name.text.to_string(), declared);
         names.tags.insert(tag, name.text.to_string());
         added.push(tag);
@@ -103,11 +107,11 @@ fn new_name<'a>(names: &Names, lexer: &mut Lexer<'a>) -> Result<Token<'a>, NameE
     }
     let name = quoted_word(token.text);
     if let Some(declared) = names.declared.get(token.text) {
-        let line = on_line(declared.line);
+        let line = names.on_line(declared.place);
         return Err(token.error(format!("{name} is already declared{line}")));
     }
-    if let Some(&line) = names.free.get(token.text) {
-        let line = on_line(line);
+    if let Some(&place) = names.free.get(token.text) {
+        let line = names.on_line(place);
         return Err(token.error(format!(
             "{name} stands for a free variable{line}; declare it before its first use"
         )));
@@ -115,18 +119,17 @@ fn new_name<'a>(names: &Names, lexer: &mut Lexer<'a>) -> Result<Token<'a>, NameE
     Ok(token)
 }
 
-/// A tag that no constructor has so far.
-fn new_tag(names: &Names, lexer: &mut Lexer) -> Result<u32, NameError> {
-    let token = lexer.next()?;
-    let tag = token.number("a tag", *TAGS.end())?;
+/// Fails if the tag is none, or another constructor's.
+fn test_tag(names: &Names, token: Token, tag: u32) -> Result<(), NameError> {
     if !TAGS.contains(&tag) {
         return Err(token.expected(&format!("a tag, at least {}", TAGS.start())));
     }
     if let Some(name) = names.tags.get(&tag) {
-        let (line, name) = (on_line(names.declared[name].line), quoted_word(name));
+        let line = names.on_line(names.declared[name].place);
+        let name = quoted_word(name);
         return Err(token.error(format!("tag {tag} is already declared{line}, for {name}")));
     }
-    Ok(tag)
+    Ok(())
 }
 
 fn expect(lexer: &mut Lexer, sign: char) -> Result<(), NameError> {

@@ -4,8 +4,11 @@ use super::NameError;
 use crate::characters::is_mark;
 use crate::text::{cut, number, quoted, Cursor};
 
-/// Words that are no names.
-const RESERVED: [&str; 4] = ["case", "of", "let", "constructor"];
+/// Words that are no names. The notation has no `in`, but whoever writes it behind a `let` means one.
+const RESERVED: [&str; 5] = ["case", "of", "let", "in", "constructor"];
+
+/// They join or part the letters on both sides.
+const JOINERS: [char; 2] = ['\u{200c}', '\u{200d}'];
 
 /// The sign of a binder, whatever stands around it.
 const LAMBDA: char = 'λ';
@@ -103,6 +106,9 @@ impl<'a> Lexer<'a> {
             Kind::Sign('_') if self.cursor.peek().is_some_and(is_in_name) => {
                 Err(token.error("a name begins with a letter, and `_` stands alone".to_string()))
             }
+            Kind::Name if token.text.ends_with(JOINERS) => {
+                Err(token.error("a name does not end in a joiner, which is not seen".to_string()))
+            }
             Kind::Name | Kind::Reserved if !separate => {
                 Err(token.expected("a space behind the number"))
             }
@@ -135,14 +141,19 @@ impl<'a> Lexer<'a> {
 }
 
 fn begins_name(character: char) -> bool {
-    character.is_alphabetic() && character != LAMBDA
+    character.is_alphabetic() && is_in_name(character) && !is_mark(character)
 }
 
-/// Letters, digits, marks, `_`, `'` and the two signs that join or part letters.
+/// Letters, numbers, marks, `_`, `'` and the two signs that join or part letters. What is never seen would
+/// make two names of one.
 fn is_in_name(character: char) -> bool {
     match character {
         LAMBDA => false,
-        '_' | '\'' | '\u{200c}' | '\u{200d}' => true,
+        // Letters that fill a place, and marks that choose how the one before is drawn.
+        '\u{115f}' | '\u{1160}' | '\u{3164}' | '\u{ffa0}' | '\u{34f}' => false,
+        '\u{180b}'..='\u{180f}' | '\u{fe00}'..='\u{fe0f}' | '\u{e0100}'..='\u{e01ef}' => false,
+        '_' | '\'' => true,
+        joiner if JOINERS.contains(&joiner) => true,
         _ => character.is_alphanumeric() || is_mark(character),
     }
 }

@@ -1,0 +1,100 @@
+//! Free names that may be slips of the pen.
+
+use super::lexer::quoted_word;
+use super::{Declared, Meaning};
+
+/// A name of fewer letters is near too many others.
+const LETTERS: usize = 3;
+
+/// Says that a free name is near a declared one, or written like a constructor where there are some.
+pub(super) fn doubt<'a>(
+    declared: impl Iterator<Item = (&'a String, &'a Declared)>,
+    free: &str,
+) -> Option<String> {
+    let mut near: Vec<&str> = Vec::new();
+    let mut has_capital_constructors = false;
+    for (name, declared) in declared {
+        if is_near(name, free) {
+            near.push(name);
+        }
+        let is_constructor = matches!(declared.meaning, Meaning::Constructor { .. });
+        has_capital_constructors |= is_constructor && is_capital(name);
+    }
+    let name = quoted_word(free);
+    match near.into_iter().min() {
+        Some(other) => Some(format!(
+            "{name} is free; {} is declared",
+            quoted_word(other)
+        )),
+        None if has_capital_constructors && is_capital(free) => Some(format!(
+            "{name} is free; no constructor of this name is declared"
+        )),
+        None => None,
+    }
+}
+
+fn is_capital(name: &str) -> bool {
+    name.starts_with(char::is_uppercase)
+}
+
+/// Whether two names differ in the case of letters only, or in one letter that is changed, missing, or
+/// exchanged with the next.
+fn is_near(one: &str, other: &str) -> bool {
+    if one.to_lowercase() == other.to_lowercase() {
+        return true;
+    }
+    let (one, other): (Vec<char>, Vec<char>) = (one.chars().collect(), other.chars().collect());
+    let (short, long) = match one.len() <= other.len() {
+        true => (one, other),
+        false => (other, one),
+    };
+    if short.len() < LETTERS {
+        return false;
+    }
+    let start = short.iter().zip(&long).take_while(|(a, b)| a == b).count();
+    let (short, long) = (&short[start..], &long[start..]);
+    match (short, long) {
+        _ if short.len() + 1 == long.len() => short == &long[1..],
+        ([a, b, short @ ..], [c, d, long @ ..]) if a == d && b == c => short == long,
+        ([_, short @ ..], [_, long @ ..]) => short == long,
+        _ => false,
+    }
+}
+
+#[cfg(test)]
+mod tests {
+    use super::is_near;
+
+    #[test]
+    fn one_letter_or_the_case_is_near() {
+        for (one, other) in [
+            ("add", "addd"),
+            ("append", "apend"),
+            ("length", "lenght"),
+            ("true", "True"),
+            ("nil", "NIL"),
+            ("iszero", "isZero"),
+            ("fold", "bold"),
+            ("сложить", "сложит"),
+        ] {
+            assert!(is_near(one, other) && is_near(other, one), "{one} {other}");
+        }
+    }
+
+    #[test]
+    fn other_names_are_not() {
+        for (one, other) in [
+            ("a", "b"),
+            ("fx", "f"),
+            ("x1", "x2"),
+            ("add", "mul"),
+            ("length", "len"),
+            ("append", "apendd"),
+        ] {
+            assert!(
+                !is_near(one, other) && !is_near(other, one),
+                "{one} {other}"
+            );
+        }
+    }
+}
