@@ -414,25 +414,31 @@ fn broken_lines_are_told_with_their_places() {
 
 #[test]
 fn a_pair_that_uses_a_broken_declaration_is_not_judged() {
-    let key = b"let one = (\nlet two = %2 \xff\none | %1\ntwo | %2\nthree | %3\n";
+    let key = b"let one = (\nlet two = %2 \xff\nLet three = %3\nlet four = %4\n  (f x)\nlet five = %5\n\
+        one | %1\ntwo | %2\nthree | %3\nfour | %4\nfive | %5\nsix | %6\nlet six = %6\nsix | %6\nseven | %7\n";
     let answer = judge_on(key, &["--named", "--key", "-", "--format", "csv"]);
-    let rows: Vec<(String, String)> = records(&answer.output)[1..]
+    let rows: Vec<String> = records(&answer.output)[1..]
         .iter()
-        .map(|record| (record[3].clone(), record[13].clone()))
+        .map(|record| {
+            [&record[0], &record[3], &record[13]]
+                .map(String::as_str)
+                .join(" ")
+        })
         .collect();
-    let row = |verdict: &str, reason: &str| (verdict.to_string(), reason.to_string());
+    let declared = |line: u32, name: &str, at: u32| {
+        format!("{line} Not read column 1: the declaration of `{name}` on line {at} cannot be read")
+    };
     assert_eq!(
-        rows[2..],
+        rows[4..],
         [
-            row(
-                "Not read",
-                "column 1: the declaration of `one` on line 1 cannot be read"
-            ),
-            row(
-                "Not read",
-                "column 1: the declaration of `two` on line 2 cannot be read"
-            ),
-            row("Different", ""),
+            declared(7, "one", 1),
+            declared(8, "two", 2),
+            declared(9, "three", 3),
+            declared(10, "four", 4),
+            "11 Same ".to_string(),
+            "12 Not read column 1: `six` is declared only on line 13, below its use".to_string(),
+            "14 Same ".to_string(),
+            "15 Different ".to_string(),
         ]
     );
 }

@@ -139,6 +139,11 @@ const RIGHT_TO_LEFT: [u32; 98] = [
     0x1e944, 0x1e94b, 0x1eebc,
 ];
 
+/// Whether a character is a letter that fills a place and is not seen.
+pub fn is_filler(character: char) -> bool {
+    matches!(character, '\u{115f}' | '\u{1160}' | '\u{3164}' | '\u{ffa0}')
+}
+
 #[cfg(test)]
 mod tests {
     use super::*;

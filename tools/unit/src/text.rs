@@ -3,6 +3,8 @@
 use std::fmt;
 use std::str::Chars;
 
+use crate::characters::is_filler;
+
 /// The characters of a word that a message shows.
 const SHOWN: usize = 40;
 
@@ -107,9 +109,10 @@ pub(crate) fn number(
 
 /// A character that was found, by its number where nothing of it would be seen.
 pub fn quoted(character: char) -> String {
-    match character.is_ascii_graphic() {
-        true => format!("`{character}`"),
-        false => format!("`{}`", character.escape_debug()),
+    match character {
+        _ if character.is_ascii_graphic() => format!("`{character}`"),
+        _ if is_filler(character) => format!("`{}`", character.escape_unicode()),
+        _ => format!("`{}`", character.escape_debug()),
     }
 }
 

@@ -523,14 +523,6 @@ fn a_numeral_is_not_as_it_must_be() {
         ),
         ("%3x", "3: expected a space behind the number, found `x`"),
         (
-            r"\_x. y",
-            "2: a name begins with a letter, and `_` stands alone",
-        ),
-        (
-            r"\_ _1. y",
-            "4: a name begins with a letter, and `_` stands alone",
-        ),
-        (
             "%3of",
             "3: expected a space behind the number, found the reserved word `of`",
         ),
@@ -889,6 +881,72 @@ fn a_name_whose_declaration_cannot_be_read_is_not_used() {
     reads(names, r"\add. add", r"\0", &[]);
     assert_eq!(names.declare("let add = \\x. x", 6), Ok(()));
     reads(names, "add", r"\0", &[]);
+}
+
+#[test]
+fn a_name_is_not_as_it_must_be() {
+    let names = &mut Names::new();
+    for (text, reason) in [
+        (
+            "x\u{200d}",
+            "1: a name does not end in a joiner, which is not seen",
+        ),
+        (
+            "x\u{fe0f}",
+            "2: expected a name, `(`, `\\`, `%`, `case` or the end, found `\\u{fe0f}`",
+        ),
+        (
+            "\u{3164}",
+            "1: expected a name, `(`, `\\`, `%` or `case`, found `\\u{3164}`",
+        ),
+        (
+            "\u{345}x",
+            "1: expected a name, `(`, `\\`, `%` or `case`, found `\\u{345}`",
+        ),
+        (
+            r"\_x. y",
+            "2: a name begins with a letter, and `_` stands alone",
+        ),
+        (
+            r"\_ _1. y",
+            "4: a name begins with a letter, and `_` stands alone",
+        ),
+    ] {
+        assert_eq!(term_error(names, text), reason, "{text}");
+    }
+}
+
+#[test]
+fn a_name_is_not_used_above_its_declaration() {
+    let names = &mut Names::new();
+    names.begin("exam.key");
+    names.announce("let add = %1", 3);
+    names.announce("constructor Nil = 1.0, Cons = 2.2", 4);
+    for (text, reason) in [
+        ("add", "1: `add` is declared only on line 3, below its use"),
+        (
+            "x Nil",
+            "3: `Nil` is declared only on line 4, below its use",
+        ),
+        (
+            "case x of {Cons h t -> h}",
+            "12: `Cons` is declared only on line 4, below its use",
+        ),
+    ] {
+        assert_eq!(term_error(names, text), reason, "{text}");
+    }
+    assert_eq!(
+        line_error(names, "let two = add add"),
+        "11: `add` is declared only on line 3, below its use"
+    );
+    assert_eq!(names.declare("let add = %1", 3), Ok(()));
+    reads(names, "add", "%1", &[]);
+    // From another file on, the file is named.
+    names.begin("other.key");
+    assert_eq!(
+        line_error(names, "let add = %2"),
+        "5: `add` is already declared on line 3 of exam.key"
+    );
 }
 
 #[test]

@@ -1,7 +1,7 @@
 //! The tokens of the notation with names.
 
 use super::NameError;
-use crate::characters::is_mark;
+use crate::characters::{is_filler, is_mark};
 use crate::text::{cut, number, quoted, Cursor};
 
 /// Words that are no names. The notation has no `in`, but whoever writes it behind a `let` means one.
@@ -149,11 +149,12 @@ fn begins_name(character: char) -> bool {
 fn is_in_name(character: char) -> bool {
     match character {
         LAMBDA => false,
-        // Letters that fill a place, and marks that choose how the one before is drawn.
-        '\u{115f}' | '\u{1160}' | '\u{3164}' | '\u{ffa0}' | '\u{34f}' => false,
-        '\u{180b}'..='\u{180f}' | '\u{fe00}'..='\u{fe0f}' | '\u{e0100}'..='\u{e01ef}' => false,
+        // Marks that join others, or choose how the one before is drawn.
+        '\u{34f}' | '\u{180b}'..='\u{180f}' | '\u{fe00}'..='\u{fe0f}' => false,
+        '\u{e0100}'..='\u{e01ef}' => false,
         '_' | '\'' => true,
         joiner if JOINERS.contains(&joiner) => true,
+        _ if is_filler(character) => false,
         _ => character.is_alphanumeric() || is_mark(character),
     }
 }
