@@ -29,14 +29,14 @@ impl Fault {
         told(name, line, column, &self.reason, text)
     }
 
-    fn with(self, hint: &str) -> Fault {
-        let reason = self.reason + hint;
-        Fault { reason, ..self }
-    }
-
     /// The fault of a line of a file.
     pub fn told_on(&self, file: &str, line: usize, text: &str) -> String {
         told(file, line, self.column, &self.reason, text)
+    }
+
+    fn with(self, hint: &str) -> Fault {
+        let reason = self.reason + hint;
+        Fault { reason, ..self }
     }
 }
 

@@ -93,7 +93,27 @@ impl Row {
     }
 }
 
+/// All kinds of outcomes, in the order in which they are counted.
+const KINDS: [&str; 7] = [
+    "Same",
+    "Different",
+    "Budget",
+    "Full",
+    "refused",
+    "too long",
+    "not read",
+];
+
 impl Outcome {
+    fn kind(&self) -> &'static str {
+        match self {
+            Outcome::Pressed { press, .. } => press.verdict.name(),
+            Outcome::Refused { .. } => "refused",
+            Outcome::Input { .. } => "too long",
+            Outcome::Broken { .. } => "not read",
+        }
+    }
+
     fn new(content: Content, answer: Answer, limits: Limits, notation: &Notation) -> Outcome {
         let Content { pair, free } = content;
         let question = Question {
@@ -200,31 +220,15 @@ impl Report {
 
     /// How many lines came to what: `3 lines: 2 Same, 1 refused`.
     pub fn counts(&self) -> String {
-        let of_verdict = |verdict: Verdict| {
-            let is_it = |row: &&Row| matches!(&row.outcome, Outcome::Pressed { press, .. } if press.verdict == verdict);
-            (self.rows.iter().filter(is_it).count(), verdict.name())
+        let count = |kind: &str| {
+            let count = self
+                .rows
+                .iter()
+                .filter(|row| row.outcome.kind() == kind)
+                .count();
+            (count > 0).then(|| format!("{count} {kind}"))
         };
-        let others = |name: &'static str, is_it: fn(&Outcome) -> bool| {
-            let count = self.rows.iter().filter(|row| is_it(&row.outcome)).count();
-            (count, name)
-        };
-        let counts: Vec<String> = Verdict::ALL
-            .map(of_verdict)
-            .into_iter()
-            .chain([
-                others("refused", |outcome| {
-                    matches!(outcome, Outcome::Refused { .. })
-                }),
-                others("too long", |outcome| {
-                    matches!(outcome, Outcome::Input { .. })
-                }),
-                others("not read", |outcome| {
-                    matches!(outcome, Outcome::Broken { .. })
-                }),
-            ])
-            .filter(|(count, _)| *count > 0)
-            .map(|(count, name)| format!("{count} {name}"))
-            .collect();
+        let counts: Vec<String> = KINDS.into_iter().filter_map(count).collect();
         let lines = match self.rows.len() {
             1 => "1 line".to_string(),
             count => format!("{count} lines"),
