@@ -3,11 +3,12 @@
 use std::env;
 use std::fs;
 use std::path::{Path, PathBuf};
-use std::process::ExitCode;
+use std::process::{Command, ExitCode};
 
 use bench::cases::{contracting, growing_touched, growing_untouched, normal, untouched};
 use bench::cases::{Case, Point};
 use bench::encodings::{growing_encodings, Encoding, EncodingRow};
+use bench::keys::{self, Judges, KeyRow};
 use bench::lines::{growing_lines, Line, LineRow};
 use bench::measure::{Bench, Each, Row};
 use bench::plot::{svg, Panel};
@@ -72,6 +73,11 @@ fn run() -> Result<String, String> {
     let descent = PathBuf::from(env!("CARGO_BIN_EXE_descent"));
     let bitwise = PathBuf::from(env!("CARGO_BIN_EXE_bitwise"));
     let empty = InputFile::new("empty", &[]).map_err(|error| error.to_string())?;
+    let judges = Judges {
+        judge: judge()?,
+        replay: replay.clone(),
+        verdict: verdict.clone(),
+    };
     let bench = Bench {
         counter: Counter::find(&flat, &empty),
         programs: [verdict, flat, graph],
@@ -80,10 +86,27 @@ fn run() -> Result<String, String> {
         probe,
         is_timed,
     };
-    report(&bench, &root)
+    report(&bench, &judges, &root)
 }
 
-fn report(bench: &Bench, root: &Path) -> Result<String, String> {
+/// The text command, built from its sources.
+fn judge() -> Result<PathBuf, String> {
+    let tools = Path::new(env!("CARGO_MANIFEST_DIR")).join("..");
+    let built = Command::new(env!("CARGO"))
+        .args(["build", "--quiet", "--release", "--package", "judge"])
+        .current_dir(&tools)
+        .status();
+    match built {
+        Ok(status) if status.success() => {
+            let target = env::var_os("CARGO_TARGET_DIR").map(PathBuf::from);
+            let target = target.unwrap_or_else(|| tools.join("target"));
+            Ok(target.join("release/judge"))
+        }
+        _ => Err("the text command cannot be built".to_string()),
+    }
+}
+
+fn report(bench: &Bench, judges: &Judges, root: &Path) -> Result<String, String> {
     let plot = match bench.counter {
         Some(_) => Some(plot(bench, root)?),
         None => None,
@@ -94,6 +117,7 @@ fn report(bench: &Bench, root: &Path) -> Result<String, String> {
         normal: rows(bench, normal())?,
         lines: line_rows(bench, growing_lines())?,
         encodings: encoding_rows(bench, growing_encodings())?,
+        keys: key_rows(bench, judges)?,
         plot,
     };
     Ok(report.markdown(bench))
@@ -124,6 +148,17 @@ fn encoding_rows(bench: &Bench, encodings: Vec<Encoding>) -> Result<Vec<Encoding
         row.map_err(|reason| format!("{}: {reason}", encoding.shape))
     };
     encodings.iter().map(measured).collect()
+}
+
+fn key_rows(bench: &Bench, judges: &Judges) -> Result<Vec<KeyRow>, String> {
+    let measured = |pairs: usize| {
+        eprintln!("a key of {pairs} pairs");
+        keys::row(pairs, judges)
+    };
+    match bench.is_timed {
+        true => [10, 100, 1_000].into_iter().map(measured).collect(),
+        false => Ok(Vec::new()),
+    }
 }
 
 /// Writes the plot; its path seen from the page.

@@ -1,8 +1,10 @@
-//! The programs `verdict` and `replay` measured beside peers in plain Rust.
+//! The programs `verdict` and `replay` measured beside peers in plain Rust, and the text command beside
+//! single runs.
 
 pub mod cases;
 mod elf;
 pub mod encodings;
+pub mod keys;
 pub mod lines;
 pub mod measure;
 mod numbers;

@@ -7,6 +7,7 @@ use std::process::Command;
 use crate::cases::C;
 use crate::elf::{function_size, text_size};
 use crate::encodings::{EncodingRow, CALLS, EXCHANGERS};
+use crate::keys::{KeyRow, WAYS};
 use crate::lines::{LineRow, LONGEST, READERS};
 use crate::measure::{spent, Bench, Each, Row, COUNTED, NAMES};
 use crate::numbers::{grouped, rounded};
@@ -23,6 +24,8 @@ pub struct Report {
     pub normal: Vec<Row>,
     pub lines: Vec<LineRow>,
     pub encodings: Vec<EncodingRow>,
+    /// None where no times are taken.
+    pub keys: Vec<KeyRow>,
     /// The plot's path, seen from the page.
     pub plot: Option<String>,
 }
@@ -35,7 +38,11 @@ impl Report {
         parts.extend([self.reading(), self.exchanging()]);
         let mut rows = self.groups().into_iter().flat_map(|(_, rows)| rows);
         if rows.any(|row| row.times.is_some()) {
-            parts.extend([self.times(), self.times_of_encodings()]);
+            parts.extend([
+                self.times(),
+                self.times_of_encodings(),
+                self.times_of_keys(),
+            ]);
         }
         parts.extend([
             self.stack(),
@@ -149,6 +156,20 @@ impl Report {
             let mut cells = vec![grouped(row.bits)];
             cells.extend(times.map(|time| time.map_or(NONE.to_string(), rate)));
             (vec![row.shape.to_string()], cells)
+        });
+        text
+    }
+
+    fn times_of_keys(&self) -> String {
+        let mut text = "### Keys: pairs a second\n\n\
+             Of `judge --key` on a file of small pairs, on all processors, beside a run of `verdict` for each \
+             of the same pairs, one after the other. Timed is all of it: reading, starting programs, judging, \
+             printing.\n\n"
+            .to_string();
+        text += &table(&["pairs"], &WAYS, &self.keys, |row| {
+            let rate = |time: Estimate| estimated(row.pairs as f64 / time.value, time);
+            let cells = row.times.map(|time| time.map_or(NONE.to_string(), rate));
+            (vec![grouped(row.pairs)], cells.into())
         });
         text
     }
@@ -401,6 +422,10 @@ mod tests {
             normal,
             lines: vec![line("short", 256), line("long", LONGEST)],
             encodings: vec![encoding("few", false), encoding("many", true)],
+            keys: vec![KeyRow {
+                pairs: 1_000,
+                times: [press(0.5), None],
+            }],
             plot: Some("growth.svg".to_string()),
         };
         let path = |name| format!("/no/{name}").into();
@@ -477,6 +502,9 @@ mod tests {
             "| few | 4,096 | 512 | 2,048 | 12,345 | 67,890 | n/a | 7 |",
             "| many | 4,096 | 512 | 2,048 | 12,345 | 67,890 | n/a | 7 |",
             "### Encodings: bits a second",
+            "### Keys: pairs a second",
+            "| pairs | judge --key | a run of verdict for each |",
+            "| 1,000 | 2,000 ±2% | n/a |",
             "| encoding | bits | import | import by bitwise | export | export by bitwise |",
             "| few | 4,096 | 1,000,000,000 ±2% | n/a | 100,000,000 ±2% | 4,100 ±2% |",
             "| encoding | import | import by bitwise | export | export by bitwise | replay | bitwise |",

@@ -51,40 +51,78 @@ pub fn read(bytes: &[u8], file: &str, notation: &mut Notation) -> Key {
         declarations: Vec::new(),
     };
     let mut heading = String::new();
-    // The declaration right above, if one is.
-    let mut above: Option<Written> = None;
+    // The line right above, if it is no blank one.
+    let mut above = Above::Other;
     for written in written_lines(bytes, file, notation) {
         if written.is_blank() {
-            heading = written.heading().unwrap_or(heading);
+            if let Some(below) = written.heading() {
+                heading = match above {
+                    Above::Heading => format!("{heading}, {below}"),
+                    _ => below,
+                };
+                above = Above::Heading;
+            }
             continue;
         }
-        let declaration = above.take();
         let content = match (&written.decoded, notation.declare(&written)) {
             (Err(fault), _) => Err(fault.clone()),
             (Ok(()), Some(Err(fault))) => Err(fault),
             (Ok(()), Some(Ok(()))) => {
                 key.declarations.push(written.text.trim().to_string());
-                above = Some(written);
+                above = Above::Declaration(written);
                 continue;
             }
             (Ok(()), None) => pair(&written.text, written.number, notation),
         };
         if content.is_err() && !written.is_pair() {
-            // It may be a declaration, or the rest of the one above.
             notation.revoke(&written);
-            if let Some(declaration) = declaration.filter(|_| !written.is_declaration()) {
-                notation.revoke(&declaration);
+            if !written.is_declaration() {
+                key.doubt(above, written.number, notation);
             }
         }
+        above = match content {
+            Ok(_) => Above::Pair,
+            Err(_) => Above::Other,
+        };
         key.lines.push(Line {
             number: written.number,
             heading: heading.clone(),
             text: written.text,
-            comment: written.comment,
+            comment: written.comment.trim_start_matches(DASH).trim().to_string(),
             content,
         });
     }
     key
+}
+
+/// What stands above a line.
+enum Above {
+    Declaration(Written),
+    Pair,
+    Heading,
+    Other,
+}
+
+impl Key {
+    /// Takes back what stands above a line that is neither a pair nor a declaration: that may be the rest
+    /// of it.
+    fn doubt(&mut self, above: Above, rest: usize, notation: &mut Notation) {
+        match above {
+            Above::Declaration(declaration) => {
+                self.declarations.pop();
+                notation.revoke(&declaration);
+            }
+            Above::Pair => {
+                if let Some(line) = self.lines.last_mut() {
+                    line.content = Err(Fault {
+                        column: line.text.chars().count() + 1,
+                        reason: format!("line {rest} may be the rest; a pair stands on one line"),
+                    });
+                }
+            }
+            Above::Heading | Above::Other => {}
+        }
+    }
 }
 
 /// Takes the declarations of a key file and leaves its pairs: the declarations as they are written, or
@@ -176,7 +214,8 @@ impl Written {
 
     /// Whether it is meant as a pair.
     fn is_pair(&self) -> bool {
-        self.text.contains(BETWEEN) && !self.is_declaration()
+        let text = self.text.trim_start();
+        text.contains(BETWEEN) && !text.starts_with(BETWEEN) && !self.is_declaration()
     }
 
     /// The heading that a blank line with a comment is, if it is one.
@@ -207,7 +246,7 @@ impl Notation {
         match self {
             Notation::Named(names) if line.is_declaration() => {
                 let declared = names.declare(&line.text, line.number);
-                Some(declared.map_err(Fault::from))
+                Some(declared.map_err(|error| Fault::from(error).of_declaration()))
             }
             _ => None,
         }
@@ -271,6 +310,12 @@ impl Fault {
             column: 1,
             reason: "expected `let`, `constructor` or a pair".to_string(),
         }
+    }
+
+    /// The same with a word to whoever goes on in the next line.
+    fn of_declaration(self) -> Fault {
+        let end = "found the end";
+        self.reworded(end, &format!("{end}; a declaration stands on one line"))
     }
 
     /// The fault of a part of a line, in words of the whole line.

@@ -88,9 +88,11 @@ impl Notation {
             '0'..='9' if is_named && reason.contains("a name") => {
                 Some("; indices are read without --named")
             }
-            '=' if is_named => Some("; a declaration starts with `let` or `constructor`"),
+            '=' if is_named && reason.contains("or the end") => {
+                Some("; a declaration starts with `let` or `constructor`")
+            }
             _ if !is_named && found.is_alphabetic() => Some("; names are read with --named"),
-            '“' | '”' | '‘' | '’' | '–' | '—' | '！'..='～' => {
+            '“' | '”' | '‘' | '’' | '′' | '–' | '—' | '！'..='～' => {
                 Some("; write the sign of a plain keyboard")
             }
             _ if !found.is_ascii() && found.is_whitespace() => Some("; write a plain space"),

@@ -110,12 +110,13 @@ Part 2
 8 lines: 2 Same, 1 Different, 1 Budget, 1 Full, 2 refused, 1 not read.
 Limits: 5 contractions a pair, both sides together; workspaces of 24 words.
 The form is the shorter of the two terms at the end, the right one if both are equally long.
-Not decided: lines 5, 7 to 10. Nothing is said of these pairs; `judge --explain` says more.
+Not decided: lines 5, 7 to 10. Nothing is said of these pairs; `judge --explain Full`, or Budget, or a refusal's number, says more.
 ";
 
 /// The rows of its page, without what stands around the table's rows.
-const ROWS: [&str; 9] = [
-    r#"<td class="number">2</td><td><code>(\\1) 0 1</code><div class="note"><bdi>a comment</bdi></div></td><td><code>0</code></td><td class="Same">Same</td><td class="number">2</td><td class="number">1, 1</td><td><code>0</code><div class="note">both</div></td>"#,
+const ROWS: [&str; 10] = [
+    r#"<td></td><td colspan="6"><bdi>a comment</bdi></td>"#,
+    r#"<td class="number">2</td><td><code>(\\1) 0 1</code></td><td><code>0</code></td><td class="Same">Same</td><td class="number">2</td><td class="number">1, 1</td><td><code>0</code><div class="note">both</div></td>"#,
     r#"<td class="number">3</td><td><code>\0 1</code></td><td><code>\0 2</code></td><td class="Different">Different</td><td class="number">0</td><td class="number">4, 4</td><td><code>\0 <mark>2</mark></code><div class="note">right; differs at word 3</div></td>"#,
     r#"<td class="number">5</td><td><code>(\0 0) (\0 0)</code></td><td><code>0</code></td><td class="Budget">Budget</td><td class="number">5</td><td class="number">9, 1</td><td><code>0</code><div class="note">right</div><div class="note">not decided: the next round would pass the budget of 5 contractions</div></td>"#,
     r#"<th colspan="7" scope="rowgroup"><bdi>Part 2</bdi></th>"#,
@@ -192,7 +193,7 @@ fn a_key_is_printed_as_comma_separated_values() {
 fn a_key_is_printed_as_a_page() {
     let key = file("rows.html.key", KEY);
     let answer = judge(&[&["--key", &key, "--format", "html"], &LIMITS[..]].concat());
-    let page = answer.output;
+    let page = answer.output.replace("<tr class=\"label\">", "<tr>");
     let body = page
         .split("<tbody>")
         .nth(1)
@@ -294,7 +295,8 @@ fn a_named_key_in_several_scripts_is_printed() {
     );
     for part in [
         "<pre>constructor Nil = 1.0, Cons = 2.2\nlet twice = \\f x. f (f x)</pre>",
-        "<code>twice\tg</code><div class=\"note\"><bdi>&lt;b&gt; &amp; &quot;c&quot;</bdi></div>",
+        "<tr class=\"label\"><td></td><td colspan=\"6\"><bdi>&lt;b&gt; &amp; &quot;c&quot;</bdi></td></tr>\n\
+         <tr><td class=\"number\">3</td><td><code>twice\tg</code></td>",
         "<code>\\x. g (<mark>h</mark> x)</code>",
         "<code>f <bdi>\u{5d0}\u{5d1}</bdi> <mark>b</mark></code>",
         "<div class=\"note\">free: <code>g, h</code></div>",
@@ -415,21 +417,14 @@ fn broken_lines_are_told_with_their_places() {
 #[test]
 fn a_pair_that_uses_a_broken_declaration_is_not_judged() {
     let key = b"let one = (\nlet two = %2 \xff\nLet three = %3\nlet four = %4\n  (f x)\nlet five = %5\n\
-        one | %1\ntwo | %2\nthree | %3\nfour | %4\nfive | %5\nsix | %6\nlet six = %6\nsix | %6\nseven | %7\n";
-    let answer = judge_on(key, &["--named", "--key", "-", "--format", "csv"]);
-    let rows: Vec<String> = records(&answer.output)[1..]
-        .iter()
-        .map(|record| {
-            [&record[0], &record[3], &record[13]]
-                .map(String::as_str)
-                .join(" ")
-        })
-        .collect();
+        one | %1\ntwo | %2\nthree | %3\nfour | %4\nfive | %5\nsix | %6\nlet six = %6\nsix | %6\nseven | %7\n\
+        eight n = n\neight | n\nconstructor Nil 1.0, Cons = 2.2\nNil | Nil\nCons | Cons\n";
+    let rows = judged(key);
     let declared = |line: u32, name: &str, at: u32| {
         format!("{line} Not read column 1: the declaration of `{name}` on line {at} cannot be read")
     };
     assert_eq!(
-        rows[4..],
+        rows[4..12],
         [
             declared(7, "one", 1),
             declared(8, "two", 2),
@@ -441,6 +436,55 @@ fn a_pair_that_uses_a_broken_declaration_is_not_judged() {
             "15 Different ".to_string(),
         ]
     );
+    assert_eq!(rows[13], declared(17, "eight", 16));
+    assert_eq!(
+        rows[15..],
+        [declared(19, "Nil", 18), declared(20, "Cons", 18)]
+    );
+}
+
+/// Line, verdict and reason of each row of a named key.
+fn judged(key: &[u8]) -> Vec<String> {
+    let answer = judge_on(key, &["--named", "--key", "-", "--format", "csv"]);
+    let row = |record: &Vec<String>| {
+        [&record[0], &record[3], &record[13]]
+            .map(String::as_str)
+            .join(" ")
+    };
+    records(&answer.output)[1..].iter().map(row).collect()
+}
+
+#[test]
+fn a_pair_that_may_go_on_below_is_not_judged() {
+    let rest = |line: u32| {
+        format!(
+            "{line} Not read column 6: line {} may be the rest; a pair stands on one line",
+            line + 1
+        )
+    };
+    for below in ["  (g a)", "| c", "g a", "x := y"] {
+        let key = format!("a | a\na | f\n{below}\na | a\n");
+        let rows = judged(key.as_bytes());
+        assert_eq!(rows.len(), 4, "{below}");
+        assert_eq!((rows[0].as_str(), rows[3].as_str()), ("1 Same ", "4 Same "));
+        assert_eq!(rows[1], rest(2), "{below}");
+    }
+    // A line with a pair, a declaration or a heading is no rest.
+    for below in ["b (| b", "let x = (", "--- (g a)", "-- (g a)"] {
+        let key = format!("a | f\n{below}\n\na | a\n");
+        assert_eq!(judged(key.as_bytes())[0], "1 Different ", "{below}");
+    }
+}
+
+#[test]
+fn headings_below_each_other_are_one() {
+    let key = "--- Part A\n\n--- Question 1\n0 | 0\n--- Question 2\n0 | 0 --- (b)\n";
+    let answer = judge_on(key.as_bytes(), &["--key", "-", "--format", "csv"]);
+    let rows: Vec<String> = records(&answer.output)[1..]
+        .iter()
+        .map(|record| record[16..].join(";"))
+        .collect();
+    assert_eq!(rows, ["Part A, Question 1;", "Question 2;(b)"]);
 }
 
 #[test]

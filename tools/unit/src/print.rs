@@ -112,9 +112,9 @@ fn is_parenthesised<N: Notation>(node: Node, place: Place) -> bool {
     match node {
         Node::Abstraction => matches!(place, Place::Function | Place::InnerItem),
         Node::Application => matches!(place, Place::LastItem | Place::InnerItem),
-        Node::Constructor { arguments, .. } => {
-            N::ARGUMENTS_ARE_ITEMS && arguments > 0 && place != Place::Alone
-        }
+        Node::Constructor { .. } if !N::ARGUMENTS_ARE_ITEMS => false,
+        Node::Constructor { arguments: 0, .. } => matches!(place, Place::Function),
+        Node::Constructor { .. } => place != Place::Alone,
         _ => false,
     }
 }

@@ -110,7 +110,7 @@ fn numerals() {
 fn constructors_take_their_arguments() {
     let names = &mut lists();
     reads(names, "Nil", "#1", &[]);
-    reads(names, "Nil x", "#1 0", &["x"]);
+    reads(names, "(Nil) x", "#1 0", &["x"]);
     reads(names, "f Nil Nil", "0 #1 #1", &["f"]);
     reads(names, "Cons a (Cons b Nil)", "#2[0,#2[1,#1]]", &["a", "b"]);
     reads(names, "(Cons a b) c", "#2[0,1] 2", &["a", "b", "c"]);
@@ -259,7 +259,7 @@ fn printed_terms() {
         ("(Cons a b) (Cons a (c d))", "(Cons a b) (Cons a (c d))"),
         (r"f (Cons a (\b. b))", r"f (Cons a \x. x)"),
         (r"Cons (\b. b) a", r"Cons (\x. x) a"),
-        ("Nil Nil (u %3)", "Nil Nil (u %3)"),
+        ("(Nil) Nil (u %3)", "(Nil) Nil (u %3)"),
         (
             r"\s. case (s) of {_ -> \a. a; Cons a b → b a; Nil -> (s)}",
             r"\x. case x of {Nil -> x; Cons z v -> v z; _ -> \z. z}",
@@ -592,7 +592,7 @@ fn a_branch_is_not_as_it_must_be() {
         ("case x of {_ = y}", "14: expected `->`, found `=`"),
         (
             "case x of {Nil y -> y}",
-            "16: expected `->` (`Nil` takes 0 arguments), found `y`",
+            "16: expected `->` (`Nil` takes no argument), found `y`",
         ),
         (
             "case x of {Cons y z u -> y}",
@@ -771,7 +771,7 @@ fn nesting_has_no_limit() {
         (r"\x.", 1, 1),
         ("case ", 1, 0),
         ("x (", 2, 0),
-        ("Nil Nil (", 4, 0),
+        ("(Nil) Nil (", 4, 1),
     ] {
         let column = 65_536 / words * before.len() + 1 + within;
         let error = term_error(names, &before.repeat(deep));
@@ -846,7 +846,7 @@ fn a_name_whose_declaration_cannot_be_read_is_not_used() {
     for (line, number) in [
         ("let add = (", 1),
         ("let mul \\x. x", 2),
-        ("constructor Nil = 1.0, Cons = 300.2", 3),
+        ("constructor Nil 1.0, Cons = 2.2", 3),
         ("let one = %1", 4),
         ("let one = %2", 5),
     ] {

@@ -6,8 +6,9 @@ use crate::report::{Form, Outcome, Report, Row, FORM, INPUT, MEANINGS, NOT_READ,
 
 const STYLE: &str = include_str!("key.css");
 
-/// The most characters of a form; more are cut.
+/// The most characters of a form, and of that of an undecided pair; more are cut.
 const MOST: usize = 600;
+const MOST_UNDECIDED: usize = 120;
 const CUT: &str = "…";
 
 pub fn html(report: &Report) -> String {
@@ -47,7 +48,7 @@ pub fn html(report: &Report) -> String {
 <dl>
 {meanings}</dl>
 <p>{FORM}. In the form of a Different the first word that differs is marked; a form of more than \
-{MOST} characters is cut.</p>
+{MOST} characters, or {MOST_UNDECIDED} where nothing was found out, is cut.</p>
 </body>
 </html>",
         counts = report.counts(),
@@ -63,17 +64,18 @@ fn table_row(report: &Report, heading: Option<&str>, row: &Row) -> String {
         let heading = bidi(&escaped(heading));
         format!("<tr><th colspan=\"7\" scope=\"rowgroup\">{heading}</th></tr>\n")
     });
-    let comment = match row.comment.as_str() {
+    let label = match row.comment.as_str() {
         "" => String::new(),
-        comment => note(&bidi(&escaped(comment))),
+        comment => {
+            let label = bidi(&escaped(comment));
+            format!("<tr class=\"label\"><td></td><td colspan=\"6\">{label}</td></tr>\n")
+        }
     };
     let pair = match row.outcome {
-        Outcome::Broken { .. } => {
-            format!("<td colspan=\"2\">{}{comment}</td>", cell(&row.text))
-        }
+        Outcome::Broken { .. } => format!("<td colspan=\"2\">{}</td>", cell(&row.text)),
         _ => {
             let [left, right] = row.sides.each_ref().map(|side| cell(side));
-            format!("<td>{left}{comment}</td><td>{right}</td>")
+            format!("<td>{left}</td><td>{right}</td>")
         }
     };
     let judged = match &row.outcome {
@@ -90,7 +92,7 @@ fn table_row(report: &Report, heading: Option<&str>, row: &Row) -> String {
         }
     };
     format!(
-        "{}<tr><td class=\"number\">{}</td>{pair}{judged}</tr>\n",
+        "{}{label}<tr><td class=\"number\">{}</td>{pair}{judged}</tr>\n",
         heading.unwrap_or_default(),
         row.line
     )
@@ -108,6 +110,10 @@ fn pressed(
     let differs = press
         .position
         .map(|word| format!("; differs at word {word}"));
+    let most = match press.verdict.decides() {
+        true => MOST,
+        false => MOST_UNDECIDED,
+    };
     let mut notes = vec![format!("{}{}", form.whose, differs.unwrap_or_default())];
     notes.extend(report.remark(press));
     if !free.is_empty() {
@@ -119,7 +125,7 @@ fn pressed(
         "<td class=\"{name}\">{name}</td><td class=\"number\">{}</td>\
          <td class=\"number\">{left}, {right}</td><td>{}{notes}</td>",
         press.contractions,
-        code(&marked(form)),
+        code(&marked(form, most)),
     )
 }
 
@@ -128,8 +134,8 @@ fn unjudged(name: &str, reason: &str) -> String {
     format!("<td class=\"none\">{name}</td><td colspan=\"3\">{reason}</td>")
 }
 
-fn marked(form: &Form) -> String {
-    let excerpt = form.excerpt(MOST);
+fn marked(form: &Form, most: usize) -> String {
+    let excerpt = form.excerpt(most);
     let [start, end] = excerpt.is_cut.map(|is_cut| if is_cut { CUT } else { "" });
     let [before, marked, after] = [excerpt.before, excerpt.marked, excerpt.after].map(directed);
     let marked = match form.mark {

@@ -8,7 +8,8 @@ use crate::report::{Form, Outcome, Report, Row, FORM, INPUT, NOT_READ, REFUSED};
 const MOST: usize = 60;
 const CUT: &str = "..";
 
-const UNDECIDED: &str = "Nothing is said of these pairs; `judge --explain` says more.";
+const UNDECIDED: &str =
+    "Nothing is said of these pairs; `judge --explain Full`, or Budget, or a refusal's number, says more.";
 
 pub fn text(report: &Report) -> String {
     let mut lines = vec![columns([

@@ -1,6 +1,7 @@
 //! Declarations of definitions and constructors.
 
 use super::lexer::{quoted_word, Kind, Lexer, Token};
+use super::near::is_near;
 use super::reader::Reader;
 use super::{Declared, Meaning, NameError, Names, MAX_DEFINED};
 use crate::limits::{MAX_COUNT, TAGS};
@@ -18,7 +19,7 @@ pub(super) fn read(names: &mut Names, line: &str, number: usize) -> Result<(), N
     }
 }
 
-/// The names that a line declares, or would if it could be read.
+/// The names that a line declares, or was meant to declare where it cannot be read.
 pub(super) fn names(line: &str) -> Vec<&str> {
     let mut lexer = Lexer::new(line);
     let mut tokens = Vec::new();
@@ -28,12 +29,28 @@ pub(super) fn names(line: &str) -> Vec<&str> {
         }
         tokens.push(token);
     }
-    let declared = tokens.windows(2).filter_map(|pair| match pair {
-        [first, name] if first.is_word("let") && name.kind == Kind::Name => Some(name.text),
-        [name, next] if name.kind == Kind::Name && next.is('=') => Some(name.text),
-        _ => None,
-    });
-    declared.collect()
+    let is_name = |token: &&Token| token.kind == Kind::Name;
+    match tokens.split_first() {
+        Some((first, rest)) if is_like(first.text, "let") => rest
+            .iter()
+            .find(is_name)
+            .map(|name| name.text)
+            .into_iter()
+            .collect(),
+        Some((first, rest)) if is_like(first.text, "constructor") => {
+            rest.iter().filter(is_name).map(|name| name.text).collect()
+        }
+        // As in `f x = y` and `f := y`.
+        Some((first, rest)) if is_name(&first) && rest.iter().any(|token| token.is('=')) => {
+            vec![first.text]
+        }
+        _ => Vec::new(),
+    }
+}
+
+/// Whether a word was meant to be another.
+fn is_like(word: &str, meant: &str) -> bool {
+    word == meant || is_near(word, meant)
 }
 
 fn definition(names: &mut Names, mut lexer: Lexer, line: usize) -> Result<(), NameError> {

@@ -3,10 +3,10 @@
 use super::lexer::quoted_word;
 use super::{Declared, Meaning};
 
-/// A name of fewer letters is near too many others.
+/// Names of fewer letters are near too many others.
 const LETTERS: usize = 3;
 
-/// Says that a free name is near a declared one, or written like a constructor where there are some.
+/// Says that a free name is near a declared one, or written like a constructor.
 pub(super) fn doubt<'a>(
     declared: impl Iterator<Item = (&'a String, &'a Declared)>,
     free: &str,
@@ -26,11 +26,16 @@ pub(super) fn doubt<'a>(
             "{name} is free; {} is declared",
             quoted_word(other)
         )),
-        None if has_capital_constructors && is_capital(free) => Some(format!(
+        None if is_capital(free) && (has_capital_constructors || is_word(free)) => Some(format!(
             "{name} is free; no constructor of this name is declared"
         )),
         None => None,
     }
+}
+
+/// Whether it is too long for what one calls a variable.
+fn is_word(name: &str) -> bool {
+    name.chars().count() >= LETTERS
 }
 
 fn is_capital(name: &str) -> bool {
@@ -39,7 +44,7 @@ fn is_capital(name: &str) -> bool {
 
 /// Whether two names differ in the case of letters only, or in one letter that is changed, missing, or
 /// exchanged with the next.
-fn is_near(one: &str, other: &str) -> bool {
+pub(super) fn is_near(one: &str, other: &str) -> bool {
     if one.to_lowercase() == other.to_lowercase() {
         return true;
     }
@@ -48,7 +53,7 @@ fn is_near(one: &str, other: &str) -> bool {
         true => (one, other),
         false => (other, one),
     };
-    if short.len() < LETTERS {
+    if long.len() < LETTERS {
         return false;
     }
     let start = short.iter().zip(&long).take_while(|(a, b)| a == b).count();
@@ -69,6 +74,8 @@ mod tests {
     fn one_letter_or_the_case_is_near() {
         for (one, other) in [
             ("add", "addd"),
+            ("add", "ad"),
+            ("mul", "ml"),
             ("append", "apend"),
             ("length", "lenght"),
             ("true", "True"),

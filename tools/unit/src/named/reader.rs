@@ -192,17 +192,15 @@ impl<'a> Reader<'a> {
     }
 
     fn constructor(&mut self, tag: u32, arguments: usize) -> Result<(), NameError> {
-        if arguments > 0 {
-            let term = self.open.last_mut().expect("a term is under way");
-            if term.items > 1 {
-                return Err(self.token.error(format!(
-                    "{} with its {} must stand in parentheses here",
-                    quoted_word(self.token.text),
-                    count_of(arguments)
-                )));
-            }
-            term.is_constructor = true;
+        let term = self.open.last_mut().expect("a term is under way");
+        if term.items > 1 && arguments > 0 {
+            return Err(self.token.error(format!(
+                "{} with its {} must stand in parentheses here",
+                quoted_word(self.token.text),
+                count_of(arguments)
+            )));
         }
+        term.is_constructor |= term.items == 1;
         self.push(Node::Constructor { tag, arguments })
     }
 
@@ -528,6 +526,7 @@ impl<'a> Free<'a> {
 
 fn count_of(arguments: usize) -> String {
     match arguments {
+        0 => "no argument".to_string(),
         1 => "1 argument".to_string(),
         _ => format!("{arguments} arguments"),
     }
