@@ -1,7 +1,9 @@
 //! A key file: pairs to be judged, one a line, headings, and in the named notation declarations.
 
+use std::rc::Rc;
+
 use crate::answers::Pair;
-use crate::notation::{Fault, Notation};
+use crate::notation::{Fault, Notation, BLANKS};
 use unit::Names;
 
 /// Stands between the two terms of a pair.
@@ -9,6 +11,9 @@ const BETWEEN: char = '|';
 /// From here to the end of its line stands a comment; with a third dash, alone on its line, a heading.
 const COMMENT: &str = "--";
 const DASH: char = '-';
+const DASHES: &[u8] = b"-";
+/// Stands in every declaration.
+const DECLARES: char = '=';
 /// May stand before the first line and means nothing.
 const BYTE_ORDER_MARK: &str = "\u{feff}";
 
@@ -23,7 +28,7 @@ pub struct Line {
     /// Counted from 1.
     pub number: usize,
     /// The heading above it.
-    pub heading: String,
+    pub heading: Rc<str>,
     /// The line without its comment.
     pub text: String,
     pub comment: String,
@@ -50,45 +55,54 @@ pub fn read(bytes: &[u8], file: &str, notation: &mut Notation) -> Key {
         lines: Vec::new(),
         declarations: Vec::new(),
     };
-    let mut heading = String::new();
+    let mut heading: Rc<str> = "".into();
     // The line right above, if it is no blank one.
     let mut above = Above::Other;
     for written in written_lines(bytes, file, notation) {
         if written.is_blank() {
             if let Some(below) = written.heading() {
                 heading = match above {
-                    Above::Heading => format!("{heading}, {below}"),
-                    _ => below,
+                    Above::Heading => format!("{heading}, {below}").into(),
+                    _ => below.into(),
                 };
                 above = Above::Heading;
             }
             continue;
         }
-        let content = match (&written.decoded, notation.declare(&written)) {
-            (Err(fault), _) => Err(fault.clone()),
-            (Ok(()), Some(Err(fault))) => Err(fault),
-            (Ok(()), Some(Ok(()))) => {
-                key.declarations.push(written.text.trim().to_string());
-                above = Above::Declaration(written);
-                continue;
-            }
-            (Ok(()), None) => pair(&written.text, written.number, notation),
+        let content = match (written.decoded.clone(), written.is_declaration()) {
+            (Err(fault), _) => Err(fault),
+            (Ok(()), true) if notation.is_named() => match notation.declare(&written) {
+                Ok(()) => {
+                    key.declarations.push(written.text.trim().to_string());
+                    above = Above::Declaration(written);
+                    continue;
+                }
+                Err(fault) => Err(fault),
+            },
+            (Ok(()), _) => pair(&written.text, written.number, notation),
         };
-        if content.is_err() && !written.is_pair() {
-            notation.revoke(&written);
-            if !written.is_declaration() {
-                key.doubt(above, written.number, notation);
-            }
+        let content = match above {
+            Above::Part(number) if written.is_indented() => Err(Fault {
+                column: 1,
+                reason: format!("line {number} may be its start; a pair stands on one line"),
+            }),
+            _ => content,
+        };
+        let is_part = content.is_err() && !written.is_pair() && !notation.revoke(&written);
+        if is_part && !written.text.contains(DECLARES) {
+            key.doubt(above, &written, notation);
+            above = Above::Part(written.number);
+        } else {
+            above = match content {
+                Ok(_) => Above::Pair,
+                Err(_) => Above::Other,
+            };
         }
-        above = match content {
-            Ok(_) => Above::Pair,
-            Err(_) => Above::Other,
-        };
         key.lines.push(Line {
             number: written.number,
             heading: heading.clone(),
             text: written.text,
-            comment: written.comment.trim_start_matches(DASH).trim().to_string(),
+            comment: written.comment,
             content,
         });
     }
@@ -100,27 +114,28 @@ enum Above {
     Declaration(Written),
     Pair,
     Heading,
+    /// A line that is neither a pair nor meant to declare something, with its number.
+    Part(usize),
     Other,
 }
 
 impl Key {
-    /// Takes back what stands above a line that is neither a pair nor a declaration: that may be the rest
-    /// of it.
-    fn doubt(&mut self, above: Above, rest: usize, notation: &mut Notation) {
-        match above {
-            Above::Declaration(declaration) => {
+    /// Takes back what stands above a line that looks like the rest of it.
+    fn doubt(&mut self, above: Above, rest: &Written, notation: &mut Notation) {
+        let has_sign = rest.text.contains(BETWEEN);
+        match (above, self.lines.last_mut()) {
+            (Above::Declaration(declaration), _) if rest.is_indented() || has_sign => {
                 self.declarations.pop();
                 notation.revoke(&declaration);
             }
-            Above::Pair => {
-                if let Some(line) = self.lines.last_mut() {
-                    line.content = Err(Fault {
-                        column: line.text.chars().count() + 1,
-                        reason: format!("line {rest} may be the rest; a pair stands on one line"),
-                    });
-                }
+            (Above::Pair, Some(line)) if rest.is_indented() && !has_sign => {
+                let number = rest.number;
+                line.content = Err(Fault {
+                    column: line.text.chars().count() + 1,
+                    reason: format!("line {number} may be the rest; a pair stands on one line"),
+                });
             }
-            Above::Heading | Above::Other => {}
+            _ => {}
         }
     }
 }
@@ -137,13 +152,12 @@ pub fn declarations(
         if written.is_blank() || written.is_pair() {
             continue;
         }
-        let declared = match notation.declare(&written) {
-            Some(declared) => declared,
-            None => Err(Fault::no_declaration()),
+        let declared = match (written.decoded.clone(), written.is_declaration()) {
+            (Err(fault), _) => Err(fault),
+            (Ok(()), true) => notation.declare(&written),
+            (Ok(()), false) => Err(Fault::no_declaration()),
         };
-        if let Err(fault) = written.decoded.clone().and(declared) {
-            return Err(fault.told_on(file, written.number, &written.text));
-        }
+        declared.map_err(|fault| fault.told_on(file, written.number, &written.text))?;
         declarations.push(written.text.trim().to_string());
     }
     Ok(declarations)
@@ -154,6 +168,8 @@ struct Written {
     number: usize,
     text: String,
     comment: String,
+    /// A third dash stands right behind the two.
+    has_third_dash: bool,
     /// Whether all bytes before the comment are text.
     decoded: Result<(), Fault>,
 }
@@ -168,7 +184,7 @@ fn written_lines(bytes: &[u8], file: &str, notation: &mut Notation) -> Vec<Writt
         .collect();
     if let Notation::Named(names) = notation {
         names.begin(file);
-        for line in lines.iter().filter(|line| line.is_declaration()) {
+        for line in lines.iter().filter(|line| !line.is_pair()) {
             names.announce(&line.text, line.number);
         }
     }
@@ -198,14 +214,21 @@ impl Written {
         };
         Written {
             number,
-            text: String::from_utf8_lossy(code).trim_end().to_string(),
-            comment: String::from_utf8_lossy(comment).trim().to_string(),
+            text: String::from_utf8_lossy(code)
+                .trim_end_matches(BLANKS)
+                .to_string(),
+            comment: comment_text(comment),
+            has_third_dash: comment.starts_with(DASHES),
             decoded: decoded(code),
         }
     }
 
     fn is_blank(&self) -> bool {
-        self.text.trim().is_empty() && self.decoded.is_ok()
+        self.text.is_empty() && self.decoded.is_ok()
+    }
+
+    fn is_indented(&self) -> bool {
+        self.text.starts_with(BLANKS)
     }
 
     fn is_declaration(&self) -> bool {
@@ -219,9 +242,19 @@ impl Written {
     }
 
     /// The heading that a blank line with a comment is, if it is one.
-    fn heading(&self) -> Option<String> {
-        let heading = self.comment.strip_prefix(DASH)?.trim_matches(DASH).trim();
-        (!heading.is_empty()).then(|| heading.to_string())
+    fn heading(&self) -> Option<&str> {
+        let is_heading = self.has_third_dash && !self.comment.is_empty();
+        is_heading.then_some(&self.comment)
+    }
+}
+
+/// A comment without further dashes around it.
+fn comment_text(bytes: &[u8]) -> String {
+    let text = String::from_utf8_lossy(bytes);
+    let is_around = |character: char| character == DASH || character.is_whitespace();
+    match bytes.starts_with(DASHES) {
+        true => text.trim_matches(is_around).to_string(),
+        false => text.trim().to_string(),
     }
 }
 
@@ -241,21 +274,27 @@ fn decoded(bytes: &[u8]) -> Result<(), Fault> {
 }
 
 impl Notation {
-    /// What comes of a declaration; none if the line is no declaration.
-    fn declare(&mut self, line: &Written) -> Option<Result<(), Fault>> {
-        match self {
-            Notation::Named(names) if line.is_declaration() => {
-                let declared = names.declare(&line.text, line.number);
-                Some(declared.map_err(|error| Fault::from(error).of_declaration()))
-            }
-            _ => None,
-        }
+    fn is_named(&self) -> bool {
+        matches!(self, Notation::Named(_))
     }
 
-    /// Takes what a line declares away.
-    fn revoke(&mut self, line: &Written) {
-        if let Notation::Named(names) = self {
-            names.revoke(&line.text, line.number);
+    /// Takes a declaration, if the notation has names.
+    fn declare(&mut self, line: &Written) -> Result<(), Fault> {
+        let Notation::Named(names) = self else {
+            return Err(Fault::no_declaration());
+        };
+        let declared = names.declare(&line.text, line.number);
+        declared.map_err(|error| {
+            let fault = self.hinted(error.into(), &line.text);
+            fault.of_declaration()
+        })
+    }
+
+    /// Takes away what a line was meant to declare; whether there is something.
+    fn revoke(&mut self, line: &Written) -> bool {
+        match self {
+            Notation::Indices => false,
+            Notation::Named(names) => names.revoke(&line.text, line.number),
         }
     }
 }

@@ -7,7 +7,10 @@ use unit::{quoted, NameError, Names, Printed, Term, TextError};
 /// Around the bits of an encoding, which may stand for a whole term in either notation.
 const OPEN: char = '<';
 const CLOSE: char = '>';
-const BLANKS: [char; 4] = [' ', '\t', '\n', '\r'];
+pub const BLANKS: [char; 4] = [' ', '\t', '\n', '\r'];
+
+/// Of more free names no doubts are said.
+const DOUBTED: usize = 64;
 
 pub enum Notation {
     Indices,
@@ -74,14 +77,17 @@ impl Notation {
             Notation::Indices => text.parse().map_err(|error: TextError| error.into()),
             Notation::Named(names) => names.term(text, free, line).map_err(Fault::from),
         };
-        term.map_err(|fault| {
-            let found = text.chars().nth(fault.column - 1);
-            let hint = found.and_then(|found| self.hint(found, &fault.reason));
-            fault.with(hint.unwrap_or_default())
-        })
+        term.map_err(|fault| self.hinted(fault, text))
     }
 
-    /// What may help whoever wrote a character that cannot stand where it does.
+    /// The fault with what may help whoever wrote the text.
+    pub fn hinted(&self, fault: Fault, text: &str) -> Fault {
+        let found = text.chars().nth(fault.column - 1);
+        let hint = found.and_then(|found| self.hint(found, &fault.reason));
+        fault.with(hint.unwrap_or_default())
+    }
+
+    /// What may help where a character cannot stand.
     fn hint(&self, found: char, reason: &str) -> Option<&'static str> {
         let is_named = matches!(self, Notation::Named(_));
         match found {
@@ -105,7 +111,10 @@ impl Notation {
     pub fn doubts(&self, free: &[String]) -> Vec<String> {
         match self {
             Notation::Indices => Vec::new(),
-            Notation::Named(names) => free.iter().filter_map(|name| names.doubt(name)).collect(),
+            Notation::Named(names) => {
+                let free = free.iter().take(DOUBTED);
+                free.filter_map(|name| names.doubt(name)).collect()
+            }
         }
     }
 

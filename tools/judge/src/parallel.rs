@@ -11,7 +11,7 @@ use crate::verdict::Limits;
 
 /// At most so many pairs are handed to a program at once.
 const BATCH: usize = 16;
-/// With few pairs each processor has so many batches at least, so that none waits long for another.
+/// Of few pairs so many batches are made for each processor, so that none waits long for another.
 const BATCHES: usize = 4;
 
 /// The answer for each pair, with the form that the unit shows. `done` is told how many more have

@@ -1,6 +1,7 @@
 //! A judged key: what each of its formats prints.
 
 use std::ops::Range;
+use std::rc::Rc;
 
 use crate::answers::{Answer, Press, Verdict};
 use crate::key::{Content, Line};
@@ -22,7 +23,7 @@ pub struct Report {
 pub struct Row {
     pub line: usize,
     /// The heading above it in the file.
-    pub heading: String,
+    pub heading: Rc<str>,
     /// The line without its comment, and both terms, as they are written.
     pub text: String,
     pub sides: [String; 2],
@@ -212,9 +213,9 @@ impl Report {
     pub fn rows(&self) -> impl Iterator<Item = (Option<&str>, &Row)> {
         let mut above = "";
         self.rows.iter().map(move |row| {
-            let is_first = row.heading != above;
+            let is_first = *row.heading != *above;
             above = &row.heading;
-            (is_first.then_some(row.heading.as_str()), row)
+            (is_first.then_some(above), row)
         })
     }
 
@@ -309,7 +310,7 @@ pub const MEANINGS: [(&str, &str); 7] = [
     (INPUT, "A term has more than 2048 words. Nothing was found out."),
     (
         NOT_READ,
-        "The line is no pair, or uses a name whose declaration cannot be read. Nothing was found out.",
+        "The line is no pair, or uses a name that is declared wrongly or only below. Nothing was found out.",
     ),
 ];
 

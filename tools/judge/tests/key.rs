@@ -4,6 +4,7 @@ mod common;
 
 use common::{file, judge, judge_on, records};
 use reference::random::Random;
+use std::collections::BTreeMap;
 use std::fs;
 use std::path::{Path, PathBuf};
 
@@ -34,7 +35,7 @@ fn expectations(text: &str) -> Vec<(String, String)> {
 
 #[test]
 fn stored_keys_have_the_verdicts_of_mathematics() {
-    let mut pairs = 0;
+    let mut counts = BTreeMap::new();
     for path in stored_keys() {
         let text = fs::read_to_string(&path).expect("a key");
         let name = path.to_str().expect("a path that is text");
@@ -56,9 +57,24 @@ fn stored_keys_have_the_verdicts_of_mathematics() {
         let decided = |(_, word): &(String, String)| word == "Same" || word == "Different";
         let status = if expected.iter().all(decided) { 0 } else { 1 };
         assert_eq!(answer.status, status, "{name}");
-        pairs += expected.len();
+        for (_, verdict) in expected {
+            *counts.entry(verdict).or_insert(0) += 1;
+        }
     }
-    assert!(pairs >= 150, "{pairs} pairs");
+    // As docs/EXAMINERS.md has it.
+    let counts: Vec<(&str, u32)> = counts
+        .iter()
+        .map(|(verdict, count)| (verdict.as_str(), *count))
+        .collect();
+    assert_eq!(
+        counts,
+        [
+            ("Budget", 7),
+            ("Different", 107),
+            ("Full", 24),
+            ("Same", 352)
+        ]
+    );
 }
 
 /// Every kind of row. The verdicts are those of the README; `%2 %3` is the Church numeral 3 to the power 2.
@@ -462,18 +478,40 @@ fn a_pair_that_may_go_on_below_is_not_judged() {
             line + 1
         )
     };
-    for below in ["  (g a)", "| c", "g a", "x := y"] {
+    for below in ["  (g a)", "\tg a"] {
         let key = format!("a | a\na | f\n{below}\na | a\n");
         let rows = judged(key.as_bytes());
         assert_eq!(rows.len(), 4, "{below}");
         assert_eq!((rows[0].as_str(), rows[3].as_str()), ("1 Same ", "4 Same "));
         assert_eq!(rows[1], rest(2), "{below}");
     }
-    // A line with a pair, a declaration or a heading is no rest.
-    for below in ["b (| b", "let x = (", "--- (g a)", "-- (g a)"] {
+    for below in ["  (f x)", "| f x"] {
+        let key = format!("let t = \\f x. f\n{below}\nt | a\n");
+        let rows = judged(key.as_bytes());
+        assert_eq!(
+            rows[1],
+            "3 Not read column 1: the declaration of `t` on line 1 cannot be read"
+        );
+    }
+    // A line from the first column on, and one with a pair, a declaration or a comment, is no rest.
+    for below in [
+        "g a",
+        "  b (| b",
+        "  let x = (",
+        "  y := a",
+        "--- (g a)",
+        "  -- (g a)",
+    ] {
         let key = format!("a | f\n{below}\n\na | a\n");
         assert_eq!(judged(key.as_bytes())[0], "1 Different ", "{below}");
     }
+    // Nor is a pair judged that may have started above.
+    let rows = judged(b"f x\n  y | f x y\nf x\ny | f x y\n");
+    assert_eq!(
+        rows[1],
+        "2 Not read column 1: line 1 may be its start; a pair stands on one line"
+    );
+    assert_eq!(rows[3], "4 Different ");
 }
 
 #[test]
@@ -598,7 +636,7 @@ fn a_long_form_is_cut_around_its_mark() {
     );
     assert_eq!(form.len(), "both   ".len() + 60 + "..".len());
     // However many marks are drawn on a letter, the word that differs is seen.
-    let letter = format!("e{}", "\u{301}".repeat(400));
+    let letter = format!("e{}", "\u{301}".repeat(200));
     let key = format!("f {letter} a | f {letter} b\n");
     let answer = judge_on(key.as_bytes(), &["--named", "--key", "-"]);
     assert!(row(&answer.output)[0].ends_with(" b"), "{}", answer.output);

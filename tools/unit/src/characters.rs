@@ -157,7 +157,7 @@ mod tests {
     }
 
     #[test]
-    fn every_first_and_last_character_of_a_run_is_in_it() {
+    fn marks_begin_and_end_where_unicode_has_them() {
         let is_at = |code: u32, expected: bool| {
             let character = char::from_u32(code).expect("no surrogate");
             assert_eq!(is_mark(character), expected, "{code:x}");

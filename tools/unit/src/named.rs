@@ -13,6 +13,7 @@ use std::fmt;
 use crate::print::{written, Printed};
 use crate::term::Term;
 use crate::text::TextError;
+use declaration::Meant;
 use lexer::{quoted_word, Lexer, Token};
 use printer::ByName;
 use reader::Reader;
@@ -80,6 +81,7 @@ struct Declared {
 struct Announced {
     place: Place,
     is_read: bool,
+    is_constructor: bool,
 }
 
 #[derive(Clone, Debug)]
@@ -113,12 +115,14 @@ impl Names {
 
     /// Notes what a line declares that is read later: a term before it must not take the name for free.
     pub fn announce(&mut self, line: &str, number: usize) {
-        let place = self.place(number);
-        for name in declaration::names(line) {
+        let meant = Meant::new(line);
+        if matches!(meant, Meant::Unclear(_)) {
+            return;
+        }
+        let announced = self.announced(&meant, number, false);
+        for &name in meant.names() {
             if !self.declared.contains_key(name) && !self.announced.contains_key(name) {
-                let is_read = false;
-                self.announced
-                    .insert(name.to_string(), Announced { place, is_read });
+                self.announced.insert(name.to_string(), announced);
             }
         }
     }
@@ -127,25 +131,37 @@ impl Names {
     /// declares wrongly can no longer be used.
     pub fn declare(&mut self, line: &str, number: usize) -> Result<(), NameError> {
         let done = declaration::read(self, line, number);
-        match done {
-            Ok(()) => {
-                for name in declaration::names(line) {
-                    self.announced.remove(name);
-                }
+        if done.is_err() {
+            self.revoke(line, number);
+        } else {
+            for &name in Meant::new(line).names() {
+                self.announced.remove(name);
             }
-            Err(_) => self.revoke(line, number),
         }
         done
     }
 
-    /// Takes the names that a line declares away, since it cannot be read.
-    pub fn revoke(&mut self, line: &str, number: usize) {
-        let announced = Announced {
-            place: self.place(number),
-            is_read: true,
-        };
-        for name in declaration::names(line) {
+    /// Takes away what a line was meant to declare, since it cannot be read; whether there is something.
+    pub fn revoke(&mut self, line: &str, number: usize) -> bool {
+        let meant = Meant::new(line);
+        let announced = self.announced(&meant, number, true);
+        if let Meant::Unclear(name) = meant {
+            // With a declared name in front it is more likely a pair without its sign.
+            if self.declared.contains_key(name) {
+                return false;
+            }
+        }
+        for &name in meant.names() {
             self.announced.insert(name.to_string(), announced);
+        }
+        !meant.names().is_empty()
+    }
+
+    fn announced(&self, meant: &Meant, line: usize, is_read: bool) -> Announced {
+        Announced {
+            place: self.place(line),
+            is_read,
+            is_constructor: matches!(meant, Meant::Constructors(_)),
         }
     }
 
@@ -181,16 +197,30 @@ impl Names {
         }
     }
 
-    /// Fails if the name is declared by a line that was not read, or could not be.
-    fn test(&self, token: Token) -> Result<(), NameError> {
-        let Some(&Announced { place, is_read }) = self.announced.get(token.text) else {
+    /// Fails if the name that a token stands for, or uses, is declared by a line that was not read, or could
+    /// not be.
+    fn test(&self, token: Token, name: &str) -> Result<(), NameError> {
+        let Some(&Announced { place, is_read, .. }) = self.announced.get(name) else {
             return Ok(());
         };
-        let (name, line) = (quoted_word(token.text), self.on_line(place));
+        let line = self.on_line(place);
+        let user = match token.text == name {
+            true => String::new(),
+            false => format!("; {} uses it", quoted_word(token.text)),
+        };
+        let name = quoted_word(name);
         Err(token.error(match is_read {
-            true => format!("the declaration of {name}{line} cannot be read"),
-            false => format!("{name} is declared only{line}, below its use"),
+            true => format!("the declaration of {name}{line} cannot be read{user}"),
+            false => format!("{name} is declared only{line}, below its use{user}"),
         }))
+    }
+
+    /// Fails if a binder has the name of a constructor that was not read, or could not be.
+    fn test_binder(&self, token: Token) -> Result<(), NameError> {
+        match self.announced.get(token.text) {
+            Some(announced) if announced.is_constructor => self.test(token, token.text),
+            _ => Ok(()),
+        }
     }
 
     fn place(&self, line: usize) -> Place {

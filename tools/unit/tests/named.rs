@@ -744,13 +744,17 @@ fn a_failed_term_uses_no_name() {
 
 #[test]
 fn a_long_name_is_cut_in_a_message() {
-    let name = "n".repeat(100_000);
+    let name = "n".repeat(255);
     assert_eq!(
         term_error(&mut lists(), &format!("case x of {{{name}")),
         format!(
             "12: expected a constructor, `_` or `}}`, found `{}..`, which is none",
             "n".repeat(40)
         )
+    );
+    assert_eq!(
+        term_error(&mut lists(), &format!("x {name}n")),
+        "3: a name has at most 255 characters"
     );
 }
 
@@ -877,6 +881,42 @@ fn a_name_whose_declaration_cannot_be_read_is_not_used() {
     ] {
         assert_eq!(term_error(names, text), reason, "{text}");
     }
+    for (line, name) in [
+        ("constructor Leaf = 7.0, _Node = 8.2, Fork = 9.0", "Fork"),
+        ("constructor Leaf = 7.0x, Fork = 9.0", "Fork"),
+        ("constructor Tip\u{a0}= 7.0", "Tip"),
+        ("constructor Tip, Twig", "Twig"),
+        ("constructors Some 7.1", "Some"),
+        ("data Maybe = Just", "Just"),
+        ("let\u{a0}twice = \\x. x", "twice"),
+        ("let (once) = \\x. x", "once"),
+        ("let rec fix = \\x. fix", "fix"),
+        ("Let thrice = %3", "thrice"),
+        ("define fourth = %4", "fourth"),
+        ("fifth f x = f x", "fifth"),
+        ("sixth := %6", "sixth"),
+        ("let\u{200d} seventh = %7", "seventh"),
+    ] {
+        assert!(names.declare(line, 8).is_err(), "{line}");
+        names.revoke(line, 8);
+        let reason = format!("1: the declaration of `{name}` on line 8 cannot be read");
+        assert_eq!(term_error(names, name), reason, "{line}");
+    }
+    // What is declared is not taken away by a pair without its sign.
+    assert_eq!(names.declare("let k = free", 9), Ok(()));
+    assert!(!names.revoke("k a = b", 10));
+    reads(names, "k", "0", &["free"]);
+    // A definition cannot bring a name in that is taken away.
+    names.revoke("let free = )", 11);
+    assert_eq!(
+        term_error(names, "x k"),
+        "3: the declaration of `free` on line 11 cannot be read; `k` uses it"
+    );
+    // A binder with the name of a constructor is an error, whether that can be read or not.
+    assert_eq!(
+        term_error(names, r"\Fork. x"),
+        "2: the declaration of `Fork` on line 8 cannot be read"
+    );
     // A binder gives the name a meaning, and so does a declaration that can be read.
     reads(names, r"\add. add", r"\0", &[]);
     assert_eq!(names.declare("let add = \\x. x", 6), Ok(()));

@@ -42,7 +42,7 @@ fn fields(report: &Report, row: &Row) -> [String; HEADER.len()] {
         ("right", right),
         ("budget", report.limits.budget.to_string()),
         ("words", report.limits.words.to_string()),
-        ("heading", row.heading.clone()),
+        ("heading", row.heading.to_string()),
         ("comment", row.comment.clone()),
     ];
     match &row.outcome {

@@ -1,5 +1,7 @@
 //! Declarations of definitions and constructors.
 
+use std::slice;
+
 use super::lexer::{quoted_word, Kind, Lexer, Token};
 use super::near::is_near;
 use super::reader::Reader;
@@ -19,38 +21,65 @@ pub(super) fn read(names: &mut Names, line: &str, number: usize) -> Result<(), N
     }
 }
 
-/// The names that a line declares, or was meant to declare where it cannot be read.
-pub(super) fn names(line: &str) -> Vec<&str> {
-    let mut lexer = Lexer::new(line);
-    let mut tokens = Vec::new();
-    while let Ok(token) = lexer.next() {
-        if token.kind == Kind::End {
-            break;
+/// What a line declares, or was meant to declare where it cannot be read.
+pub(super) enum Meant<'a> {
+    Definition(Option<&'a str>),
+    Constructors(Vec<&'a str>),
+    /// As in `f x = y` and `f := y`, unless it is a pair.
+    Unclear(&'a str),
+    Nothing,
+}
+
+impl<'a> Meant<'a> {
+    pub(super) fn new(line: &'a str) -> Meant<'a> {
+        let tokens = tokens(line);
+        let is_name = |token: &&Token| token.kind == Kind::Name && token.text != "rec";
+        let has_sign = tokens.iter().any(|token| token.is('='));
+        match tokens.split_first() {
+            Some((first, rest)) if is_like(first.text, &DEFINING) => {
+                Meant::Definition(rest.iter().find(is_name).map(|name| name.text))
+            }
+            Some((first, rest)) if is_like(first.text, &CONSTRUCTING) => {
+                Meant::Constructors(rest.iter().filter(is_name).map(|name| name.text).collect())
+            }
+            Some((first, _)) if first.kind == Kind::Name && has_sign => Meant::Unclear(first.text),
+            _ => Meant::Nothing,
         }
-        tokens.push(token);
     }
-    let is_name = |token: &&Token| token.kind == Kind::Name;
-    match tokens.split_first() {
-        Some((first, rest)) if is_like(first.text, "let") => rest
-            .iter()
-            .find(is_name)
-            .map(|name| name.text)
-            .into_iter()
-            .collect(),
-        Some((first, rest)) if is_like(first.text, "constructor") => {
-            rest.iter().filter(is_name).map(|name| name.text).collect()
+
+    pub(super) fn names(&self) -> &[&'a str] {
+        match self {
+            Meant::Definition(name) => name.as_slice(),
+            Meant::Constructors(names) => names,
+            Meant::Unclear(name) => slice::from_ref(name),
+            Meant::Nothing => &[],
         }
-        // As in `f x = y` and `f := y`.
-        Some((first, rest)) if is_name(&first) && rest.iter().any(|token| token.is('=')) => {
-            vec![first.text]
-        }
-        _ => Vec::new(),
     }
 }
 
-/// Whether a word was meant to be another.
-fn is_like(word: &str, meant: &str) -> bool {
-    word == meant || is_near(word, meant)
+/// Words that begin declarations, here or elsewhere.
+const DEFINING: [&str; 4] = ["let", "letrec", "def", "define"];
+const CONSTRUCTING: [&str; 2] = ["constructor", "data"];
+
+/// Whether a word was meant to be one of these.
+fn is_like(word: &str, meant: &[&str]) -> bool {
+    meant
+        .iter()
+        .any(|meant| word == *meant || is_near(word, meant))
+}
+
+/// The tokens of a line, but for what is none.
+fn tokens(line: &str) -> Vec<Token<'_>> {
+    let mut lexer = Lexer::new(line);
+    let mut tokens = Vec::new();
+    loop {
+        match lexer.next() {
+            Ok(token) if token.kind == Kind::End => return tokens,
+            Ok(token) => tokens.push(token),
+            // The lexer has gone past it.
+            Err(_) => {}
+        }
+    }
 }
 
 fn definition(names: &mut Names, mut lexer: Lexer, line: usize) -> Result<(), NameError> {

@@ -7,6 +7,9 @@ use crate::text::{cut, number, quoted, Cursor};
 /// Words that are no names. The notation has no `in`, but whoever writes it behind a `let` means one.
 const RESERVED: [&str; 5] = ["case", "of", "let", "in", "constructor"];
 
+/// The most characters of a name: a definition keeps those that are free in it.
+const LONGEST: usize = 255;
+
 /// They join or part the letters on both sides.
 const JOINERS: [char; 2] = ['\u{200c}', '\u{200d}'];
 
@@ -106,6 +109,9 @@ impl<'a> Lexer<'a> {
             Kind::Sign('_') if self.cursor.peek().is_some_and(is_in_name) => {
                 Err(token.error("a name begins with a letter, and `_` stands alone".to_string()))
             }
+            Kind::Name if token.text.chars().nth(LONGEST).is_some() => {
+                Err(token.error(format!("a name has at most {LONGEST} characters")))
+            }
             Kind::Name if token.text.ends_with(JOINERS) => {
                 Err(token.error("a name does not end in a joiner, which is not seen".to_string()))
             }
@@ -149,8 +155,9 @@ fn begins_name(character: char) -> bool {
 fn is_in_name(character: char) -> bool {
     match character {
         LAMBDA => false,
-        // Marks that join others, or choose how the one before is drawn.
-        '\u{34f}' | '\u{180b}'..='\u{180f}' | '\u{fe00}'..='\u{fe0f}' => false,
+        // Marks that are not seen themselves, or choose how the one before is drawn.
+        '\u{34f}' | '\u{17b4}' | '\u{17b5}' | '\u{180b}'..='\u{180f}' => false,
+        '\u{fe00}'..='\u{fe0f}' => false,
         '\u{e0100}'..='\u{e01ef}' => false,
         '_' | '\'' => true,
         joiner if JOINERS.contains(&joiner) => true,

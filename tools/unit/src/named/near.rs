@@ -45,24 +45,40 @@ fn is_capital(name: &str) -> bool {
 /// Whether two names differ in the case of letters only, or in one letter that is changed, missing, or
 /// exchanged with the next.
 pub(super) fn is_near(one: &str, other: &str) -> bool {
-    if one.to_lowercase() == other.to_lowercase() {
-        return true;
+    // A character has at most four bytes.
+    if one.len().abs_diff(other.len()) > 4 {
+        return false;
     }
-    let (one, other): (Vec<char>, Vec<char>) = (one.chars().collect(), other.chars().collect());
-    let (short, long) = match one.len() <= other.len() {
+    let (short, long) = match one.chars().count() <= other.chars().count() {
         true => (one, other),
         false => (other, one),
     };
-    if long.len() < LETTERS {
-        return false;
-    }
-    let start = short.iter().zip(&long).take_while(|(a, b)| a == b).count();
-    let (short, long) = (&short[start..], &long[start..]);
-    match (short, long) {
-        _ if short.len() + 1 == long.len() => short == &long[1..],
-        ([a, b, short @ ..], [c, d, long @ ..]) if a == d && b == c => short == long,
-        ([_, short @ ..], [_, long @ ..]) => short == long,
-        _ => false,
+    let is_near = long.chars().nth(LETTERS - 1).is_some() && differ_in_one(short, long);
+    is_near || lower(one).eq(lower(other))
+}
+
+fn lower(name: &str) -> impl Iterator<Item = char> + '_ {
+    name.chars().flat_map(char::to_lowercase)
+}
+
+fn differ_in_one(short: &str, long: &str) -> bool {
+    let mut short = short.chars();
+    let mut long = long.chars();
+    loop {
+        let rest = (short.clone(), long.clone());
+        match (short.next(), long.next()) {
+            (a, b) if a == b && a.is_some() => {}
+            (Some(a), Some(b)) => {
+                // Missing, changed or exchanged.
+                let missing = rest.0.as_str() == long.as_str();
+                let changed = short.as_str() == long.as_str();
+                let exchanged = (short.next(), long.next()) == (Some(b), Some(a))
+                    && short.as_str() == long.as_str();
+                return missing || changed || exchanged;
+            }
+            (None, Some(_)) => return long.as_str().is_empty(),
+            _ => return false,
+        }
     }
 }
 

@@ -164,10 +164,13 @@ impl<'a> Reader<'a> {
                 quoted_word(token.text)
             )));
         }
-        names.test(token)?;
+        names.test(token, token.text)?;
         match names.declared.get(token.text).map(|known| &known.meaning) {
             Some(&Meaning::Constructor { tag, count }) => self.constructor(tag, count),
-            Some(Meaning::Definition { term, free }) => self.put(term, free),
+            Some(Meaning::Definition { term, free }) => {
+                free.iter().try_for_each(|name| names.test(token, name))?;
+                self.put(term, free)
+            }
             None => {
                 let number = self.free.number(token.text);
                 self.variable(self.scope.depth() + number)
@@ -250,7 +253,10 @@ impl<'a> Reader<'a> {
                     quoted_word(token.text)
                 )))
             }
-            Kind::Name => Ok(Some(token.text)),
+            Kind::Name => {
+                self.names.test_binder(token)?;
+                Ok(Some(token.text))
+            }
             _ => Err(token.expected(expected)),
         }
     }
@@ -364,7 +370,7 @@ impl<'a> Reader<'a> {
     fn branch(&mut self, expected: &str) -> Result<Next, NameError> {
         let token = self.token;
         let name = quoted_word(token.text);
-        self.names.test(token)?;
+        self.names.test(token, token.text)?;
         let (tag, binders) = match token.kind {
             Kind::Sign('_') => (0, 0),
             Kind::Name => self.names.constructor(token.text).ok_or_else(|| {
