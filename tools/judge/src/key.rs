@@ -56,7 +56,7 @@ pub fn read(bytes: &[u8], file: &str, notation: &mut Notation) -> Key {
         declarations: Vec::new(),
     };
     let mut heading: Rc<str> = "".into();
-    // The line right above, if it is no blank one.
+    // The last line that is not blank.
     let mut above = Above::Other;
     for written in written_lines(bytes, file, notation) {
         if written.is_blank() {
@@ -81,30 +81,34 @@ pub fn read(bytes: &[u8], file: &str, notation: &mut Notation) -> Key {
             },
             (Ok(()), _) => pair(&written.text, written.number, notation),
         };
-        let content = match above {
-            Above::Part(number) if written.is_indented() => Err(Fault {
+        let content = match &above {
+            Above::Part(part) if written.indent() > part.indent() => Err(Fault {
                 column: 1,
-                reason: format!("line {number} may be its start; a pair stands on one line"),
+                reason: format!(
+                    "line {} may be its start; a pair stands on one line",
+                    part.number
+                ),
             }),
             _ => content,
         };
         let is_part = content.is_err() && !written.is_pair() && !notation.revoke(&written);
-        if is_part && !written.text.contains(DECLARES) {
-            key.doubt(above, &written, notation);
-            above = Above::Part(written.number);
-        } else {
-            above = match content {
-                Ok(_) => Above::Pair,
-                Err(_) => Above::Other,
-            };
+        let is_part = is_part && !written.text.contains(DECLARES);
+        if is_part {
+            key.doubt(&above, &written, notation);
         }
+        let is_pair = content.is_ok();
         key.lines.push(Line {
             number: written.number,
             heading: heading.clone(),
-            text: written.text,
-            comment: written.comment,
+            text: written.text.clone(),
+            comment: written.comment.clone(),
             content,
         });
+        above = match is_part {
+            true => Above::Part(written),
+            false if is_pair => Above::Pair(written),
+            false => Above::Other,
+        };
     }
     key
 }
@@ -112,23 +116,25 @@ pub fn read(bytes: &[u8], file: &str, notation: &mut Notation) -> Key {
 /// What stands above a line.
 enum Above {
     Declaration(Written),
-    Pair,
+    Pair(Written),
     Heading,
-    /// A line that is neither a pair nor meant to declare something, with its number.
-    Part(usize),
+    /// A line that is neither a pair nor meant to declare something.
+    Part(Written),
     Other,
 }
 
 impl Key {
-    /// Takes back what stands above a line that looks like the rest of it.
-    fn doubt(&mut self, above: Above, rest: &Written, notation: &mut Notation) {
+    /// Takes back what stands above a line that looks like the rest of it: one that is indented further, or
+    /// starts with the sign between two terms.
+    fn doubt(&mut self, above: &Above, rest: &Written, notation: &mut Notation) {
         let has_sign = rest.text.contains(BETWEEN);
+        let is_below = |line: &Written| rest.indent() > line.indent();
         match (above, self.lines.last_mut()) {
-            (Above::Declaration(declaration), _) if rest.is_indented() || has_sign => {
+            (Above::Declaration(declaration), _) if is_below(declaration) || has_sign => {
                 self.declarations.pop();
-                notation.revoke(&declaration);
+                notation.revoke(declaration);
             }
-            (Above::Pair, Some(line)) if rest.is_indented() && !has_sign => {
+            (Above::Pair(pair), Some(line)) if is_below(pair) && !has_sign => {
                 let number = rest.number;
                 line.content = Err(Fault {
                     column: line.text.chars().count() + 1,
@@ -227,8 +233,10 @@ impl Written {
         self.text.is_empty() && self.decoded.is_ok()
     }
 
-    fn is_indented(&self) -> bool {
-        self.text.starts_with(BLANKS)
+    /// The blanks that it starts with.
+    fn indent(&self) -> usize {
+        let blanks = self.text.chars();
+        blanks.take_while(|blank| BLANKS.contains(blank)).count()
     }
 
     fn is_declaration(&self) -> bool {

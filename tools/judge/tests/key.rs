@@ -505,6 +505,8 @@ fn a_pair_that_may_go_on_below_is_not_judged() {
         let key = format!("a | f\n{below}\n\na | a\n");
         assert_eq!(judged(key.as_bytes())[0], "1 Different ", "{below}");
     }
+    // In a file that is indented as a whole it must be indented further.
+    assert_eq!(judged(b"  a | f\n  g a\n")[0], "1 Different ");
     // Nor is a pair judged that may have started above.
     let rows = judged(b"f x\n  y | f x y\nf x\ny | f x y\n");
     assert_eq!(
