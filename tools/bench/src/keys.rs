@@ -11,7 +11,7 @@ use unit::Term;
 /// The two ways, in this order everywhere.
 pub const WAYS: [&str; 2] = ["judge --key", "a run of verdict for each"];
 
-/// The default limits of the text command.
+/// The limits of both ways.
 const BUDGET: u32 = 1_000;
 const WORDS: u32 = 2_048;
 
@@ -70,8 +70,11 @@ fn by_key(pairs: Pairs, judges: &Judges) -> Result<(), String> {
         .map(|([left, right], _)| format!("{left} | {right}\n"));
     let key: String = lines.collect();
     let mut command = Command::new(&judges.judge);
-    command.args(["--key", "-", "--format", "csv", "--program"]);
-    let printed = ask_lines(command.arg(&judges.replay), key.as_bytes());
+    command.args(["--key", "-", "--format", "csv"]);
+    command.args(["--budget", &BUDGET.to_string()]);
+    command.args(["--words", &WORDS.to_string()]);
+    command.arg("--program").arg(&judges.replay);
+    let printed = ask_lines(&mut command, key.as_bytes());
     let printed = printed.map_err(|error| failed(&judges.judge, error.to_string()))?;
     let rows: Vec<&str> = printed.lines().skip(1).collect();
     let is_right =

@@ -1,6 +1,7 @@
 //! The command, run on the unit's programs: those in the folder that `UNIT_PROGRAMS` names, or else the
 //! reference in their place.
 
+// Each test uses a part of it.
 #![allow(dead_code)]
 
 use std::env;
@@ -37,28 +38,29 @@ pub fn judge(arguments: &[&str]) -> Answer {
 
 /// The same with an input.
 pub fn judge_on(input: &[u8], arguments: &[&str]) -> Answer {
-    let is_replayed = |argument: &&str| REPLAYED.contains(&argument.split('=').next().unwrap());
-    let program = match arguments.iter().any(is_replayed) {
-        true => program("replay"),
-        false => program("verdict"),
-    };
+    let program = program_for(arguments);
     let program = program.to_str().expect("a path that is text");
     run(input, &[&["--program", program], arguments].concat())
 }
 
+fn program_for(arguments: &[&str]) -> PathBuf {
+    let is_replayed = |argument: &&str| REPLAYED.contains(&argument.split('=').next().unwrap());
+    match arguments.iter().any(is_replayed) {
+        true => program("replay"),
+        false => program("verdict"),
+    }
+}
+
 /// What a command line prints, with `./judge` in it.
 pub fn keyed(command: &str) -> String {
-    let command = command.replace("./judge ", "judge_here ");
-    let judge = "judge_here() {
-        program=$VERDICT
-        for argument; do case $argument in --key | --key=* | --forms) program=$REPLAY ;; esac; done
-        \"$JUDGE\" --program \"$program\" \"$@\"
-    }\n";
+    let arguments: Vec<&str> = command.split(' ').collect();
     let output = Command::new("sh")
-        .args(["-c", &format!("{judge}{command}")])
+        .args([
+            "-c",
+            &command.replace("./judge ", r#""$JUDGE" --program "$PROGRAM" "#),
+        ])
         .env("JUDGE", env!("CARGO_BIN_EXE_judge"))
-        .env("VERDICT", program("verdict"))
-        .env("REPLAY", program("replay"))
+        .env("PROGRAM", program_for(&arguments))
         .current_dir(Path::new(env!("CARGO_MANIFEST_DIR")).join("../.."))
         .output()
         .expect("the shell runs");
