@@ -1,21 +1,19 @@
 -- Combinators by their words: which words pass, clipped or not, and their bits.
-use Prim.Native.Nat.{ℕ, zero, suc, _+_, _≤_, _<_}
+use Prim.Native.Nat.{ℕ, suc, _+_, _≤_, _<_}
 use mathlib.Core.Path.{_≡_, refl, sym, ap, ap₂, _∙_}
 use mathlib.Core.Bool.{Bool, true, false, cond, _&&_, false≢true, and-eq-true-iff, and-assoc}
 use mathlib.Core.List.{List, [], _∷_, _++_, append-assoc, append-nil}
 use native.Mathlib.Decide.{decLt}
-use native.Mathlib.Nat.{add-zero}
-use native.Mathlib.Numerals.{add-one}
 use native.Mathlib.Omega.{arith}
 use borrow.Author.Tests.{lt-ltb, le-ltb, ltb-true, eqb-true}
 use lib.Dec.{eqb, ltb}
-use lib.ListN.{length, replicate, length-append}
+use lib.ListN.{length-append}
 use Rattle.calculus.specs.Term.{Term, var, lam, app, con, case, num, count}
-use Rattle.calculus.specs.Words.{variableKind, abstractionKind, constructorKind, caseKind, numeralKind, pack, word, kindOf, payloadOf, words, size, workspaceMost}
+use Rattle.calculus.specs.Words.{variableKind, constructorKind, caseKind, numeralKind, pack, word, kindOf, payloadOf, words, size, workspaceMost}
 use Rattle.calculus.proofs.WordLaws.{kindOf-word, payloadOf-word, word-of-parts, size-positive}
 use Rattle.encoding.specs.Bits.{bits, Pure, CombinatorUnder}
 use Rattle.binary.specs.Words.{areCombinators, wordBits, wordsBits}
-use Rattle.binary.specs.Scan.{wordMost, clipped, allClipped}
+use Rattle.binary.specs.Scan.{clipped, allClipped}
 use Rattle.binary.proofs.WalkLaws.{at-variable, at-abstraction, at-application, at-other}
 use Rattle.binary.proofs.ScanLaws.{clipped-variable, clipped-free, clipped-plain, clipped-more}
 

@@ -1,6 +1,6 @@
 -- Exporting, by what the code finds of the words: whether they are a combinator's, and their bits.
 use Prim.Native.Nat.{ℕ, _+_, _*_, _/_, _≤_, _<_}
-use mathlib.Core.Path.{_≡_, refl, sym, ap, ap₂, _∙_}
+use mathlib.Core.Path.{_≡_, sym, ap, ap₂, _∙_}
 use mathlib.Core.Bool.{true, false, false≢true}
 use mathlib.Core.List.{List, [], _∷_, append-nil}
 use mathlib.Core.Option.{some}
@@ -13,8 +13,7 @@ use Rattle.calculus.specs.Workspace.{wrongWorkspace, termAt}
 use Rattle.calculus.specs.Refusal.{TooLong, NoTerm, NoCombinator}
 use Rattle.calculus.specs.Bringing.{returned}
 use Rattle.calculus.proofs.ReadLaws.{read-words}
-use Rattle.calculus.proofs.WorkspaceLaws.{workspace-short}
-use Rattle.calculus.proofs.Held.{held}
+use Rattle.calculus.proofs.WorkspaceLaws.{workspace-short, held}
 use Rattle.terms.specs.IsTerm.{isTerm}
 use Rattle.terms.proofs.IsTerm.{isTerm-some, isTerm-none}
 use Rattle.encoding.specs.Bits.{bits, Combinator}

@@ -20,7 +20,7 @@ use Rattle.words.proofs.BringingLaws.{brought}
 use Rattle.encoding.specs.Bits.{bits, Pure, Combinator}
 use Rattle.encoding.specs.Bytes.{byteBits, unpacked}
 use Rattle.encoding.specs.Decoding.{wordsIn, decode}
-use Rattle.encoding.specs.Encoded.{allZero, encodedTerm}
+use Rattle.encoding.specs.Encoded.{allZero}
 use Rattle.encoding.specs.Import.{import}
 use Rattle.encoding.specs.Theorems.{EncodingOf}
 use Rattle.encoding.proofs.DecodeLaws.{words-in-decode, decode-complete}

@@ -1,16 +1,14 @@
 -- Ones put behind the bits that stand in bytes.
 use Prim.Native.Nat.{ℕ, zero, suc, _+_, _*_, _-_, _/_, _%_, _^_, _≤_, _<_}
 use mathlib.Core.Path.{_≡_, refl, sym, ap, ap₂, _∙_}
-use mathlib.Core.Bool.{Bool, true, false, false≢true}
+use mathlib.Core.Bool.{Bool, true, false}
 use mathlib.Core.List.{List, [], _∷_, _++_, append-assoc, append-nil}
 use native.Mathlib.Decide.{decLt}
-use native.Mathlib.Nat.{pow-suc, one-le-pow, sub-zero}
+use native.Mathlib.Nat.{pow-suc, sub-zero}
 use native.Mathlib.Omega.{arith}
 use lib.ListN.{length, take, drop, getD, set, replicate, drop-of-length-le, length-append, length-replicate, length-drop, replicate-append-replicate, take-append-drop}
 use lib.Pow.{pow-mono}
 use lib.Seq.{drop-append-le, take-append-le, take-length, drop-append-seam, length-take-le, getD-set-same}
-use mir.Syntax.{w8}
-use mir.Val.{Fits}
 use Rattle.encoding.specs.Bytes.{byteBits, unpacked, digit, number, packed, Bytes}
 use Rattle.encoding.specs.Encoded.{allZero}
 use Rattle.encoding.proofs.BytesLaws.{number-nil, number-below, length-packed, length-unpacked, packed-unpacked, unpacked-packed, packed-padded}

@@ -1,15 +1,15 @@
 -- What the bits of an encoding start with, by the first of them and the run.
 use Prim.Native.Nat.{ℕ, suc, _+_, _-_, _≤_, _<_}
-use mathlib.Core.Path.{_≡_, refl, sym, ap, _∙_}
+use mathlib.Core.Path.{_≡_, ap, _∙_}
 use mathlib.Core.Bool.{Bool, true, false}
-use mathlib.Core.List.{List, [], _∷_}
+use mathlib.Core.List.{List, _∷_}
 use native.Mathlib.Numerals.{add-one}
 use native.Mathlib.Omega.{arith}
 use borrow.Author.Tests.{lt-ltb, le-ltb}
 use lib.ListN.{length, getD}
 use lib.Seq.{slice, slice-cons, slice-empty, length-slice}
 use Rattle.bits.specs.Runs.{run}
-use Rattle.bits.specs.Tokens.{Token, early, abstraction, application, variable, token}
+use Rattle.bits.specs.Tokens.{early, abstraction, application, variable, token}
 use Rattle.bits.proofs.RunLaws.{run-le}
 
 module _ (bs : List Bool) (from to : ℕ) (some : from < to) (inside : to ≤ length bs) where

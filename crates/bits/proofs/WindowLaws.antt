@@ -1,7 +1,7 @@
 -- Windows: the numbers of bytes in a row, and of a window whose first bits are left out.
 use Prim.Native.Nat.{ℕ, zero, suc, _+_, _*_, _-_, _/_, _%_, _^_, _≤_, _<_}
 use mathlib.Core.Path.{_≡_, refl, sym, ap, ap₂, _∙_}
-use mathlib.Core.Bool.{Bool, true, false}
+use mathlib.Core.Bool.{Bool, false}
 use mathlib.Core.List.{List, [], _∷_, _++_}
 use native.Mathlib.Decide.{decLt}
 use native.Mathlib.Nat.{mod-eq-of-lt, add-zero, add-comm, add-mul, mul-assoc}
@@ -16,7 +16,7 @@ use lib.Seq.{drop-cons, drop-drop, getD-drop}
 use mir.Syntax.{w8}
 use mir.Val.{Fits}
 use Rattle.encoding.specs.Bytes.{byteBits, digits, unpacked, digit, number}
-use Rattle.encoding.proofs.BytesLaws.{number-digits, number-nil, number-below, number-split, length-digits, drop-unpacked, length-unpacked}
+use Rattle.encoding.proofs.BytesLaws.{number-digits, number-nil, number-below, number-split, drop-unpacked}
 use Rattle.bits.specs.Runs.{windowBits, run}
 use Rattle.bits.proofs.RunLaws.{leading-run}
 

@@ -1,4 +1,4 @@
--- The starred bench pairs and the edges of the rules hold, by computation.
+-- The starred bench pairs, the edges of the rules and their numbers hold, by computation.
 use mathlib.Core.Path.{refl}
 use mathlib.Core.Logic.{Dec·and}
 use mathlib.Core.Option.{bind, orElse}
@@ -12,6 +12,7 @@ use Rattle.calculus.specs.Equality.{tree, from-trees, equal?}
 use Rattle.calculus.specs.Rounds.{same, roundsIn, roundsBy}
 use Rattle.calculus.specs.Bench.{Starred, contracted, judged}
 use Rattle.calculus.specs.Boundaries.{Boundaries}
+use Rattle.calculus.specs.Numbers.{Numbers}
 
 pub starred : Starred
 unfolding contracted judged read items item takeTerm takeTerms takeBranches readLam readApp readCon readCase readBranch oneTerm accepted? everywhere? tagged? both₃ isTag? startsAbove? rising? Dec·and decLe decLt bind orElse firstStep leftmost tree from-trees equal? ℕ-discrete same roundsIn roundsBy
@@ -144,3 +145,6 @@ boundaries =
       closed-under-two = omega arith;
       open-under-two = λ h. omega (arith, h);
     }
+
+pub numbers : Numbers
+numbers = record { kinds = refl; bases = refl; workspaces = refl; limits = refl; refusals = refl; verdicts = refl }

@@ -1,7 +1,7 @@
 -- Contraction has the Church-Rosser property: parallel reduction lies between one contraction and any number of them, and has complete
 -- developments.
 use Prim.Native.Nat.{ℕ, suc, _+_}
-use Rattle.calculus.specs.Term.{Sort, term, branches, Exp, lam, app, con, case, num, cons, branch, Term, Branches}
+use Rattle.calculus.specs.Term.{Sort, term, branches, Exp, lam, app, con, case, cons, branch, Term, Branches}
 use Rattle.calculus.specs.Words.{size}
 use Rattle.calculus.specs.Contraction.{Rule, by-beta, by-case, by-numeral, Contracts, at-beta, at-case, at-numeral, in-body, in-function, in-argument, in-arguments, in-subject, in-branches, in-first, in-later, in-branch, in-later-branch}
 use Rattle.calculus.specs.Relation.{Star, stop, step}

@@ -7,7 +7,7 @@ use lib.Dec.{ltb}
 use borrow.Author.Tests.{lt-ltb, le-ltb, ltb-false}
 use native.Mathlib.Omega.{arith}
 use Rattle.calculus.specs.Contraction.{Rule}
-use Rattle.calculus.specs.Step.{Step, in-whole, behind, at-first, first-of}
+use Rattle.calculus.specs.Step.{Step, in-whole, at-first, first-of}
 use Rattle.calculus.specs.Position.{through}
 
 -- What a test of positions chooses where the position lies in the part of n words, and where it lies p words behind it.

@@ -4,6 +4,7 @@ pub mod Spine
 pub mod Traversal
 pub mod EverywhereLaws
 pub mod DefaultLaws
+pub mod LimitsLaws
 pub mod WordLaws
 pub mod MarkedWords
 pub mod SkipLaws
@@ -30,9 +31,10 @@ pub mod ChurchRosser
 pub mod Instances
 pub mod ResumeLaws
 pub mod RoundsLaws
+pub mod WalkLaws
+pub mod RoundExact
 pub mod UnlimitedLaws
 pub mod Focus
 pub mod SizeLaws
 pub mod WorkspaceLaws
-pub mod Held
 pub mod BringingLaws

@@ -1,7 +1,7 @@
 -- The words of an expression, each with the number of binders around it. A traversal changes words one by one (`words-traverse`): a variable
 -- becomes the words of what is put for it, any other word stays. What is asked of variables everywhere is asked of these words.
 use Prim.Native.Nat.{ℕ, suc, _+_, _*_, _≤_, _<_}
-use mathlib.Core.Path.{_≡_, refl, sym, _∙_, ap, ap₂}
+use mathlib.Core.Path.{_≡_, refl, sym, _∙_, ap₂}
 use mathlib.Core.List.{List, [], _∷_, _++_, append-assoc, append-nil}
 use native.Mathlib.Nat.{suc-mul}
 use native.Mathlib.Omega.{arith}

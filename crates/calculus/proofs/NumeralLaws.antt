@@ -3,7 +3,7 @@ use Prim.Native.Nat.{ℕ, zero, suc, _+_, _*_, _≤_}
 use mathlib.Core.Path.{_≡_, refl, ap, ap₂}
 use mathlib.Core.List.{[], _∷_, _++_}
 use native.Mathlib.Omega.{arith}
-use Rattle.calculus.specs.Term.{var, lam, app, Term}
+use Rattle.calculus.specs.Term.{lam, app, Term}
 use Rattle.calculus.specs.Words.{words, size}
 use Rattle.calculus.specs.Everywhere.{Everywhere}
 use Rattle.calculus.specs.Accepted.{Accepted}

@@ -77,7 +77,7 @@ module _ (σ : ℕ → Term) (d : ℕ) where
       by false true false h = refl
       by false false arity h = refl
 
-  select-sub : (t : ℕ) (xs : Terms) (bs : Branches) → select t (sub σ d xs) (sub σ d bs) ≡ Option·map (sub σ d) (select t xs bs)
+  pub select-sub : (t : ℕ) (xs : Terms) (bs : Branches) → select t (sub σ d xs) (sub σ d bs) ≡ Option·map (sub σ d) (select t xs bs)
   select-sub t xs bs = rw (default-sub bs) (listed-sub (default bs) t xs bs)
 
 -- If the terms of σ reduce to those of τ, under any number of binders, then so does what σ makes of an expression to what τ makes of its reducts.

@@ -75,6 +75,13 @@ after-zero o = ap (spending o) (zero-add (o .spent))
 pub after-after : (p n : ℕ) (o : Outcome) → after p (after n o) ≡ after (p + n) o
 after-after p n o = ap (spending o) (sym (add-assoc p n (o .spent)))
 
+-- What a side's next term is.
+pub next-is : (t : Term) {u : Term} → leftmost t ≡ some u → next t ≡ u
+next-is t e = ap (λ o. Option·getD o t) e
+
+pub next-normal : (t : Term) → leftmost t ≡ none → next t ≡ t
+next-normal t e = ap (λ o. Option·getD o t) e
+
 module _ (early : Question) where
   -- A round on two terms that goes on, with just enough left of the budget.
   abbrev pub Moves : (C p : ℕ) → Term → Term → Type 0

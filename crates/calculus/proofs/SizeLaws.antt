@@ -1,5 +1,5 @@
 -- Lengths of terms: shifting keeps the length, and substitution multiplies it at most by that of the arguments.
-use Prim.Native.Nat.{ℕ, _-_, _*_, _≤_, _<_}
+use Prim.Native.Nat.{ℕ, _-_, _*_, _≤_}
 use mathlib.Core.Path.{_≡_, refl, sym, _∙_, ap}
 use mathlib.Core.Bool.{Bool, true, false, cond}
 use mathlib.Core.List.{List, [], _∷_}
@@ -10,7 +10,7 @@ use lib.IntN.{ℤ, pos}
 use lib.ListN.{length, length-append}
 use borrow.Author.Tests.{ne-eqb}
 use Rattle.calculus.specs.Term.{Sort, Exp, var, nil, cons, Term, Terms, count}
-use Rattle.calculus.specs.Words.{variableKind, kindBase, word, kindOf, payloadOf, words, size}
+use Rattle.calculus.specs.Words.{variableKind, kindOf, payloadOf, words, size}
 use Rattle.calculus.specs.Traverse.{traverse}
 use Rattle.calculus.specs.Shift.{moving, shift}
 use Rattle.calculus.specs.Substitution.{argument, replaced, replacing, subst}

@@ -12,7 +12,7 @@ use borrow.Author.Tests.{lt-ltb, le-ltb, eqb-true, eqb-false}
 use Rattle.calculus.specs.Term.{Sort, Exp, var, nil, cons, Term, Terms, count}
 use Rattle.calculus.specs.Traverse.{traverse}
 use Rattle.calculus.specs.Shift.{moving, shift}
-use Rattle.calculus.specs.Substitution.{argument, replaced, replacing, subst}
+use Rattle.calculus.specs.Substitution.{argument, replaced, subst}
 use Rattle.calculus.proofs.Move.{move-down}
 use Rattle.calculus.proofs.Spine.{count-traverse}
 use Rattle.calculus.proofs.Traversal.{traverse-after, traverse-traverse, traverse-identity, below-or-above}

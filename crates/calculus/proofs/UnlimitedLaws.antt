@@ -153,24 +153,24 @@ module _ (early : Question) where
   rounds-again C B t u d C′ B′ = let (m, h, k, w) = rounds-found C B t u d in unlimited-rounds (unlimited-end w) C′ B′ (omega arith) (omega arith)
 
 -- What a verdict says of reducts it says of the terms.
-reducts-exact : (v : Verdict) {t u t′ u′ : Term} → Reaches t t′ → Reaches u u′ → Exact v t′ u′ → Exact v t u
-reducts-exact Same p q j = chain-append (chain-of-star p) (chain-append j (chain-reverse (chain-of-star q)))
-reducts-exact Different p q n = λ j. n (reducts-joined p q j)
-reducts-exact Budget p q n = n
-reducts-exact Full p q n = n
+pub reducts-exact : (v : Verdict) (t u t′ u′ : Term) → Reaches t t′ → Reaches u u′ → Exact v t′ u′ → Exact v t u
+reducts-exact Same t u t′ u′ p q j = chain-append (chain-of-star p) (chain-append j (chain-reverse (chain-of-star q)))
+reducts-exact Different t u t′ u′ p q n = λ j. n (reducts-joined p q j)
+reducts-exact Budget t u t′ u′ p q n = n
+reducts-exact Full t u t′ u′ p q n = n
 
-next-reached : (t : Term) → Reaches t (next t)
+pub next-reached : (t : Term) → Reaches t (next t)
 next-reached t = by (leftmost t) refl
   where
     by : (o : Option Term) → leftmost t ≡ o → Reaches t (Option·getD o t)
     by none e = stop
     by (some t′) e = step (leftmost-contracts t t′ e) stop
 
-unlimited-verdict : {early : Question} → Sound early → {t u : Term} {m : ℕ} {o : Outcome} → Unlimited early t u m o → Exact (o .verdict) t u
+pub unlimited-verdict : {early : Question} → Sound early → {t u : Term} {m : ℕ} {o : Outcome} → Unlimited early t u m o → Exact (o .verdict) t u
 unlimited-verdict s (at-once {t = t} {u = u} {v = v} e) = s .answers t u v e
 unlimited-verdict s (both-normal {t = t} {u = u} e p q) =
     λ j. s .finds t u e (joined-normal-equal t u j (leftmost-none t .0 p) (leftmost-none u .0 q))
-unlimited-verdict s (onward {t = t} {u = u} {o = o} e g w) = reducts-exact (o .verdict) (next-reached t) (next-reached u) (unlimited-verdict s w)
+unlimited-verdict s (onward {t = t} {u = u} {o = o} e g w) = reducts-exact (o .verdict) t u (next t) (next u) (next-reached t) (next-reached u) (unlimited-verdict s w)
 
 pub verdicts-exact : Verdicts-exact
 verdicts-exact early s C B t u d = let (m, h, w) = unlimited-found early t u C B d in unlimited-verdict s w
@@ -204,7 +204,7 @@ same-equal : {t u : Term} {a : Option Verdict} → Compared t u a → {v : Verdi
 same-equal (equal e) h = e
 same-equal (unequal n) h = absurd (Option·none-ne-some _ h)
 
-unlimited-same : {t u : Term} {m : ℕ} {o : Outcome} → Unlimited same t u m o → o .verdict ≡ Same → o .left ≡ o .right
+pub unlimited-same : {t u : Term} {m : ℕ} {o : Outcome} → Unlimited same t u m o → o .verdict ≡ Same → o .left ≡ o .right
 unlimited-same {t} {u} (at-once e) h = same-equal (compared t u) e
 unlimited-same (both-normal e p q) h = absurd (let z : _≡_ {A = ℕ} 0 1 = cc in omega arith)
 unlimited-same (onward e g w) h = unlimited-same w h

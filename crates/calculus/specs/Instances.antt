@@ -1,5 +1,5 @@
 -- What the owed types suppose, met by terms written out: no hypothesis of `Theorems` is empty.
-use Prim.Native.Nat.{ℕ, _+_, _≤_, _<_}
+use Prim.Native.Nat.{_+_, _≤_, _<_}
 use mathlib.Core.Path.{_≡_}
 use mathlib.Core.List.{[], _∷_, _++_}
 use lib.IntN.{pos, negsuc, _+ℤ_}

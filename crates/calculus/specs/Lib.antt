@@ -26,5 +26,6 @@ pub mod Rounds
 pub mod Unlimited
 pub mod Bench
 pub mod Boundaries
+pub mod Numbers
 pub mod Theorems
 pub mod Instances

@@ -16,6 +16,13 @@ use Rattle.calculus.specs.Comparison.{Comparison, compare, positionOf}
 pub data Verdict : Type 0 where
   Same Different Budget Full : Verdict
 
+-- The number of a verdict, wherever one travels as a number.
+abbrev pub verdictNumber : Verdict → ℕ
+verdictNumber Same = 0
+verdictNumber Different = 1
+verdictNumber Budget = 2
+verdictNumber Full = 3
+
 -- A verdict that stays.
 abbrev pub Decided : Verdict → Type 0
 Decided v = (v ≡ Same) ⊎ (v ≡ Different)
@@ -70,9 +77,9 @@ pub data Round : Type 0 where
   ends : Verdict → Round
   goes : ℕ → Round
 
--- One round in workspaces of C words with `rest` left of the budget: points 1 to 5 in this order. `atOnce` is the verdict that the two terms give
--- before either is contracted: Same where they are equal (point 1).
-abbrev pub round : (atOnce : Option Verdict) (C rest : ℕ) (left right : Option ℕ) → Round
+-- One round in workspaces of C words with `rest` left of the budget: points 1 to 5 in this order. `answered` is the verdict that the two terms give
+-- before either is contracted (point 1).
+abbrev pub round : (answered : Option Verdict) (C rest : ℕ) (left right : Option ℕ) → Round
 round (some v) C rest l r = ends v
 round none C rest l r =
     cond (eqb (contractions l + contractions r) 0) (ends Different)
@@ -91,9 +98,13 @@ nextLength t = Option·map size (leftmost t)
 abbrev pub Question : Type 0
 Question = Term → Term → Option Verdict
 
--- Point 1: equal terms, Same.
+-- Whether they are equal: then Same.
 unfoldable pub same : Question
 same t u = ite (equal? t u) (some Same) none
+
+-- Point 1, what a press asks: equal terms, Same.
+abbrev pub atOnce : Question
+atOnce = same
 
 -- A round on two terms, by what is asked first.
 abbrev pub roundBy : Question → (C rest : ℕ) → Term → Term → Round
@@ -119,4 +130,4 @@ roundsBy early C budget t u = roundsIn early budget C budget t u
 
 -- The rounds of a press.
 abbrev pub rounds : (C budget : ℕ) → Term → Term → Outcome
-rounds = roundsBy same
+rounds = roundsBy atOnce

@@ -1,16 +1,19 @@
 -- What is owed about the calculus: each statement is a type with a name, and its proof in proofs/ has that type.
-use Prim.Native.Nat.{ℕ, zero, suc, _+_, _*_, _≤_, _<_}
+use Prim.Native.Nat.{ℕ, zero, suc, _+_, _-_, _*_, _≤_, _<_}
 use mathlib.Core.Path.{_≡_}
-use mathlib.Core.List.{List, [], _∷_, _++_}
+use mathlib.Core.Bool.{true, false}
+use mathlib.Core.List.{List, [], _∷_, _++_, List·Memᴰ}
 use mathlib.Core.Logic.{_↔_, _⊎_}
 use mathlib.Core.Option.{some, none, bind}
 use lib.IntN.{ℤ, pos, _+ℤ_}
 use lib.ListN.{length, take, getD}
 use Rattle.calculus.specs.Term.{Sort, term, Exp, end, branch, Term, Terms, Branches, count}
-use Rattle.calculus.specs.Words.{applicationKind, caseKind, numeralKind, kindOf, countBase, words, size, workspaceMost}
+use Rattle.calculus.specs.Words.{applicationKind, caseKind, numeralKind, kindOf, countBase, words, size, workspaceLeast, workspaceMost}
 use Rattle.calculus.specs.Everywhere.{binders, anywhere, Asked, variables, Everywhere}
-use Rattle.calculus.specs.Accepted.{tagLimit, argumentLimit, Rising, acceptance, Accepted, indexLimit}
+use Rattle.calculus.specs.Accepted.{tagLimit, argumentLimit, branchLimit, freeLimit, numeralLimit, Rising, Scoped, acceptance, Accepted, indexLimit}
 use Rattle.calculus.specs.Read.{read}
+use Rattle.calculus.specs.Workspace.{sized, termAt}
+use Rattle.calculus.specs.Bringing.{longerThan, freeAbove}
 use Rattle.calculus.specs.Shift.{move}
 use Rattle.calculus.specs.Substitution.{subst}
 use Rattle.calculus.specs.Numeral.{numeral}
@@ -19,6 +22,7 @@ use Rattle.calculus.specs.Conversion.{Contracts₁, Reaches, Joined, Nor
 use Rattle.calculus.specs.Leftmost.{Contracts-leftmost, leftmost}
 use Rattle.calculus.specs.Position.{contractAt, redexAt}
 use Rattle.calculus.specs.Comparison.{equal, differ, compareWords, compare, FirstDifference}
+use Rattle.calculus.specs.Rounds.{Verdict, Same, Different, Budget, Full, Outcome, shows, Round, ends, goes, atOnce, roundBy, ended, after, rounds}
 
 -- `read` gives t exactly for the words of t where t is accepted.
 abbrev pub Read-exact : Type 0
@@ -30,6 +34,40 @@ abbrev pub Tags-exact : Type 0
 Tags-exact =
     (t n : ℕ) → (acceptance .of-constructor t n ↔ ((1 ≤ t) × (t ≤ tagLimit) × (n ≤ argumentLimit)))
     × (acceptance .of-branch t n ↔ (((t ≡ 0) × (n ≡ 0)) ⊎ ((1 ≤ t) × (t ≤ tagLimit) × (n ≤ argumentLimit))))
+
+-- The tags of branches, in order.
+abbrev pub tags : Branches → List ℕ
+tags end = []
+tags (branch t n b bs) = t ∷ tags bs
+
+-- Which variables, numerals and cases it may have: bound variables and those of a free number up to 255, numerals up to 31, and cases of up to 15 branches, in
+-- which an earlier branch has a lower tag.
+abbrev pub Limits-exact : Type 0
+Limits-exact =
+    ((d i : ℕ) → acceptance .of-variable d i ↔ ((i < d) ⊎ ((d ≤ i) × (i - d ≤ freeLimit))))
+    × ((n : ℕ) → acceptance .of-numeral n ↔ (n ≤ numeralLimit))
+    × ((bs : Branches) → acceptance .of-case bs
+    ↔ ((count bs ≤ branchLimit) × ((i j : ℕ) → i < j → j < length (tags bs) → getD (tags bs) i 0 < getD (tags bs) j 0)))
+
+-- Which lengths pass refusal 7: every workspace and scratch that is lent has 16 to 2,048 words, and any two have as many.
+abbrev pub Lengths-exact : Type 0
+Lengths-exact =
+    (ns : List ℕ) → (sized ns ≡ true)
+    ↔ ((n : ℕ) → List·Memᴰ n ns → (workspaceLeast ≤ n) × (n ≤ workspaceMost) × ((m : ℕ) → List·Memᴰ m ns → n ≡ m))
+
+-- What passes refusal 10: a workspace has so many words, and they are those of an accepted term.
+pub record Held (ws : List ℕ) (n : ℕ) (t : Term) : Type 0 where
+  pub within : n ≤ length ws
+  pub words-are : words t ≡ take n ws
+  pub accepted : Accepted 0 t
+
+abbrev pub Term-at-exact : Type 0
+Term-at-exact = (ws : List ℕ) (n : ℕ) (t : Term) → (termAt ws n ≡ some t) ↔ Held ws n t
+
+-- What passes refusals 6 and 8 of a term that is brought in: no free number is above 255, and a workspace of C words holds it.
+abbrev pub Brought-exact : Type 0
+Brought-exact =
+    (t : Term) → ((freeAbove (some t) ≡ false) ↔ Scoped 0 t) × ((C : ℕ) → (longerThan C (some t) ≡ false) ↔ (size t ≤ C))
 
 -- Argument and bound counts are below 16, so that a payload holds them beside the tag.
 abbrev pub counted : Asked (Unit {0})
@@ -204,3 +242,39 @@ IndicesWithin limit e = Everywhere (within limit) tt e
 
 abbrev pub Indices-bounded : Type 0
 Indices-bounded = (t : Term) → Accepted 0 t → size t ≤ workspaceMost → IndicesWithin indexLimit t
+
+-- What a side does in a round: nothing where its term is normal, otherwise its leftmost outermost contraction.
+pub data Part (t : Term) : (contractions : ℕ) (next : Term) → Type 0 where
+  rests : Normal t → Part t 0 t
+  moves : {t′ : Term} → Contracts-leftmost t t′ → Part t 1 t′
+
+-- What the five points say of a round that comes to this, with `rest` left of the budget, where p contractions would lead from t to t′ and q from u to u′.
+abbrev pub ComesTo : (C rest : ℕ) (t u : Term) (p : ℕ) (t′ : Term) (q : ℕ) (u′ : Term) → Round → Type 0
+ComesTo C rest t u p t′ q u′ (ends Same) = t ≡ u
+ComesTo C rest t u p t′ q u′ (ends Different) = (t ≡ u → ⊥) × (p + q ≡ 0)
+ComesTo C rest t u p t′ q u′ (ends Budget) = (t ≡ u → ⊥) × (1 ≤ p + q) × (rest < p + q)
+ComesTo C rest t u p t′ q u′ (ends Full) =
+    (t ≡ u → ⊥) × (1 ≤ p + q) × (p + q ≤ rest) × (((p ≡ 1) × (C < size t′)) ⊎ ((q ≡ 1) × (C < size u′)))
+ComesTo C rest t u p t′ q u′ (goes n) =
+    (t ≡ u → ⊥) × (n ≡ p + q) × (1 ≤ n) × (n ≤ rest) × (p ≡ 1 → size t′ ≤ C) × (q ≡ 1 → size u′ ≤ C)
+
+-- Demand 2: a round of a press comes to this exactly if the five points say so; then the press ends, or goes on from the next terms with so much less budget.
+abbrev pub Round-exact : Type 0
+Round-exact =
+    (C rest : ℕ) (t u : Term) (p : ℕ) (t′ : Term) (q : ℕ) (u′ : Term) → Part t p t′ → Part u q u′
+    → (x : Round) → (roundBy atOnce C rest t u ≡ x) ↔ ComesTo C rest t u p t′ q u′ x
+
+abbrev pub Rounds-exact : Type 0
+Rounds-exact =
+    (C budget : ℕ) (t u : Term) (p : ℕ) (t′ : Term) (q : ℕ) (u′ : Term) → Part t p t′ → Part u q u′
+    → ((v : Verdict) → roundBy atOnce C budget t u ≡ ends v → rounds C budget t u ≡ ended v t u)
+    × ((n : ℕ) → roundBy atOnce C budget t u ≡ goes n → rounds C budget t u ≡ after n (rounds C (budget - n) t′ u′))
+
+-- What is shown of an outcome: its verdict, what was spent and the lengths of both terms; with Different the position of the first word where the terms of a workspace
+-- differ, and with every other verdict 0.
+abbrev pub Shown-exact : Type 0
+Shown-exact =
+    (o : Outcome) → (shows o .verdict ≡ o .verdict) × (shows o .spent ≡ o .spent) × (shows o .left ≡ size (o .left)) × (shows o .right ≡ size (o .right))
+    × (o .verdict ≡ Different → Accepted 0 (o .left) → Accepted 0 (o .right) → (o .left ≡ o .right → ⊥)
+    → FirstDifference (shows o .position) (words (o .left)) (words (o .right)))
+    × ((o .verdict ≡ Different → ⊥) → shows o .position ≡ 0)

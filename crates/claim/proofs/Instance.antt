@@ -198,20 +198,6 @@ pub limits : Limits
 unfolding termAt read items item takeTerm takeTerms takeBranches readLam readApp readCon readCase readBranch oneTerm accepted? everywhere? tagged? both₃ isTag? startsAbove? rising? Dec·and decLe decLt bind
 limits =
     record {
-      words-15 = refl;
-      words-16 = refl;
-      words-2048 = refl;
-      words-2049 = refl;
-      other-right = refl;
-      other-scratch = refl;
-      two-of-2048 = refl;
-      two-unequal = refl;
-      one-of-2048 = refl;
-      one-of-2049 = refl;
-      length-0 = refl;
-      length-15 = refl;
-      length-16 = refl;
-      length-17 = refl;
       budget-1000000 = refl;
       budget-1000001 = refl;
       total-1000000000 = refl;

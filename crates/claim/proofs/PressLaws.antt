@@ -4,23 +4,23 @@ use Prim.Native.Nat.{ℕ, _+_}
 use mathlib.Core.Path.{_≡_, refl, sym, _∙_, ap, subst}
 use mathlib.Core.Bool.{Bool, true, false, cond, not, _&&_, _||_}
 use mathlib.Core.List.{List, [], _∷_}
-use mathlib.Core.Option.{some, none}
+use mathlib.Core.Option.{Option, some, none}
 use native.Mathlib.Omega.{arith}
 use lib.Dec.{leb, ltb, eqb}
 use lib.ListN.{length, replicate}
 use borrow.Author.Tests.{ltb-true, ltb-false, le-leb, lt-leb}
 use Rattle.calculus.specs.Term.{Term}
 use Rattle.calculus.specs.Words.{words, size}
-use Rattle.calculus.specs.Workspace.{sized, padded}
+use Rattle.calculus.specs.Workspace.{sized, termAt, padded}
 use Rattle.calculus.specs.Refusal.{Refusal, WrongWorkspace, OverBudget, NoTerm}
-use Rattle.calculus.specs.Rounds.{Outcome, Shown, same, rounds}
+use Rattle.calculus.specs.Rounds.{Outcome, Shown, atOnce, rounds}
 use Rattle.claim.specs.State.{budgetLimit, totalLimit, affordable}
 use Rattle.claim.specs.Answer.{refused, shown, Memory, Call, Pressed}
 use Rattle.claim.specs.Press.{refuse, conclude, pressTerms, press}
 use Rattle.claim.specs.Claim.{Contains, Reply, refuses, spends, replyOf, Progress, replyTo, advance, LeavesBy}
 use Rattle.calculus.proofs.RoundsLaws.{Walk, walked, walk-fits}
-use Rattle.claim.proofs.Verdicts.{walk-accepted}
-use Rattle.claim.proofs.Workspaces.{sized-scratch, termAt-holds, holds-padded, holds-fits}
+use Rattle.calculus.proofs.WalkLaws.{walk-accepted}
+use Rattle.claim.proofs.Workspaces.{sized-right, sized-scratch, termAt-holds, holds-termAt, holds-padded, holds-fits}
 
 -- The memory is where the list of calls stands.
 pub record Stands (C : ℕ) (s : Progress) (m : Memory) : Type 0 where
@@ -88,10 +88,10 @@ concluded C total o =
     }
 
 -- Workspaces that hold two terms hold, with zeros after them, those that a walk leads to.
-pub holds-walk : {C s : ℕ} {t u t′ u′ : Term} {ws vs : List ℕ} → Contains C t ws → Contains C u vs → Walk same C s t u t′ u′
+pub holds-walk : {C s : ℕ} {t u t′ u′ : Term} {ws vs : List ℕ} → Contains C t ws → Contains C u vs → Walk atOnce C s t u t′ u′
     → Contains C t′ (padded C (words t′)) × Contains C u′ (padded C (words u′))
 holds-walk h k w =
-    let (f, g) = walk-fits same w in
+    let (f, g) = walk-fits atOnce w in
     let (a, b) = walk-accepted w in
     (holds-padded (a (h .accepted)) (f (holds-fits h)), holds-padded (b (k .accepted)) (g (holds-fits k)))
 
@@ -102,7 +102,7 @@ stands-first m h k = record { total-is = refl; left-holds = h; right-holds = k }
 pub stands-concluded : {C : ℕ} {t u : Term} {ws vs : List ℕ} → Contains C t ws → Contains C u vs → (B total : ℕ)
     → (let o = rounds C B t u in Stands C (record { total = total; left = o .left; right = o .right }) (concluded C total o))
 stands-concluded {C} {t} {u} h k B total =
-    let (l, r) = holds-walk h k (walked same C B t u) in
+    let (l, r) = holds-walk h k (walked atOnce C B t u) in
     record { total-is = refl; left-holds = l; right-holds = r }
 
 -- After the press the memory is where `advance` says.
@@ -111,7 +111,7 @@ pub stands-next : {C : ℕ} {s : Progress} {m : Memory} {c : Call} {r : Reply} {
 stands-next h (turned-down why) = h
 stands-next {C} {s} {c = c} h (made e) =
     let o = rounds C (c .budget) (s .left) (s .right) in
-    let (l, r) = holds-walk (h .left-holds) (h .right-holds) (walked same C (c .budget) (s .left) (s .right)) in
+    let (l, r) = holds-walk (h .left-holds) (h .right-holds) (walked atOnce C (c .budget) (s .left) (s .right)) in
     record { total-is = ap (λ n. n + o .spent) (h .total-is); left-holds = l; right-holds = r }
 
 pub refused≢shown : {why : Refusal} {a : Shown} → refused why ≡ shown a → ⊥
@@ -128,3 +128,37 @@ reply-answered (made e) = refl
 pub leaves-answered : {C : ℕ} {s : Progress} {m : Memory} {c : Call} {r : Reply} {p : Pressed} → Answered C s m c r p → LeavesBy m c p (p .answer)
 leaves-answered (turned-down why) = (refl, refl, refl, refl)
 leaves-answered (made e) = ap (λ n. replicate n 0) (sym e)
+
+-- What an unrefused press has passed, and the two terms it is made on.
+pub record Passed (m : Memory) (c : Call) (t u : Term) : Type 0 where
+  pub size-passes : sized (length (m .left) ∷ length (m .right) ∷ length (c .scratch) ∷ []) ≡ true
+  pub budget-passes : affordable (c .budget) (m .session .total) ≡ true
+  pub left-term : termAt (m .left) (c .leftLength) ≡ some t
+  pub right-term : termAt (m .right) (c .rightLength) ≡ some u
+
+pub press-passed : {m : Memory} {c : Call} {t u : Term} → Passed m c t u
+    → press m c ≡ conclude (length (m .left)) (m .session) (rounds (length (m .left)) (c .budget) t u)
+unfolding press
+press-passed h = rw (h .size-passes, h .budget-passes, h .left-term, h .right-term)
+
+pub passed : (m : Memory) (c : Call) {a : Shown} → press m c .answer ≡ shown a → (t : Term) × (u : Term) × Passed m c t u
+unfolding press
+passed m c {a} e = by _ _ _ _ refl refl refl refl e
+  where
+    by : (x y : Bool) (t u : Option Term) → sized (length (m .left) ∷ length (m .right) ∷ length (c .scratch) ∷ []) ≡ x
+        → affordable (c .budget) (m .session .total) ≡ y → termAt (m .left) (c .leftLength) ≡ t → termAt (m .right) (c .rightLength) ≡ u
+        → cond x (cond y (pressTerms m c t u) (refuse m c OverBudget)) (refuse m c WrongWorkspace) .answer ≡ shown a → (t : Term) × (u : Term) × Passed m c t u
+    by false y t u p q f g e = absurd (refused≢shown e)
+    by true false t u p q f g e = absurd (refused≢shown e)
+    by true true none u p q f g e = absurd (refused≢shown e)
+    by true true (some t) none p q f g e = absurd (refused≢shown e)
+    by true true (some t) (some u) p q f g e = (t, u, record { size-passes = p; budget-passes = q; left-term = f; right-term = g })
+
+-- The workspaces that it leaves hold the terms that its rounds end in.
+pub holds-passed : {m : Memory} {c : Call} {t u : Term} → Passed m c t u
+    → (let C = length (m .left) in let o = rounds C (c .budget) t u in
+    Contains C (o .left) (padded C (words (o .left))) × Contains C (o .right) (padded C (words (o .right))))
+holds-passed {m} {c} {t} {u} h =
+    holds-walk (holds-termAt (m .left) (c .leftLength) (h .left-term))
+    (subst (λ n. Contains n u (m .right)) (sized-right _ _ _ (h .size-passes)) (holds-termAt (m .right) (c .rightLength) (h .right-term)))
+    (walked atOnce (length (m .left)) (c .budget) t u)

@@ -5,7 +5,7 @@ use mathlib.Core.List.{List, [], _∷_, map}
 use mathlib.Core.Option.{Option, some, none, Option·none-ne-some}
 use native.Mathlib.Nat.{zero-add, add-zero, add-assoc}
 use Rattle.calculus.specs.Term.{Term}
-use Rattle.calculus.specs.Rounds.{Shown, shows, withSpent, same, after, rounds}
+use Rattle.calculus.specs.Rounds.{Shown, shows, withSpent, atOnce, after, rounds}
 use Rattle.claim.specs.Answer.{Answer, Memory, Call, Pressed}
 use Rattle.claim.specs.Press.{press}
 use Rattle.claim.specs.Presses.{final, history, spentOf, spentIn, noteBudget, budgetFrom, budgetInOneGo, noteShown, shownFrom, lastShown}
@@ -36,7 +36,7 @@ pub data Reached (C : ℕ) (t u : Term) (start : Memory) (spent : ℕ) (found : 
 -- The walk from the first terms to those where the memory stands.
 record At (C : ℕ) (t u : Term) (start : Memory) (spent : ℕ) (m : Memory) : Type 0 where
   standing : Progress
-  walk : Walk same C spent t u (standing .left) (standing .right)
+  walk : Walk atOnce C spent t u (standing .left) (standing .right)
   total-is : m .session .total ≡ start .session .total + spent
   stands : Stands C standing m
 
@@ -55,7 +55,7 @@ module _ {C : ℕ} {t u : Term} {start : Memory} (left-holds : Contains C t (sta
       rw (e, q)
       (record {
         standing = record { total = start .session .total + o .spent; left = o .left; right = o .right };
-        walk = walked same C B t u;
+        walk = walked atOnce C B t u;
         total-is = refl;
         stands = stands-concluded left-holds right-holds B (start .session .total + o .spent);
       })
@@ -68,7 +68,7 @@ module _ {C : ℕ} {t u : Term} {start : Memory} (left-holds : Contains C t (sta
   reached-answered {spent} {m = m} {c = c} h a (made e) =
       let s = a .standing in
       let o = rounds C (c .budget) (s .left) (s .right) in
-      let whole : after spent o ≡ rounds C (spent + c .budget) t u = sym (rounds-walk same (a .walk) (c .budget)) in
+      let whole : after spent o ≡ rounds C (spent + c .budget) t u = sym (rounds-walk atOnce (a .walk) (c .budget)) in
       ran (spent + c .budget) (o .spent)
       (ap (λ o′. o′ .spent) whole)
       refl

@@ -10,8 +10,8 @@ use lib.Seq.{take-append-seam}
 use Rattle.calculus.specs.Term.{Term}
 use Rattle.calculus.specs.Words.{words, size}
 use Rattle.calculus.specs.Workspace.{padded}
-use Rattle.calculus.specs.Comparison.{Comparison, compare, FirstDifference}
-use Rattle.calculus.specs.Rounds.{Verdict, Same, Different, Budget, Full, Decided, Shown, shownPosition, shows, withSpent, same, ended, rounds}
+use Rattle.calculus.specs.Comparison.{compare, FirstDifference}
+use Rattle.calculus.specs.Rounds.{Verdict, Same, Different, Decided, Shown, shownPosition, shows, withSpent, atOnce, ended, rounds}
 use Rattle.calculus.specs.Refusal.{Refusal}
 use Rattle.calculus.specs.Conversion.{Reaches, Joined}
 use Rattle.calculus.specs.Unlimited.{Exact}
@@ -20,10 +20,10 @@ use Rattle.claim.specs.Press.{press}
 use Rattle.claim.specs.Presses.{final, history, spentIn}
 use Rattle.claim.specs.Claim.{Contains, Reply, Progress, Again, Ended, SameTerms}
 use Rattle.calculus.proofs.ChurchRosser.{church-rosser}
-use Rattle.calculus.proofs.ComparisonLaws.{unequal-terms-differ}
+use Rattle.calculus.proofs.RoundExact.{shown-exact}
 use Rattle.calculus.proofs.RoundsLaws.{walked}
 use Rattle.calculus.proofs.UnlimitedLaws.{rounds-stable, rounds-agree, rounds-again, rounds-same, verdicts-exact, same-sound}
-use Rattle.claim.proofs.Verdicts.{walk-accepted, reached}
+use Rattle.calculus.proofs.WalkLaws.{walk-accepted, reached}
 use Rattle.claim.proofs.PressLaws.{Answered, turned-down, made, answered, concluded, stands-first, stands-concluded, refused≢shown, shown-injective}
 use Rattle.claim.proofs.PressesLaws.{Reached, untouched, ran, reached-by}
 
@@ -89,7 +89,7 @@ module _ {C : ℕ} {t u : Term} {start : Memory} (left-holds : Contains C t (sta
       let settled : Decided (o .verdict) = subst Decided (verdict-is h) d in
       let stands = stands-concluded left-holds right-holds (h .budget) total in
       rw (h .memory-is, ap (withSpent 0) (h .shown-is))
-      (idle-always (λ c. idle-settled (rounds-again same C (h .budget) t u settled C) refl (answered stands c)) later)
+      (idle-always (λ c. idle-settled (rounds-again atOnce C (h .budget) t u settled C) refl (answered stands c)) later)
 
 -- The same words stand at the start of workspaces of any two lengths.
 same-words : (C C′ : ℕ) (ws : List ℕ) → take (length ws) (padded C ws) ≡ take (length ws) (padded C′ ws)
@@ -107,7 +107,7 @@ module _ {C : ℕ} {t u : Term} {start : Memory} {spent : ℕ} {m : Memory} {a :
       by (made fits) e =
           let o = rounds C (h .budget) t u in
           let enough′ : o .spent ≤ c .budget = subst (λ n. n ≤ c .budget) (ap (λ a. a .spent) (h .shown-is)) enough in
-          let same : rounds C′ (c .budget) t u ≡ o = rounds-stable same C (h .budget) t u (subst Decided (verdict-is h) d) C′ (c .budget) wide enough′ in (
+          let same : rounds C′ (c .budget) t u ≡ o = rounds-stable atOnce C (h .budget) t u (subst Decided (verdict-is h) d) C′ (c .budget) wide enough′ in (
             sym (shown-injective e) ∙ ap shows same ∙ sym (h .shown-is),
             rw (same, h .memory-is, left-is h, right-is h) (same-words C′ C (words (o .left)), same-words C′ C (words (o .right))),
           )
@@ -118,7 +118,7 @@ module _ {C : ℕ} {t u : Term} {start : Memory} {spent : ℕ} {m : Memory} {a :
   settled-agree {C′} {start′} h′ d d′ =
       let o = rounds C (h .budget) t u in
       let o′ = rounds C′ (h′ .budget) t u in
-      let e : o ≡ o′ = rounds-agree same C (h .budget) C′ (h′ .budget) t u (subst Decided (verdict-is h) d) (subst Decided (verdict-is h′) d′) in (
+      let e : o ≡ o′ = rounds-agree atOnce C (h .budget) C′ (h′ .budget) t u (subst Decided (verdict-is h) d) (subst Decided (verdict-is h′) d′) in (
         h .shown-is ∙ ap shows e ∙ sym (h′ .shown-is),
         rw (left-is h, right-is h, h .memory-is, h′ .memory-is, ← e) (same-words C C′ (words (o .left)), same-words C C′ (words (o .right))),
       )
@@ -128,7 +128,7 @@ module _ {C : ℕ} {t u : Term} {start : Memory} {spent : ℕ} {m : Memory} {a :
   settled-same e =
       let o = rounds C (h .budget) t u in
       let equal : o .left ≡ o .right = rounds-same C (h .budget) t u (sym (verdict-is h) ∙ e) in
-      let (f, g) = reached (walked same C (h .budget) t u) in (
+      let (f, g) = reached (walked atOnce C (h .budget) t u) in (
         o .left,
         f,
         subst (Reaches u) (sym equal) g,
@@ -141,12 +141,12 @@ module _ {C : ℕ} {t u : Term} {start : Memory} {spent : ℕ} {m : Memory} {a :
   pub settled-different : a .verdict ≡ Different → Joined t u → ⊥
   settled-different e =
       let v : rounds C (h .budget) t u .verdict ≡ Different = sym (verdict-is h) ∙ e in
-      subst (λ k. Exact k t u) v (verdicts-exact same same-sound C (h .budget) t u (inr v))
+      subst (λ k. Exact k t u) v (verdicts-exact atOnce same-sound C (h .budget) t u (inr v))
 
   -- The two terms that stand there are not one.
   settled-unequal : a .verdict ≡ Different → rounds C (h .budget) t u .left ≡ rounds C (h .budget) t u .right → ⊥
   settled-unequal e q =
-      let (f, g) = reached (walked same C (h .budget) t u) in
+      let (f, g) = reached (walked atOnce C (h .budget) t u) in
       settled-different e (church-rosser t u .1 (rounds C (h .budget) t u .left, f, subst (Reaches u) (sym q) g))
 
   -- Their words are the first words of the workspaces.
@@ -160,15 +160,9 @@ module _ {C : ℕ} {t u : Term} {start : Memory} {spent : ℕ} {m : Memory} {a :
       → FirstDifference (a .position) (take (a .left) (m .left)) (take (a .right) (m .right))
   settled-first-difference lh rh e =
       let o = rounds C (h .budget) t u in
-      let (f, g) = walk-accepted (walked same C (h .budget) t u) in
-      let (p, c, apart) = unequal-terms-differ (o .left) (o .right) (f (lh .accepted)) (g (rh .accepted)) (settled-unequal e) in
-      rw (position-is h ∙ ap₂ shownPosition (sym (verdict-is h) ∙ e) c, left-words, right-words) apart
+      let (f, g) = walk-accepted (walked atOnce C (h .budget) t u) in
+      rw (position-is h, left-words, right-words)
+      (shown-exact o .4 (sym (verdict-is h) ∙ e) (f (lh .accepted)) (g (rh .accepted)) (settled-unequal e))
 
   pub settled-no-position : (a .verdict ≡ Different → ⊥) → a .position ≡ 0
-  settled-no-position other = position-is h ∙ by _ (rounds C (h .budget) t u .verdict) (λ e. other (verdict-is h ∙ e))
-    where
-      by : (c : Comparison) (v : Verdict) → (v ≡ Different → ⊥) → shownPosition v c ≡ 0
-      by c Same d = refl
-      by c Different d = absurd (d refl)
-      by c Budget d = refl
-      by c Full d = refl
+  settled-no-position other = position-is h ∙ shown-exact (rounds C (h .budget) t u) .5 (λ e. other (verdict-is h ∙ e))

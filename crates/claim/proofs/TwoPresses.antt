@@ -1,9 +1,8 @@
 -- The rule of two presses ("A press"): two presses end where one press with the first's spent and the second's budget for a budget ends.
 use Prim.Native.Nat.{ℕ, _+_, _≤_}
-use mathlib.Core.Path.{_≡_, refl, sym, _∙_, ap, subst}
-use mathlib.Core.Bool.{Bool, true, false, cond, and-eq-true-iff}
-use mathlib.Core.List.{List, [], _∷_}
-use mathlib.Core.Option.{Option, some, none}
+use mathlib.Core.Path.{_≡_, sym, _∙_, ap, subst}
+use mathlib.Core.Bool.{true, and-eq-true-iff}
+use mathlib.Core.List.{List}
 use native.Mathlib.Nat.{add-assoc}
 use native.Mathlib.Omega.{arith}
 use lib.Dec.{leb}
@@ -11,41 +10,15 @@ use lib.ListN.{length}
 use borrow.Author.Tests.{leb-true, le-leb}
 use Rattle.calculus.specs.Term.{Term}
 use Rattle.calculus.specs.Words.{size}
-use Rattle.calculus.specs.Workspace.{sized, termAt}
-use Rattle.calculus.specs.Refusal.{WrongWorkspace, OverBudget}
-use Rattle.calculus.specs.Rounds.{Outcome, Shown, shows, withSpent, same, after, rounds}
+use Rattle.calculus.specs.Workspace.{termAt}
+use Rattle.calculus.specs.Rounds.{Outcome, Shown, shows, withSpent, atOnce, after, rounds}
 use Rattle.claim.specs.State.{budgetLimit, totalLimit, affordable}
 use Rattle.claim.specs.Answer.{shown, Memory, Call}
-use Rattle.claim.specs.Press.{refuse, conclude, pressTerms, press}
-use Rattle.claim.specs.Claim.{Contains, together, Two-presses}
-use Rattle.calculus.proofs.RoundsLaws.{walked, rounds-add}
-use Rattle.claim.proofs.Workspaces.{sized-right, termAt-size, holds-termAt}
-use Rattle.claim.proofs.PressLaws.{refused≢shown, shown-injective, concluded, holds-walk}
-
--- What an unrefused press has passed, and the two terms it is made on.
-record Passed (m : Memory) (c : Call) (t u : Term) : Type 0 where
-  size-passes : sized (length (m .left) ∷ length (m .right) ∷ length (c .scratch) ∷ []) ≡ true
-  budget-passes : affordable (c .budget) (m .session .total) ≡ true
-  left-term : termAt (m .left) (c .leftLength) ≡ some t
-  right-term : termAt (m .right) (c .rightLength) ≡ some u
-
-press-passed : {m : Memory} {c : Call} {t u : Term} → Passed m c t u
-    → press m c ≡ conclude (length (m .left)) (m .session) (rounds (length (m .left)) (c .budget) t u)
-unfolding press
-press-passed h = rw (h .size-passes, h .budget-passes, h .left-term, h .right-term)
-
-passed : (m : Memory) (c : Call) {a : Shown} → press m c .answer ≡ shown a → (t : Term) × (u : Term) × Passed m c t u
-unfolding press
-passed m c {a} e = by _ _ _ _ refl refl refl refl e
-  where
-    by : (x y : Bool) (t u : Option Term) → sized (length (m .left) ∷ length (m .right) ∷ length (c .scratch) ∷ []) ≡ x
-        → affordable (c .budget) (m .session .total) ≡ y → termAt (m .left) (c .leftLength) ≡ t → termAt (m .right) (c .rightLength) ≡ u
-        → cond x (cond y (pressTerms m c t u) (refuse m c OverBudget)) (refuse m c WrongWorkspace) .answer ≡ shown a → (t : Term) × (u : Term) × Passed m c t u
-    by false y t u p q f g e = absurd (refused≢shown e)
-    by true false t u p q f g e = absurd (refused≢shown e)
-    by true true none u p q f g e = absurd (refused≢shown e)
-    by true true (some t) none p q f g e = absurd (refused≢shown e)
-    by true true (some t) (some u) p q f g e = (t, u, record { size-passes = p; budget-passes = q; left-term = f; right-term = g })
+use Rattle.claim.specs.Press.{conclude, press}
+use Rattle.claim.specs.Claim.{together, Two-presses}
+use Rattle.calculus.proofs.RoundsLaws.{rounds-add}
+use Rattle.claim.proofs.Workspaces.{termAt-size}
+use Rattle.claim.proofs.PressLaws.{shown-injective, concluded, Passed, press-passed, passed, holds-passed}
 
 -- The budgets of two presses that were afforded one after the other are afforded at once.
 afforded-together : (first second total : ℕ) → affordable second (total + first) ≡ true → first + second ≤ budgetLimit
@@ -69,12 +42,6 @@ module _ {m : Memory} {c : Call} {t u : Term} (h : Passed m c t u) (d : Call) wh
   abbrev next : Memory
   next = conclude C (m .session) o .memory
 
-  holds-next : Contains C (o .left) (next .left) × Contains C (o .right) (next .right)
-  holds-next =
-      holds-walk (holds-termAt (m .left) (c .leftLength) (h .left-term))
-      (subst (λ n. Contains n u (m .right)) (sized-right _ _ _ (h .size-passes)) (holds-termAt (m .right) (c .rightLength) (h .right-term)))
-      (walked same C (c .budget) t u)
-
   module _ {a′ : Shown} (left-is : d .leftLength ≡ size (o .left)) (right-is : d .rightLength ≡ size (o .right))
       (second : press next d .answer ≡ shown a′) (fits : o .spent + d .budget ≤ budgetLimit)
       (scratch : List ℕ) (same-scratch : length scratch ≡ length (c .scratch))
@@ -83,7 +50,7 @@ module _ {m : Memory} {c : Call} {t u : Term} (h : Passed m c t u) (d : Call) wh
       passed-next : Passed next d (o .left) (o .right)
       passed-next =
           let (_, _, q) = passed next d second in
-          let (hl, hr) = holds-next in
+          let (hl, hr) = holds-passed h in
           record {
             size-passes = q .size-passes;
             budget-passes = q .budget-passes;
@@ -93,7 +60,7 @@ module _ {m : Memory} {c : Call} {t u : Term} (h : Passed m c t u) (d : Call) wh
 
       press-next : press next d ≡ conclude C (next .session) o′
       press-next =
-          subst (λ n. press next d ≡ conclude n (next .session) (rounds n (d .budget) (o .left) (o .right))) (holds-next .0 .length-is)
+          subst (λ n. press next d ≡ conclude n (next .session) (rounds n (d .budget) (o .left) (o .right))) (holds-passed h .0 .length-is)
           (press-passed passed-next)
 
       passed-together : Passed m (together c scratch (o .spent) (d .budget)) t u
@@ -106,7 +73,7 @@ module _ {m : Memory} {c : Call} {t u : Term} (h : Passed m c t u) (d : Call) wh
           }
 
       press-together : press m (together c scratch (o .spent) (d .budget)) ≡ conclude C (m .session) (after (o .spent) o′)
-      press-together = press-passed passed-together ∙ ap (conclude C (m .session)) (rounds-add same C (c .budget) (d .budget) t u)
+      press-together = press-passed passed-together ∙ ap (conclude C (m .session)) (rounds-add atOnce C (c .budget) (d .budget) t u)
 
       both-presses : (press m (together c scratch (o .spent) (d .budget)) .answer ≡ shown (withSpent (o .spent + a′ .spent) a′))
           × (press m (together c scratch (o .spent) (d .budget)) .memory ≡ press next d .memory)

@@ -6,3 +6,4 @@ pub mod ImportLaws
 pub mod ExportLaws
 pub mod RoundTrips
 pub mod Examples
+pub mod MostLaws

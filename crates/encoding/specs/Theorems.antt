@@ -36,6 +36,10 @@ Combinator-exact = (t : Term) → Combinator t ↔ (Closed t × Pure t)
 abbrev pub Bits-prefix-free : Type 0
 Bits-prefix-free = (t u : Term) (bs cs : List Bool) → Pure t → Pure u → bits t ++ bs ≡ bits u ++ cs → (t ≡ u) × (bs ≡ cs)
 
+-- The most bits that a combinator of so many words has; with as many bytes as hold them, exporting never meets 8.
+abbrev pub Bits-most : Type 0
+Bits-most = (t : Term) → Combinator t → byteBits * length (bits t) ≤ size t * (size t + 16)
+
 -- The term that is found is the one whose bits they are.
 abbrev pub Decoding-exact : Type 0
 Decoding-exact = (bs : List Bool) (t : Term) → (decode bs ≡ some t) ↔ (Pure t × (bits t ≡ bs))

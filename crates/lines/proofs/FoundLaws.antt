@@ -3,14 +3,13 @@ use Prim.Native.Nat.{ℕ, _+_, _-_, _≤_, _<_}
 use mathlib.Core.Path.{_≡_, refl, sym, ap, ap₂, _∙_}
 use mathlib.Core.Bool.{true, false, false≢true}
 use mathlib.Core.List.{List, [], _∷_, _++_, append-nil}
-use mathlib.Core.Logic.{ite, inl, inr}
+use mathlib.Core.Logic.{inl, inr}
 use mathlib.Core.Option.{some, none, bind, Option·none-ne-some}
 use native.Mathlib.Omega.{arith}
 use lib.ListN.{length, take, drop, replicate, length-drop}
 use Rattle.calculus.specs.Term.{Term}
 use Rattle.calculus.specs.Words.{words, size}
 use Rattle.calculus.specs.Accepted.{Scoped}
-use Rattle.calculus.specs.Decide.{scoped?}
 use Rattle.calculus.specs.Workspace.{wrongWorkspace}
 use Rattle.calculus.specs.Refusal.{WrongFree, TooLong, WrongLine}
 use Rattle.calculus.specs.Bringing.{freeFits, refuse, Brought, returned}
@@ -18,6 +17,7 @@ use Rattle.calculus.proofs.WordLaws.{size-positive}
 use Rattle.words.specs.Placed.{Placed}
 use Rattle.words.proofs.BringingLaws.{brought}
 use Rattle.terms.specs.IsTerm.{isTerm}
+use Rattle.calculus.proofs.BringingLaws.{free-fits}
 use Rattle.terms.proofs.FreeNumbers.{scoped-is-term}
 use Rattle.notation.specs.Grammar.{Line, lineLeast, lineMost}
 use Rattle.notation.specs.Reader.{scan, settle, lineWords}
@@ -25,7 +25,7 @@ use Rattle.notation.specs.Reading.{readLine}
 use Rattle.notation.specs.Theorems.{LengthsFit}
 use Rattle.notation.proofs.Complete.{packable, words-complete}
 use Rattle.notation.proofs.Sound.{words-sound}
-use Rattle.notation.proofs.ReadingLaws.{line-accepted, free-fits, reading-exact}
+use Rattle.notation.proofs.ReadingLaws.{line-accepted, reading-exact}
 use Rattle.parser.specs.Scan.{roomMost}
 
 no-words : none ≡ lineWords []
@@ -82,14 +82,10 @@ module _ (line workspace : List ℕ) (w : wrongWorkspace (length workspace) ≡ 
         ∙ ap₂ isTerm (append-nil (words term) ∙ words-are) size-is
 
     scoped : isTerm (drop at out) (roomMost - at) ≡ true → Scoped 0 term
-    scoped e = go (scoped? 0 term) (tested ∙ e)
-      where
-        go : (d : Dec (Scoped 0 term)) → ite d true false ≡ true → Scoped 0 term
-        go (yes a) q = a
-        go (no n) q = absurd (false≢true q)
+    scoped e = free-fits term .0 (tested ∙ e)
 
     unscoped : isTerm (drop at out) (roomMost - at) ≡ false → Scoped 0 term → ⊥
-    unscoped e s = false≢true (sym e ∙ sym tested ∙ free-fits term s)
+    unscoped e s = false≢true (sym e ∙ sym tested ∙ free-fits term .1 s)
 
     pub read-free : isTerm (drop at out) (roomMost - at) ≡ false → refuse workspace WrongFree ≡ readLine line workspace
     read-free e = sym (reading-exact line workspace .wrong-free asked term spelled (unscoped e))

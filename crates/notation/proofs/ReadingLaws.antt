@@ -17,6 +17,7 @@ use Rattle.calculus.specs.Refusal.{WrongLine}
 use Rattle.calculus.specs.Bringing.{freeFits, refused, refuse}
 use Rattle.notation.specs.Grammar.{Line, lineLeast, lineMost}
 use Rattle.notation.specs.Reader.{lineTerm}
+use Rattle.calculus.proofs.BringingLaws.{free-fits}
 use Rattle.notation.specs.Reading.{lineFits, readLine}
 use Rattle.notation.specs.Theorems.{Expressible, LengthsFit, Reading-exact}
 use Rattle.notation.proofs.TermLaws.{line-complete, line-sound}
@@ -33,13 +34,6 @@ scoped-accepted (num n) d h s = absurd h
 
 pub line-accepted : {line : List ℕ} {t : Term} → Line line t → Scoped 0 t → Accepted 0 t
 line-accepted {t = t} l s = scoped-accepted t 0 (spells-expressible l) s
-
-pub free-fits : (t : Term) → Scoped 0 t → freeFits t ≡ true
-free-fits t s = go (scoped? 0 t)
-  where
-    go : (d : Dec (Scoped 0 t)) → ite d true false ≡ true
-    go (yes a) = refl
-    go (no n) = absurd (n s)
 
 free-above : (t : Term) → (Scoped 0 t → ⊥) → freeFits t ≡ false
 free-above t n = go (scoped? 0 t)
@@ -99,6 +93,6 @@ reading-exact line workspace =
       escapes = λ a. (given line workspace a, λ l q. not-wrong line workspace a (l .0) (l .1) q);
       outside = λ a h. read-outside line workspace a (none-given line workspace h);
       wrong-free = λ a t l s. rw (a .workspace-fits, fits line (a .least) (a .most), line-complete l, free-above t s);
-      too-long = λ a t l s h. rw (a .workspace-fits, fits line (a .least) (a .most), line-complete l, free-fits t s, lt-ltb (length workspace) (size t) h);
-      leaves = λ a t l s h. (line-accepted l s, rw (a .workspace-fits, fits line (a .least) (a .most), line-complete l, free-fits t s, le-ltb (length workspace) (size t) h));
+      too-long = λ a t l s h. rw (a .workspace-fits, fits line (a .least) (a .most), line-complete l, free-fits t .1 s, lt-ltb (length workspace) (size t) h);
+      leaves = λ a t l s h. (line-accepted l s, rw (a .workspace-fits, fits line (a .least) (a .most), line-complete l, free-fits t .1 s, le-ltb (length workspace) (size t) h));
     }

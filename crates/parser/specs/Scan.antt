@@ -3,8 +3,9 @@ use Prim.Native.Nat.{ℕ, zero, suc, _*_, _-_, _≤_, _<_}
 use mathlib.Core.Path.{_≡_}
 use mathlib.Core.List.{List}
 use mathlib.Core.Option.{Option, some, none}
-use lib.ListN.{length, drop}
+use lib.ListN.{length, take, drop}
 use Rattle.calculus.specs.Accepted.{indexLimit}
+use Rattle.words.specs.Room.{Room}
 use Rattle.notation.specs.Grammar.{lineMost}
 use Rattle.notation.specs.Reader.{State, wanted, number, begun, Begun, begins}
 use Rattle.parser.specs.declared.Scan.{Scan}
@@ -60,6 +61,16 @@ StepWithin D R (step.On s) = Within D R s
 abbrev pub Settled : (R : ℕ) → Scan → codeStep.Step → Type 0
 Settled R s step.Outside = Unit {0}
 Settled R s (step.On r) = (s .at - 1 ≤ r .at) × (r .at ≤ R) × (r .top ≡ s .top) × (r .count ≡ s .count)
+
+-- What a step leaves of an array that it fills from its end: what stands before the place it has come to, and outside the grammar all of it.
+abbrev pub Stays : (place : Scan → ℕ) → codeStep.Step → (before after : List ℕ) → Type 0
+Stays place step.Outside before after = after ≡ before
+Stays place (step.On s) before after = take (place s) after ≡ take (place s) before
+
+-- The same of the words at a byte, which may end a number and be outside the grammar there: then they are free.
+abbrev pub WordsStay : codeStep.Step → (before after : List ℕ) → Type 0
+WordsStay step.Outside before after = Room before after
+WordsStay (step.On s) before after = take (s .at) after ≡ take (s .at) before
 
 -- Each byte of a line adds at most one word or one count; one place more, so that every step may ask for room for one further word.
 abbrev pub roomMost : ℕ

@@ -2,13 +2,13 @@
 // prefix order; the applications of a term are its spaces, and all of these are behind the place where its first item starts.
 use words::Word;
 ghost use mathlib.Core.Path.{_≡_};
-ghost use mathlib.Core.List.{List};
+ghost use mathlib.Core.List.{List, _++_};
 ghost use Prim.Native.Nat.{ℕ, _≤_, _<_, _-_};
-ghost use lib.ListN.{length, drop};
+ghost use lib.ListN.{length, take, drop};
 ghost use Rattle.words.specs.Room.{Room};
 ghost use Rattle.notation.specs.Grammar.{space, opening, closing, backslash, lineMost};
 ghost use Rattle.notation.specs.Reader.{digitByte, apply, isIndex, lambda, opens, onBegun, settle, onDigit, onClose, step, sign, lineWords};
-ghost use Rattle.parser.specs.Scan.{stateOf, steppedOf, begunBy, begunOf, parsedOf, powerMost, roomMost, Within, StepWithin, Ahead, Settled, Parses};
+ghost use Rattle.parser.specs.Scan.{stateOf, steppedOf, begunBy, begunOf, parsedOf, powerMost, roomMost, Within, StepWithin, Ahead, Settled, Stays, WordsStay, Parses};
 
 // The bytes of the notation beside the digits.
 const SPACE: u8 = b' ';
@@ -74,7 +74,7 @@ fn is_index(value: u32, power: u32) -> bool
 // Puts so many applications in front of the words from `at` on, and returns where they start. A word without a payload is its kind.
 fn put_applications(out: &mut [u32], at: usize, count: usize) -> usize
     requires { ⌜ (count ≤ at) × (at ≤ length (now out)) ⌝ }
-    ensures { λ r. ⌜ (r ≡ at - count) × (drop r (now (out .exit)) ≡ apply count (drop at (now (out .entry)))) ⌝ }
+    ensures { λ r. ⌜ (r ≡ at - count) × (now (out .exit) ≡ take r (now (out .entry)) ++ apply count (drop at (now (out .entry)))) ⌝ }
 {
     let mut i = at;
     let mut left = count;
@@ -111,6 +111,7 @@ fn on_digit(s: Scan, d: u32) -> Step
 fn on_closing(s: Scan, stack: &mut [usize]) -> Step
     requires { ⌜ (0 < s .top) × (s .top ≤ length (now stack)) ⌝ }
     ensures { λ r. ⌜ ((R : ℕ) → Within (length (now (stack .entry))) R s → StepWithin (length (now (stack .entry))) R r) × ((out : List ℕ) → steppedOf r (now (stack .exit)) out ≡ onClose (stateOf s (now (stack .entry)) out)) ⌝ }
+    ensures { λ r. ⌜ Stays (λ t. t .top) r (now (stack .entry)) (now (stack .exit)) ⌝ }
 {
     if s.power != 1 {
         return Step::Outside;
@@ -130,6 +131,7 @@ fn on_closing(s: Scan, stack: &mut [usize]) -> Step
 fn settle(s: Scan, out: &mut [u32]) -> Step
     requires { ⌜ (0 < s .at) × (s .at ≤ length (now out)) × (s .value ≤ powerMost) ⌝ }
     ensures { λ r. ⌜ Settled (length (now (out .entry))) s r × ((stack : List ℕ) → begunOf r stack (now (out .exit)) ≡ settle (stateOf s stack (now (out .entry)))) ⌝ }
+    ensures { λ r. ⌜ Stays (λ t. t .at) r (now (out .entry)) (now (out .exit)) ⌝ }
 {
     if s.power == 0 {
         return Step::On(s);
@@ -154,7 +156,8 @@ fn settle(s: Scan, out: &mut [u32]) -> Step
 // A backslash in front of an item: the term that starts there is whole, and the body of an abstraction.
 fn on_backslash(s: Scan, out: &mut [u32]) -> Step
     requires { ⌜ (s .count < s .at) × (s .at ≤ length (now out)) ⌝ }
-    ensures { λ r. ⌜ ((D : ℕ) → s .top ≤ D → StepWithin D (length (now (out .entry))) r) × ((stack : List ℕ) → steppedOf r stack (now (out .exit)) ≡ onBegun lambda (begunBy s stack (now (out .entry)))) ⌝ }
+    ensures { λ r. ⌜ ((D : ℕ) → s .top ≤ D → StepWithin D (s .at) r) × ((stack : List ℕ) → steppedOf r stack (now (out .exit)) ≡ onBegun lambda (begunBy s stack (now (out .entry)))) ⌝ }
+    ensures { λ r. ⌜ Stays (λ t. t .at) r (now (out .entry)) (now (out .exit)) ⌝ }
 {
     let at = put_applications(out, s.at, s.count) - 1;
     out[at] = Word::ABSTRACTION;
@@ -170,7 +173,8 @@ fn on_backslash(s: Scan, out: &mut [u32]) -> Step
 // An opening parenthesis in front of an item: the term that starts there is whole, and an item of the term around, if there is one.
 fn on_opening(s: Scan, stack: &[usize], out: &mut [u32]) -> Step
     requires { ⌜ (s .count < s .at) × (s .at ≤ length (now out)) × (s .top ≤ length (now stack)) ⌝ }
-    ensures { λ r. ⌜ StepWithin (length (now (stack .entry))) (length (now (out .entry))) r × (steppedOf r (now (stack .entry)) (now (out .exit)) ≡ onBegun opens (begunBy s (now (stack .entry)) (now (out .entry)))) ⌝ }
+    ensures { λ r. ⌜ StepWithin (length (now (stack .entry))) (s .at) r × (steppedOf r (now (stack .entry)) (now (out .exit)) ≡ onBegun opens (begunBy s (now (stack .entry)) (now (out .entry)))) ⌝ }
+    ensures { λ r. ⌜ Stays (λ t. t .at) r (now (out .entry)) (now (out .exit)) ⌝ }
 {
     let top = s.top;
     if top == stack.len() {
@@ -189,7 +193,8 @@ fn on_opening(s: Scan, stack: &[usize], out: &mut [u32]) -> Step
 // A byte in front of an item.
 fn begin(b: u8, s: Scan, stack: &[usize], out: &mut [u32]) -> Step
     requires { ⌜ (s .count < s .at) × (s .at ≤ length (now out)) × (s .top ≤ length (now stack)) ⌝ }
-    ensures { λ r. ⌜ StepWithin (length (now (stack .entry))) (length (now (out .entry))) r × (steppedOf r (now (stack .entry)) (now (out .exit)) ≡ onBegun (sign b) (begunBy s (now (stack .entry)) (now (out .entry)))) ⌝ }
+    ensures { λ r. ⌜ StepWithin (length (now (stack .entry))) (s .at) r × (steppedOf r (now (stack .entry)) (now (out .exit)) ≡ onBegun (sign b) (begunBy s (now (stack .entry)) (now (out .entry)))) ⌝ }
+    ensures { λ r. ⌜ Stays (λ t. t .at) r (now (out .entry)) (now (out .exit)) ⌝ }
 {
     match b {
         SPACE => Step::On(Scan {
@@ -209,6 +214,7 @@ fn begin(b: u8, s: Scan, stack: &[usize], out: &mut [u32]) -> Step
 fn on_byte(b: u8, s: Scan, stack: &mut [usize], out: &mut [u32]) -> Step
     requires { ⌜ Within (length (now stack)) (length (now out)) s × Ahead s ⌝ }
     ensures { λ r. ⌜ StepWithin (length (now (stack .entry))) (length (now (out .entry))) r × (steppedOf r (now (stack .exit)) (now (out .exit)) ≡ step (sign b) (stateOf s (now (stack .entry)) (now (out .entry)))) ⌝ }
+    ensures { λ r. ⌜ Stays (λ t. t .top) r (now (stack .entry)) (now (stack .exit)) × WordsStay r (now (out .entry)) (now (out .exit)) ⌝ }
 {
     if is_digit(b) {
         return on_digit(s, (b - b'0') as u32);

@@ -1,3 +1,3 @@
 pub mod PressCode
 pub mod ShowingLaws
-pub mod Examples
+pub mod Fields

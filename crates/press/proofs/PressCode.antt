@@ -1,23 +1,22 @@
 -- A press as the code makes it: the refusals by their tests, and what is concluded from the words that the rounds leave.
 use Prim.Native.Nat.{ℕ, _+_, _-_, _≤_}
 use mathlib.Core.Path.{_≡_, refl, sym, _∙_, ap, ap₂}
-use mathlib.Core.Bool.{Bool, true, false, cond, _&&_, and-eq-true-iff, true≢false, false≢true}
+use mathlib.Core.Bool.{Bool, true, false, _&&_, and-eq-true-iff, true≢false, false≢true}
 use mathlib.Core.List.{List, [], _∷_, _++_}
-use mathlib.Core.Option.{Option, some, none, Option·getD, Option·elim, Option·none-ne-some}
+use mathlib.Core.Option.{Option, some, none, Option·getD, Option·elim}
 use native.Mathlib.Nat.{le-trans}
 use native.Mathlib.Omega.{arith}
 use lib.Dec.{leb}
 use lib.ListN.{length, take, replicate, length-append}
-use lib.Seq.{take-append-seam}
 use borrow.Author.Tests.{le-leb, leb-true}
 use Rattle.calculus.specs.Term.{Term, var}
 use Rattle.calculus.specs.Words.{words, size, workspaceMost}
-use Rattle.calculus.specs.Read.{read}
 use Rattle.calculus.specs.Workspace.{sized, termAt, padded}
 use Rattle.calculus.specs.Refusal.{WrongWorkspace, OverBudget, NoTerm}
 use Rattle.calculus.specs.Rounds.{Outcome, Shown, rounds}
-use Rattle.calculus.proofs.WorkspaceLaws.{sized-most}
+use Rattle.calculus.proofs.WorkspaceLaws.{sized-most, term-at-exact}
 use Rattle.claim.proofs.Workspaces.{sized-right, sized-scratch}
+use Rattle.words.proofs.ClearLaws.{cleared-padded}
 use Rattle.redex.specs.Held.{held, Holds}
 use Rattle.rounds.specs.Run.{Ready, Ran}
 use Rattle.terms.specs.IsTerm.{isTerm}
@@ -28,15 +27,8 @@ use Rattle.claim.specs.Press.{refuse, conclude, pressTerms, press}
 take-zero-append : (xs ys : List ℕ) → take 0 xs ++ ys ≡ ys
 take-zero-append xs ys = refl
 
--- A term's words cleared behind, in a workspace of C words.
-pub cleared-padded : (C : ℕ) (ws others : List ℕ) (t : Term) (m : ℕ) → ws ≡ words t ++ others → m ≡ size t → length ws ≡ C
-    → take m ws ++ replicate (length ws - m) 0 ≡ padded C (words t)
-cleared-padded C ws others t m e s l =
-    let f : take m ws ≡ words t = ap₂ take s e ∙ take-append-seam (words t) others in
-    ap₂ (λ xs k. xs ++ replicate k 0) f (ap₂ _-_ l s)
-
 -- What the rounds leave: each term fits its workspace, and with the words after the terms cleared it is what `conclude` says.
-module _ {budget : ℕ} {o : Outcome} {a : Shown} {cs ws vs cs′ : List ℕ} (h : Ran budget o a cs ws vs cs′) where
+module _ {C budget : ℕ} {o : Outcome} {a : Shown} {cs ws vs cs′ : List ℕ} (h : Ran C budget o a cs ws vs cs′) where
   left-length : a .left ≡ size (o .left)
   left-length = ap (λ a. a .left) (h .shown-is)
 
@@ -49,7 +41,7 @@ module _ {budget : ℕ} {o : Outcome} {a : Shown} {cs ws vs cs′ : List ℕ} (h
   pub ran-right-fits : a .right ≤ length vs
   ran-right-fits = omega (arith, right-length, ap length (h .right-words), length-append (words (o .right)) (h .right-others))
 
-  pub ran-concludes : (C : ℕ) (s : Session) {l r c : List ℕ} → length cs ≡ C → length ws ≡ C → length vs ≡ C
+  pub ran-concludes : (s : Session) {l r c : List ℕ} → length cs ≡ C
       → l ≡ take (a .left) ws ++ replicate (length ws - a .left) 0 → r ≡ take (a .right) vs ++ replicate (length vs - a .right) 0 → c ≡ take 0 cs′ ++ replicate (length cs′ - 0) 0
       → _≡_ {A = Pressed}
       (record {
@@ -59,9 +51,9 @@ module _ {budget : ℕ} {o : Outcome} {a : Shown} {cs ws vs cs′ : List ℕ} (h
         scratch = c;
       })
       (conclude C s o)
-  ran-concludes C s {l} {r} {c} lc lw lv el er ec i =
-      let left : l ≡ padded C (words (o .left)) = el ∙ cleared-padded C ws (h .left-others) (o .left) (a .left) (h .left-words) left-length lw in
-      let right : r ≡ padded C (words (o .right)) = er ∙ cleared-padded C vs (h .right-others) (o .right) (a .right) (h .right-words) right-length lv in
+  ran-concludes s {l} {r} {c} lc el er ec i =
+      let left : l ≡ padded C (words (o .left)) = el ∙ cleared-padded C ws (h .left-others) (o .left) (a .left) (h .left-words) left-length (h .left-length) in
+      let right : r ≡ padded C (words (o .right)) = er ∙ cleared-padded C vs (h .right-others) (o .right) (a .right) (h .right-words) right-length (h .right-length) in
       let zeros : length cs′ - 0 ≡ C = omega (arith, ap length (h .scratch-room .left), h .scratch-room .length-stays) in
       let scratch : c ≡ replicate C 0 = ec ∙ take-zero-append cs′ (replicate (length cs′ - 0) 0) ∙ ap (λ k. replicate k 0) zeros in
       let a′ = h .shown-is in
@@ -77,14 +69,6 @@ module _ {budget : ℕ} {o : Outcome} {a : Shown} {cs ws vs cs′ : List ℕ} (h
       }
 
 -- The test behind refusal 10, in a workspace.
-within : (ws : List ℕ) (n : ℕ) (b : Bool) {t : Term} → leb n (length ws) ≡ b → cond b (read (take n ws)) none ≡ some t → n ≤ length ws
-within ws n true e h = leb-true n (length ws) e
-within ws n false e h = absurd (Option·none-ne-some _ h)
-
-pub term-within : (ws : List ℕ) (n : ℕ) {t : Term} → termAt ws n ≡ some t → n ≤ length ws
-unfolding termAt
-term-within ws n h = within ws n (leb n (length ws)) refl h
-
 module _ (ws : List ℕ) (n : ℕ) (limit : length ws ≤ workspaceMost) where
   abbrev is-some : Option Term → Bool
   is-some o = Option·elim o false (λ t. true)
@@ -93,7 +77,7 @@ module _ (ws : List ℕ) (n : ℕ) (limit : length ws ≤ workspaceMost) where
   unfolding Option·elim
   tells-none none e h = refl
   tells-none (some t) e h =
-      let b = le-leb n workspaceMost (le-trans (term-within ws n e) limit) in absurd (true≢false (sym (ap (λ x. x && true) b) ∙ h))
+      let b = le-leb n workspaceMost (le-trans (term-at-exact ws n t .0 e .within) limit) in absurd (true≢false (sym (ap (λ x. x && true) b) ∙ h))
 
   tells-some : (b : Bool) (o : Option Term) → (b && is-some o) ≡ true → o ≡ some (Option·getD o (var 0))
   unfolding Option·elim

@@ -7,9 +7,9 @@ use lib.ListN.{length}
 use Rattle.calculus.specs.Words.{workspaceMost}
 use Rattle.calculus.specs.Workspace.{sized, termAt}
 use Rattle.terms.specs.IsTerm.{isTerm}
-use Rattle.calculus.proofs.WorkspaceLaws.{sized-most, sized-equal, first-equal, sized-two}
-use Rattle.press.specs.Showing.{left, right, nothing, showsRight, shorter, showTerms, show}
-use Rattle.press.proofs.PressCode.{term-within, not-term, is-held}
+use Rattle.calculus.proofs.WorkspaceLaws.{sized-most, sized-equal, first-equal, sized-two, held}
+use Rattle.claim.specs.Showing.{left, right, nothing, showsRight, shorter, showTerms, show}
+use Rattle.press.proofs.PressCode.{not-term, is-held}
 
 module _ (ws vs : List ℕ) (l r : ℕ) where
   pub shows-nothing : sized (length ws ∷ length vs ∷ length ws ∷ []) ≡ false → show ws vs l r ≡ nothing
@@ -38,11 +38,11 @@ module _ (ws vs : List ℕ) (l r : ℕ) where
       shows-no-right e = by-terms ∙ ap₂ (showTerms l r) (is-held ws l limit is-left .term) (not-term vs r right-limit e)
 
       pub left-fits : l ≤ length ws
-      left-fits = term-within ws l (is-held ws l limit is-left .term)
+      left-fits = held ws l _ (is-held ws l limit is-left .term) .within
 
       module _ (is-right : isTerm vs r ≡ true) where
         pub right-fits : r ≤ length vs
-        right-fits = term-within vs r (is-held vs r right-limit is-right .term)
+        right-fits = held vs r _ (is-held vs r right-limit is-right .term) .within
 
         shows-shorter : show ws vs l r ≡ shorter l r
         shows-shorter = by-terms ∙ ap₂ (showTerms l r) (is-held ws l limit is-left .term) (is-held vs r right-limit is-right .term)

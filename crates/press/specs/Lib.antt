@@ -1,4 +1,2 @@
--- What a showing does, as a function of everything at entry, and what the code's types stand for.
-pub mod Showing
+-- What the code's types stand for.
 pub mod Types
-pub mod Examples

@@ -1,6 +1,6 @@
 // Showing: the shorter current form.
 ghost use mathlib.Core.Path.{_≡_};
-ghost use Rattle.press.specs.Showing.{showsRight, show, partOf};
+ghost use Rattle.claim.specs.Showing.{showsRight, show, partOf};
 use words::workspace::sized;
 
 // Whether the right form is shown: it has no more words than the left one.

@@ -2,37 +2,37 @@
 use Prim.Native.Nat.{ℕ, _≤_}
 use mathlib.Core.Path.{_≡_, ap}
 use mathlib.Core.Bool.{true, false, not, _&&_, and-eq-true-iff}
-use lib.Dec.{leb, eqb}
+use lib.Dec.{eqb}
 use lib.ListN.{length}
-use borrow.Author.Tests.{leb-true, le-leb, eqb-true, eq-eqb, not-true, not-false}
+use borrow.Author.Tests.{eqb-true, eq-eqb, not-true, not-false}
 use Rattle.calculus.specs.Words.{numeralKind}
 use Rattle.records.specs.Records.{Table, everyOf}
-use Rattle.records.specs.Values.{valueFits, wrongValue}
+use Rattle.records.specs.Values.{valueFits, declaredFits, wrongValue}
 use Rattle.records.specs.Children.{children, isBranch, childrenFit, agrees, recordFits, wrongChildren}
 use Rattle.records.proofs.Sums.{every-at, every-of}
+use Rattle.records.proofs.PayloadLaws.{value-known}
 
 pub record Valued (T : Table) : Type 0 where
-  pub known-kind : (i : ℕ) → 1 ≤ i → i ≤ T .n → T .at i .kind ≤ numeralKind
   pub value-fits : (i : ℕ) → 1 ≤ i → i ≤ T .n → valueFits (T .at i .kind) (T .at i .value) ≡ true
+  pub declared-fits : (i : ℕ) → 1 ≤ i → i ≤ T .n → declaredFits (T .at i .kind) (T .at i .declared) ≡ true
 
 pub valued : (T : Table) → wrongValue T ≡ false → Valued T
 unfolding wrongValue
-valued T h =
-    record {
-      known-kind = λ i l u. leb-true (T .at i .kind) numeralKind (each i l u .0);
-      value-fits = λ i l u. each i l u .1;
-    }
+valued T h = record { value-fits = λ i l u. each i l u .0; declared-fits = λ i l u. each i l u .1 }
   where
-    each : (i : ℕ) → 1 ≤ i → i ≤ T .n → (leb (T .at i .kind) numeralKind ≡ true) × (valueFits (T .at i .kind) (T .at i .value) ≡ true)
+    each : (i : ℕ) → 1 ≤ i → i ≤ T .n
+        → (valueFits (T .at i .kind) (T .at i .value) ≡ true) × (declaredFits (T .at i .kind) (T .at i .declared) ≡ true)
     each i l u = and-eq-true-iff _ _ .0 (every-at (T .n) _ (not-false _ h) i l u)
 
 pub valued-passes : (T : Table) → Valued T → wrongValue T ≡ false
 unfolding wrongValue
-valued-passes T F =
-    ap not (every-of (T .n) _ (λ i l u. and-eq-true-iff _ _ .1 (le-leb _ numeralKind (F .known-kind i l u), F .value-fits i l u)))
+valued-passes T F = ap not (every-of (T .n) _ (λ i l u. and-eq-true-iff _ _ .1 (F .value-fits i l u, F .declared-fits i l u)))
+
+pub known-kind : {T : Table} → Valued T → (i : ℕ) → 1 ≤ i → i ≤ T .n → T .at i .kind ≤ numeralKind
+known-kind {T} F i l u = value-known (T .at i .kind) (T .at i .value) (F .value-fits i l u)
 
 pub record Fitted (T : Table) : Type 0 where
-  pub declared-agrees : (i : ℕ) → 1 ≤ i → i ≤ T .n → agrees (T .declared i) (length (children T i)) ≡ true
+  pub declared-agrees : (i : ℕ) → 1 ≤ i → i ≤ T .n → agrees (T .at i .declared) (length (children T i)) ≡ true
   pub children-fit : (i : ℕ) → 1 ≤ i → i ≤ T .n → childrenFit (T .at i .kind) (children T i) ≡ true
   pub root-term : isBranch (T .at (T .root)) ≡ false
   pub root-last : T .at (T .root) .next ≡ 0
@@ -54,7 +54,7 @@ fitted T h =
     inner = and-eq-true-iff _ _ .0 (outer .0)
 
     record-fits : (i : ℕ) → 1 ≤ i → i ≤ T .n
-        → (agrees (T .declared i) (length (children T i)) ≡ true) × (childrenFit (T .at i .kind) (children T i) ≡ true)
+        → (agrees (T .at i .declared) (length (children T i)) ≡ true) × (childrenFit (T .at i .kind) (children T i) ≡ true)
     record-fits i l u = and-eq-true-iff _ _ .0 (every-at (T .n) (recordFits T) (inner .0) i l u)
 
 pub fitted-passes : (T : Table) → Fitted T → wrongChildren T ≡ false

@@ -25,7 +25,7 @@ link-within T i l h = go (eqb l 0) refl h
     go false e k = leb-true l (T .n) (and-eq-true-iff (ltb i l) (leb l (T .n)) .0 k .1)
 
 -- How many links of record k name record j.
-abbrev links-to : Table → (j k : ℕ) → ℕ
+abbrev pub links-to : Table → (j k : ℕ) → ℕ
 links-to T j k = naming (T .at k .first) j + naming (T .at k .next) j
 
 naming-most : (l j : ℕ) → naming l j ≤ 1

@@ -1,24 +1,25 @@
--- Records part by part, and what a table is that passes refusals 1 and 2.
+-- Records part by part, and which tables pass refusals 1, 2 and 8.
 use Prim.Native.Nat.{ℕ, suc, _+_, _*_, _≤_, _<_}
 use mathlib.Core.Path.{_≡_, refl, ap}
 use mathlib.Core.Bool.{Bool, true, false, true≢false, not, _&&_, _||_, and-eq-true-iff}
 use native.Mathlib.Nat.{mul-le-mul-left}
 use native.Mathlib.Omega.{arith}
-use lib.Dec.{leb, ltb}
-use lib.ListN.{length}
-use borrow.Author.Tests.{leb-true, leb-false, le-ltb, lt-ltb, eqb-true, not-false}
+use lib.Dec.{leb, ltb, eqb}
+use lib.ListN.{length, getD}
+use borrow.Author.Tests.{leb-true, leb-false, le-leb, ltb-false, le-ltb, lt-ltb, eqb-true, eq-eqb, not-false}
 use Rattle.calculus.specs.Words.{workspaceMost}
 use Rattle.records.specs.declared.Form.{Form}
 use Rattle.records.specs.declared.Form.the-variants as form
-use Rattle.records.specs.Records.{Record, entry, Stored, view, Inside}
+use Rattle.records.specs.Records.{Record, entry, Stored, view, Inside, form1, inForm1}
 use Rattle.records.specs.Header.{wrongLength, wrongHeader}
-use Rattle.records.proofs.Tests.{isRecord-true}
+use Rattle.records.specs.Theorems.{Records-exact, Length-exact, Header-exact, Too-long-exact}
+use Rattle.records.proofs.Tests.{isRecord-true, record-isRecord}
 
--- The forms.
+-- The forms. A `match` of one arm tells nothing of what it matched, and this does.
 pub only : (f : Form) → f ≡ form.One
 only form.One = refl
 
--- Equal records, part by part.
+-- Records that are equal part by part, but for what they declare.
 pub record Parts (r s : Record) : Type 0 where
   pub kind : r .kind ≡ s .kind
   pub value : r .value ≡ s .value
@@ -70,3 +71,29 @@ module _ (S : Stored) where
   pub rooted : wrongHeader S ≡ false → (1 ≤ view S .root) × (view S .root ≤ view S .n)
   unfolding wrongHeader
   rooted h = isRecord-true (view S) (view S .root) (and-eq-true-iff (S .form .headerFits (S .words)) _ .0 (not-false _ h) .1)
+
+pub records-exact : Records-exact
+records-exact ws i = (refl, refl, refl, refl, refl, refl, refl)
+
+pub length-exact : Length-exact
+unfolding wrongLength
+length-exact S = (
+  sized S,
+  λ h.
+      let some : 1 ≤ view S .n + 1 = omega arith in
+      let long : S .form .recordWords ≤ length (S .words) = omega (arith, h .2, mul-le-mul-left (S .form .recordWords) some) in
+      rw (le-ltb _ _ long, le-leb 1 (view S .n) (h .0), le-leb (view S .n) workspaceMost (h .1)) (ap not (eq-eqb _ _ (h .2))),
+)
+
+pub header-exact : Header-exact
+unfolding wrongHeader
+header-exact ws = (
+  λ h.
+      let words = and-eq-true-iff (eqb (getD ws 0 0) 1) (eqb (getD ws 3 0) 0) .0 (and-eq-true-iff (form1 .headerFits ws) _ .0 (not-false _ h) .0) in
+      let root = rooted (inForm1 ws) h in
+      (eqb-true _ 1 (words .0), root .0, root .1, eqb-true _ 0 (words .1)),
+  λ h. rw (eq-eqb _ 1 (h .0), eq-eqb _ 0 (h .3)) (ap not (record-isRecord (view (inForm1 ws)) _ (h .1) (h .2))),
+)
+
+pub too-long-exact : Too-long-exact
+too-long-exact T C = (ltb-false C (T .n), le-ltb C (T .n))

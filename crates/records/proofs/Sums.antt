@@ -4,6 +4,7 @@ use mathlib.Core.Path.{_≡_, refl, ap, ap₂, sym, _∙_}
 use mathlib.Core.Bool.{Bool, true, and-eq-true-iff, false, _&&_, and-false}
 use mathlib.Core.Logic.{inl, inr}
 use native.Mathlib.Nat.{zero-mul, one-mul, add-mul, mul-suc, eq-or-lt-of-le}
+use native.Mathlib.Decide.{ℕ-discrete}
 use native.Mathlib.Omega.{arith}
 use borrow.Author.Tests.{eq-eqb, ne-eqb}
 use Rattle.records.specs.Records.{everyOf, sumOf}
@@ -70,6 +71,32 @@ sum-swap zero m f = sym (sum-zeros m)
 sum-swap (suc n) m f =
     ap (λ x. x + sumOf m (f (suc n))) (sum-swap n m f) ∙ sym (sum-add m (λ j. sumOf n (λ i. f i j)) (f (suc n)))
 
+-- A sum is no less than each term; if it is not 0, neither is one of its terms; and if it is at most 1, no two of them are.
+pub sum-least : (n : ℕ) (f : ℕ → ℕ) (j : ℕ) → 1 ≤ j → j ≤ n → f j ≤ sumOf n f
+sum-least zero f j l u = absurd (omega arith)
+sum-least (suc n) f j l u =
+    elim (eq-or-lt-of-le u) [ inl e ↦ omega (arith, ap f e) | inr v ↦ omega (arith, sum-least n f j l (omega arith)) ]
+
+pub sum-some : (n : ℕ) (f : ℕ → ℕ) → 1 ≤ sumOf n f → (j : ℕ) × (1 ≤ j) × (j ≤ n) × (1 ≤ f j)
+sum-some zero f h = absurd (omega arith)
+sum-some (suc n) f h =
+    elim (ℕ-discrete (f (suc n)) 0) [
+      | yes e ↦ let (j, l, u, v) = sum-some n f (omega arith) in (j, l, omega arith, v)
+      | no v ↦ (suc n, omega arith, omega arith, omega (arith, v))
+    ]
+
+pub sum-one : (n : ℕ) (f : ℕ → ℕ) (j k : ℕ) → sumOf n f ≤ 1 → 1 ≤ j → j ≤ n → 1 ≤ f j → 1 ≤ k → k ≤ n → 1 ≤ f k → j ≡ k
+sum-one zero f j k h l u a m v b = absurd (omega arith)
+sum-one (suc n) f j k h l u a m v b =
+    elim (eq-or-lt-of-le u) [
+      | inl e ↦ elim (eq-or-lt-of-le v)
+          [ inl q ↦ e ∙ sym q | inr w ↦ absurd (omega (arith, ap f e, sum-least n f k m (omega arith))) ]
+      | inr w ↦ elim (eq-or-lt-of-le v) [
+        | inl q ↦ absurd (omega (arith, ap f q, sum-least n f j l (omega arith)))
+        | inr x ↦ sum-one n f j k (omega arith) l (omega arith) a m (omega arith) b
+      ]
+    ]
+
 -- Of the indices from 1 to n a link counts the one that it names, and no other.
 pub naming-itself : (l i : ℕ) → l ≡ i → naming l i ≡ 1
 naming-itself l i e = rw (eq-eqb l i e)
@@ -93,3 +120,11 @@ sum-named (suc n) l f h u =
       | inl e ↦ omega (arith, sum-unnamed n l f (λ i v w q. omega arith), times-itself l (suc n) (f (suc n)) e, ap f e)
       | inr v ↦ omega (arith, sum-named n l f h (omega arith), times-other l (suc n) (f (suc n)) (λ q. omega arith))
     ]
+
+-- A sum of terms that are 0 but for one is that one.
+pub sum-only : (n : ℕ) (f : ℕ → ℕ) (j : ℕ) → 1 ≤ j → j ≤ n → ((k : ℕ) → 1 ≤ k → k ≤ n → (k ≡ j → ⊥) → f k ≡ 0) → sumOf n f ≡ f j
+sum-only n f j l u h = sum-eq n f (λ k. naming j k * f k) (λ k v w. only k v w (ℕ-discrete j k)) ∙ sum-named n j f l u
+  where
+    only : (k : ℕ) → 1 ≤ k → k ≤ n → Dec (j ≡ k) → f k ≡ naming j k * f k
+    only k v w (yes e) = sym (times-itself j k (f k) e)
+    only k v w (no x) = h k v w (λ e. x (sym e)) ∙ sym (times-other j k (f k) x)

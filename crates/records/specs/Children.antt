@@ -1,15 +1,15 @@
 -- Refusal 5 ("Numbers for refused calls"): the children of every record, and the root.
 use Prim.Native.Nat.{ℕ, zero, suc, _≤_}
 use mathlib.Core.Path.{_≡_}
-use mathlib.Core.Bool.{Bool, true, false, cond, not, _&&_, _||_}
+use mathlib.Core.Bool.{Bool, true, false, cond, not, _&&_}
 use mathlib.Core.List.{List, [], _∷_}
 use mathlib.Core.Option.{Option, some, none}
-use lib.Dec.{leb, ltb, eqb}
+use lib.Dec.{ltb, eqb}
 use lib.ListN.{length}
-use Rattle.calculus.specs.Words.{variableKind, applicationKind, constructorKind, caseKind, branchKind, numeralKind, tagOf}
-use Rattle.calculus.specs.Accepted.{argumentLimit, branchLimit}
+use Rattle.calculus.specs.Words.{caseKind, branchKind, tagOf}
 use Rattle.records.specs.Records.{Record, Table, everyOf, Stored, view}
 use Rattle.records.specs.Header.{wrongLength}
+use Rattle.records.specs.Values.{numberFits}
 use Rattle.records.specs.Links.{wrongLink}
 
 -- Refusal 5: wrong number or kind of children, over 15 arguments or branches, root a branch or with a next, branch tags not rising.
@@ -39,15 +39,6 @@ abbrev pub chainFits : (branches : Bool) → List Record → Bool
 chainFits b [] = true
 chainFits b (r ∷ rs) = mayStand b r rs && chainFits b rs
 
--- How many children a kind has; a case has its subject and the branches. The last line is for abstractions and branches.
-abbrev pub numberFits : (kind number : ℕ) → Bool
-numberFits k m =
-    cond (eqb k variableKind || eqb k numeralKind) (eqb m 0)
-    (cond (eqb k applicationKind) (eqb m 2)
-    (cond (eqb k constructorKind) (leb m argumentLimit)
-    (cond (eqb k caseKind) (leb 1 m && leb m (suc branchLimit))
-    (eqb m 1))))
-
 -- Which they are: of a case a term and then branches, of any other kind terms.
 abbrev pub subjectFirst : List Record → Bool
 subjectFirst [] = true
@@ -65,7 +56,7 @@ agrees none m = true
 agrees (some k) m = eqb k m
 
 abbrev pub recordFits : Table → ℕ → Bool
-recordFits T i = agrees (T .declared i) (length (children T i)) && childrenFit (T .at i .kind) (children T i)
+recordFits T i = agrees (T .at i .declared) (length (children T i)) && childrenFit (T .at i .kind) (children T i)
 
 unfoldable pub wrongChildren : Table → Bool
 wrongChildren T = not (everyOf (T .n) (recordFits T) && not (isBranch (T .at (T .root))) && eqb (T .at (T .root) .next) 0)

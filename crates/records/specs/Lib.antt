@@ -2,7 +2,9 @@
 pub mod Records
 pub mod Types
 pub mod Header
+pub mod Payload
 pub mod Values
 pub mod Links
 pub mod Children
 pub mod Every
+pub mod Theorems

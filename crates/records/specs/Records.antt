@@ -1,10 +1,10 @@
 -- A stored table as records ("The stored table"). A record has a kind, a value, its first child and its next sibling; links are indices, and 0 is
--- no record. A record may declare how many children it has. What records mean, and what is refused of them, is said of any table of records; a
+-- no record. It may declare how many children it has. What records mean, and what is refused of them, is said of any table of records; a
 -- form is a way to keep such a table as words.
 use Prim.Native.Nat.{ℕ, zero, suc, _+_, _*_, _^_, _≤_, _<_}
 use mathlib.Core.Path.{_≡_}
 use mathlib.Core.Bool.{Bool, true, false, _&&_}
-use mathlib.Core.List.{List, [], _∷_}
+use mathlib.Core.List.{List, [], _∷_, _++_}
 use mathlib.Core.Option.{Option, none}
 use native.Mathlib.Omega.{arith}
 use lib.Dec.{leb, eqb}
@@ -13,18 +13,19 @@ use lib.ListN.{length, getD}
 pub record Record : Type 0 where
   pub kind : ℕ
   pub value : ℕ
+  pub declared : Option ℕ
   pub first : ℕ
   pub next : ℕ
 
+-- A record that declares nothing.
 abbrev pub entry : (kind value first next : ℕ) → Record
-entry k v f x = record { kind = k; value = v; first = f; next = x }
+entry k v f x = record { kind = k; value = v; declared = none; first = f; next = x }
 
--- n records, numbered from 1, the index of the root, and how many children a record declares, if it does.
+-- n records, numbered from 1, and the index of the root.
 pub record Table : Type 0 where
   pub n : ℕ
   pub root : ℕ
   pub at : ℕ → Record
-  pub declared : ℕ → Option ℕ
 
 -- Record i is one of the table's and has this kind.
 abbrev pub OfKind : Table → (kind i : ℕ) → Type 0
@@ -43,16 +44,18 @@ abbrev pub sumOf : ℕ → (ℕ → ℕ) → ℕ
 sumOf zero f = 0
 sumOf (suc n) f = sumOf n f + f (suc n)
 
--- A form: its number, how many words a record has, whether the header is one of this form, and the record whose words start at a position, with
--- the number of children that it declares. Record 0 is the header; in every form it starts with the form's number, n and the root's index, so that
--- a record has three words at least.
+-- A form: its number and how many words a record has; whether the header is one of this form, and the record whose words start at a position; and
+-- the words of a header and of a record. Record 0 is the header; in every form it starts with the form's number, n and the root's index, so that
+-- a record has three words at least. None has more than four.
 pub record Form : Type 0 where
   pub number : ℕ
   pub recordWords : ℕ
   pub headerFits : List ℕ → Bool
   pub recordFrom : List ℕ → (position : ℕ) → Record
-  pub declaredFrom : List ℕ → (position : ℕ) → Option ℕ
+  pub headerWords : (n root : ℕ) → List ℕ
+  pub recordAs : Record → List ℕ
   pub three : 3 ≤ recordWords
+  pub four : recordWords ≤ 4
 
 -- A table as words in a form, and its records.
 pub record Stored : Type 0 where
@@ -68,11 +71,8 @@ headerRoot ws = getD ws 2 0
 abbrev pub recordAt : Stored → ℕ → Record
 recordAt S i = S .form .recordFrom (S .words) (S .form .recordWords * i)
 
-abbrev pub declaredAt : Stored → ℕ → Option ℕ
-declaredAt S i = S .form .declaredFrom (S .words) (S .form .recordWords * i)
-
 abbrev pub view : Stored → Table
-view S = record { n = headerCount (S .words); root = headerRoot (S .words); at = recordAt S; declared = declaredAt S }
+view S = record { n = headerCount (S .words); root = headerRoot (S .words); at = recordAt S }
 
 -- The words of record i are there.
 abbrev pub Inside : Stored → ℕ → Type 0
@@ -85,9 +85,11 @@ form1 =
       number = 1;
       recordWords = 4;
       headerFits = λ ws. eqb (getD ws 0 0) 1 && eqb (getD ws 3 0) 0;
-      recordFrom = λ ws p. record { kind = getD ws p 0; value = getD ws (p + 1) 0; first = getD ws (p + 2) 0; next = getD ws (p + 3) 0 };
-      declaredFrom = λ ws p. none;
+      recordFrom = λ ws p. entry (getD ws p 0) (getD ws (p + 1) 0) (getD ws (p + 2) 0) (getD ws (p + 3) 0);
+      headerWords = λ n root. 1 ∷ n ∷ root ∷ 0 ∷ [];
+      recordAs = λ r. r .kind ∷ r .value ∷ r .first ∷ r .next ∷ [];
       three = omega arith;
+      four = omega arith;
     }
 
 abbrev pub inForm1 : List ℕ → Stored
@@ -96,7 +98,7 @@ inForm1 ws = record { form = form1; words = ws }
 -- The words of records in form 1, one record after the other.
 abbrev pub recordsWords : List Record → List ℕ
 recordsWords [] = []
-recordsWords (r ∷ rs) = r .kind ∷ r .value ∷ r .first ∷ r .next ∷ recordsWords rs
+recordsWords (r ∷ rs) = form1 .recordAs r ++ recordsWords rs
 
 -- Both links of a record fit a word of 32 bits.
 pub record Puttable (r : Record) : Type 0 where

@@ -24,4 +24,4 @@ declaredOf declared.Nothing = none
 declaredOf (declared.Children m) = some m
 
 abbrev pub recordOf : codeRecord.Record → Record
-recordOf r = record { kind = r .kind; value = r .value; first = r .first; next = r .next }
+recordOf r = record { kind = r .kind; value = r .value; declared = declaredOf (r .declared); first = r .first; next = r .next }

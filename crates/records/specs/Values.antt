@@ -1,24 +1,34 @@
--- Refusal 3 ("Numbers for refused calls"): kinds and values.
-use Prim.Native.Nat.{ℕ}
-use mathlib.Core.Bool.{Bool, cond, not, _&&_}
+-- Refusal 3 ("Numbers for refused calls"): kinds, values, and what records declare.
+use Prim.Native.Nat.{ℕ, suc}
+use mathlib.Core.Bool.{Bool, true, cond, not, _&&_, _||_}
+use mathlib.Core.Option.{Option, some, none}
 use lib.Dec.{leb, eqb}
-use Rattle.calculus.specs.Words.{variableKind, constructorKind, branchKind, numeralKind, tagOf, countOf}
-use Rattle.calculus.specs.Accepted.{numeralLimit, indexLimit}
-use Rattle.words.specs.Pattern.{isTag, isPattern}
+use Rattle.calculus.specs.Words.{variableKind, applicationKind, constructorKind, caseKind, numeralKind}
+use Rattle.calculus.specs.Accepted.{argumentLimit, branchLimit}
+use Rattle.words.specs.Pattern.{isTag}
+use Rattle.words.specs.Payload.{payloadFits}
 use Rattle.records.specs.Records.{Record, Table, everyOf}
 
--- Refusal 3: a kind above 6, or a value outside its range. A variable's value is at most 32,767, a constructor's is a tag, a branch's is
--- tag × 16 + bound, which is 0 for the default, a numeral's is at most 31, every other is 0.
+-- Refusal 3: a kind above 6, or a value outside its range. A constructor's value is a tag, a case's is 0, and any other is the payload of a word of its kind.
 unfoldable pub valueFits : (kind value : ℕ) → Bool
-valueFits k v =
-    cond (eqb k variableKind) (leb v indexLimit)
-    (cond (eqb k constructorKind) (isTag v)
-    (cond (eqb k branchKind) (isPattern (tagOf v) (countOf v))
-    (cond (eqb k numeralKind) (leb v numeralLimit)
-    (eqb v 0))))
+valueFits k v = cond (eqb k constructorKind) (isTag v) (cond (eqb k caseKind) (eqb v 0) (payloadFits k v))
+
+-- How many children a kind has; a case has its subject and the branches. The last line is for abstractions and branches.
+abbrev pub numberFits : (kind number : ℕ) → Bool
+numberFits k m =
+    cond (eqb k variableKind || eqb k numeralKind) (eqb m 0)
+    (cond (eqb k applicationKind) (eqb m 2)
+    (cond (eqb k constructorKind) (leb m argumentLimit)
+    (cond (eqb k caseKind) (leb 1 m && leb m (suc branchLimit))
+    (eqb m 1))))
+
+-- A declared number of children is one that the kind has.
+abbrev pub declaredFits : (kind : ℕ) (declared : Option ℕ) → Bool
+declaredFits k none = true
+declaredFits k (some m) = numberFits k m
 
 abbrev pub valued : Record → Bool
-valued r = leb (r .kind) numeralKind && valueFits (r .kind) (r .value)
+valued r = valueFits (r .kind) (r .value) && declaredFits (r .kind) (r .declared)
 
 unfoldable pub wrongValue : Table → Bool
 wrongValue T = not (everyOf (T .n) (λ i. valued (T .at i)))

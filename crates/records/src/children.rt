@@ -5,15 +5,13 @@ use crate::Record;
 use crate::every::Question;
 use crate::every::every;
 use crate::root;
+use crate::values::number_fits;
 use words::Word;
 ghost use mathlib.Core.Path.{_≡_};
-ghost use mathlib.Core.Bool.{_&&_};
-ghost use Prim.Native.Nat.{suc, _≤_};
-ghost use lib.Dec.{leb};
+ghost use Prim.Native.Nat.{_≤_};
 ghost use lib.ListN.{length};
-ghost use Rattle.calculus.specs.Accepted.{branchLimit};
 ghost use Rattle.records.specs.Types.{declaredOf, stored, viewed};
-ghost use Rattle.records.specs.Children.{startsAbove, mayStand, chainFits, numberFits, sortsFit, agrees, recordFits, wrongChildren, chainFrom, Walkable};
+ghost use Rattle.records.specs.Children.{startsAbove, mayStand, chainFits, sortsFit, agrees, recordFits, wrongChildren, chainFrom, Walkable};
 
 // How many records a chain has.
 pub fn chain_length(table: &[u32], form: Form, link: usize) -> usize
@@ -70,29 +68,6 @@ fn chain_fits(table: &[u32], form: Form, link: usize, branches: bool) -> bool
     true
 }
 
-// Whether a record of this kind may have so many children.
-fn number_fits(kind: u32, number: usize) -> bool
-    ensures { λ r. ⌜ r ≡ numberFits kind number ⌝ }
-{
-    match kind {
-        Word::VARIABLE | Word::NUMERAL => number == 0,
-        Word::APPLICATION => number == 2,
-        Word::CONSTRUCTOR => number <= Word::ARGUMENTS_MOST as usize,
-        Word::CASE => is_case_number(number),
-        _ => number == 1,
-    }
-}
-
-// Whether so many children are a subject and no more branches than a case may have.
-fn is_case_number(number: usize) -> bool
-    ensures { λ r. ⌜ r ≡ (leb 1 number && leb number (suc branchLimit)) ⌝ }
-{
-    if number < 1 {
-        return false;
-    }
-    number <= Word::BRANCHES_MOST as usize + 1
-}
-
 // Whether the chain of children of a record of this kind has terms and branches where they belong.
 fn sorts_fit(table: &[u32], form: Form, kind: u32, link: usize) -> bool
     requires { ⌜ Walkable (stored form (now table)) link ⌝ }
@@ -128,7 +103,8 @@ pub fn record_fits(table: &[u32], form: Form, i: usize) -> bool
 {
     let record = Record::at(table, form, i);
     let number = chain_length(table, form, record.first);
-    if !agrees(form.declared(table, i), number) {
+    let declared = record.declared;
+    if !agrees(declared, number) {
         return false;
     }
     if !number_fits(record.kind, number) {

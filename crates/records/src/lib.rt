@@ -4,17 +4,17 @@ mod every;
 use words::Word;
 use words::slices::copy;
 ghost use mathlib.Core.Path.{_≡_};
-ghost use Prim.Native.Nat.{_*_, _<_};
-ghost use mathlib.Core.List.{[], _∷_};
+ghost use Prim.Native.Nat.{_*_, _^_, _<_};
 ghost use lib.ListN.{length, getD};
 ghost use lib.Seq.{sets};
 ghost use Rattle.calculus.specs.Words.{tagOf};
-ghost use Rattle.records.specs.Records.{headerCount, headerRoot, recordAt, declaredAt, Inside, form1, inForm1, recordsWords, Puttable};
-ghost use Rattle.records.specs.Types.{formOf, stored, declaredOf, recordOf};
+ghost use Rattle.records.specs.Records.{headerCount, headerRoot, recordAt, Inside, form1, inForm1, Puttable};
+ghost use Rattle.records.specs.Types.{formOf, stored, recordOf};
 
 pub mod children;
 pub mod header;
 pub mod links;
+pub mod payload;
 pub mod values;
 
 pub enum Form {
@@ -22,12 +22,17 @@ pub enum Form {
 }
 
 impl Form {
+    // The number of form 1, which its header starts with, and the words of a record in it.
+    pub const ONE: u32 = 1;
+
+    pub const ONE_WORDS: usize = 4;
+
     // The words of a record.
     pub fn words(self) -> usize
         ensures { λ r. ⌜ r ≡ formOf self .recordWords ⌝ }
     {
         match self {
-            Form::One => Record::WORDS,
+            Form::One => Form::ONE_WORDS,
         }
     }
 
@@ -41,12 +46,13 @@ impl Form {
         }
     }
 
-    // How many children record i declares. Form 1 declares none.
-    pub fn declared(self, table: &[u32], i: usize) -> Declared
-        ensures { λ r. ⌜ declaredOf r ≡ declaredAt (stored self (now (table .entry))) i ⌝ }
+    // Puts the header of a table of n records.
+    pub fn put_header(self, table: &mut [u32], n: usize, root: usize)
+        requires { ⌜ Inside (stored self (now table)) 0 × (n < 2 ^ 32) × (root < 2 ^ 32) ⌝ }
+        ensures { λ _. ⌜ now (table .exit) ≡ sets (now (table .entry)) 0 (formOf self .headerWords n root) ⌝ }
     {
         match self {
-            Form::One => Declared::Nothing,
+            Form::One => put_header_one(table, n as u32, root as u32),
         }
     }
 }
@@ -60,16 +66,12 @@ pub enum Declared {
 pub struct Record {
     pub kind: u32,
     pub value: u32,
+    pub declared: Declared,
     pub first: usize,
     pub next: usize,
 }
 
 impl Record {
-    // Form 1: its number and the words of a record.
-    pub const FORM: u32 = 1;
-
-    pub const WORDS: usize = 4;
-
     // The record at an index.
     pub fn at(table: &[u32], form: Form, i: usize) -> Self
         requires { ⌜ Inside (stored form (now table)) i ⌝ }
@@ -84,22 +86,32 @@ impl Record {
         requires { ⌜ Inside (inForm1 (now table)) i ⌝ }
         ensures { λ r. ⌜ recordOf r ≡ recordAt (inForm1 (now (table .entry))) i ⌝ }
     {
-        let from = Record::WORDS * i;
+        let from = Form::ONE_WORDS * i;
         Record {
             kind: table[from],
             value: table[from + 1],
+            declared: Declared::Nothing,
             first: index_at(table, from + 2),
             next: index_at(table, from + 3),
         }
     }
 
-    // Puts the record at an index of a table in form 1, the header at 0.
-    pub fn put(self, table: &mut [u32], i: usize)
+    // Puts the record at an index.
+    pub fn put(self, table: &mut [u32], form: Form, i: usize)
+        requires { ⌜ Inside (stored form (now table)) i × Puttable (recordOf self) ⌝ }
+        ensures { λ _. ⌜ now (table .exit) ≡ sets (now (table .entry)) (formOf form .recordWords * i) (formOf form .recordAs (recordOf self)) ⌝ }
+    {
+        match form {
+            Form::One => self.put_one(table, i),
+        }
+    }
+
+    fn put_one(self, table: &mut [u32], i: usize)
         requires { ⌜ Inside (inForm1 (now table)) i × Puttable (recordOf self) ⌝ }
-        ensures { λ _. ⌜ now (table .exit) ≡ sets (now (table .entry)) (form1 .recordWords * i) (recordsWords (recordOf self ∷ [])) ⌝ }
+        ensures { λ _. ⌜ now (table .exit) ≡ sets (now (table .entry)) (form1 .recordWords * i) (form1 .recordAs (recordOf self)) ⌝ }
     {
         let words = [self.kind, self.value, self.first as u32, self.next as u32];
-        copy(&words, 0, Record::WORDS, table, Record::WORDS * i);
+        copy(&words, 0, Form::ONE_WORDS, table, Form::ONE_WORDS * i);
     }
 
     // The tag of a branch.
@@ -114,10 +126,18 @@ fn header_one(table: &[u32]) -> bool
     requires { ⌜ Inside (inForm1 (now table)) 0 ⌝ }
     ensures { λ r. ⌜ r ≡ form1 .headerFits (now (table .entry)) ⌝ }
 {
-    if table[0] != Record::FORM {
+    if table[0] != Form::ONE {
         return false;
     }
     table[3] == 0
+}
+
+fn put_header_one(table: &mut [u32], n: u32, root: u32)
+    requires { ⌜ Inside (inForm1 (now table)) 0 ⌝ }
+    ensures { λ _. ⌜ now (table .exit) ≡ sets (now (table .entry)) 0 (form1 .headerWords n root) ⌝ }
+{
+    let words = [Form::ONE, n, root, 0];
+    copy(&words, 0, Form::ONE_WORDS, table, 0);
 }
 
 // The word at a position, as an index or a number of records.
@@ -145,6 +165,6 @@ pub fn root(table: &[u32]) -> usize
 
 // Does nothing. Its contract says that each constant is the number that the definitions give its name.
 fn constants()
-    ensures { λ r. do ⌜ (← ⟦Record::FORM⟧ .entry) ≡ form1 .number ⌝ }
-    ensures { λ r. do ⌜ (← ⟦Record::WORDS⟧ .entry) ≡ form1 .recordWords ⌝ }
+    ensures { λ r. do ⌜ (← ⟦Form::ONE⟧ .entry) ≡ form1 .number ⌝ }
+    ensures { λ r. do ⌜ (← ⟦Form::ONE_WORDS⟧ .entry) ≡ form1 .recordWords ⌝ }
 {}

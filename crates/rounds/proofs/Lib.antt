@@ -1,2 +1,3 @@
 pub mod RunCode
 pub mod RunLoop
+pub mod Fields

@@ -18,10 +18,11 @@ use Rattle.step.specs.Contract as step
 use Rattle.redex.specs.Next as stepNext
 use Rattle.turn.specs.Turn.{Plan, normal, contract, planAt, planned}
 use Rattle.turn.specs.Types.{planOf}
-use Rattle.resume.specs.Resume.{resumeAt}
+use Rattle.turn.specs.Resume.{resumeAt}
 use Rattle.rounds.specs.Advance.{Advances, scratchAfter, Advanced}
 use Rattle.redex.proofs.HeldLaws.{next-term, Start, termAt-start}
-use Rattle.turn.proofs.TurnLaws.{Planned, is-normal, contracts, planned-tells, next-is, next-normal}
+use Rattle.calculus.proofs.RoundsLaws.{next-is, next-normal}
+use Rattle.turn.proofs.TurnLaws.{Planned, is-normal, contracts, planned-tells}
 
 -- The search may start at the first word.
 pub searched : {ws : List ℕ} {n : ℕ} → Holds ws n → Searched ws n 0

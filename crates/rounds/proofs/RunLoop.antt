@@ -3,7 +3,7 @@
 use Prim.Native.Nat.{ℕ, _+_, _-_, _*_, _≤_}
 use mathlib.Core.Path.{_≡_, refl, sym, _∙_, ap, subst, subst⁻¹}
 use mathlib.Core.List.{List, _++_}
-use mathlib.Core.Option.{some}
+use mathlib.Core.Option.{Option, some, none}
 use native.Mathlib.Omega.{arith}
 use lib.ListN.{length, take, drop}
 use lib.Seq.{length-take-le}
@@ -12,7 +12,7 @@ use Rattle.calculus.specs.Words.{workspaceMost, words, size}
 use Rattle.calculus.specs.Accepted.{Accepted}
 use Rattle.calculus.specs.Workspace.{termAt}
 use Rattle.calculus.specs.Comparison.{Comparison, compareWords, compare, positionOf}
-use Rattle.calculus.specs.Rounds.{Verdict, shownPosition, shows, Round, ends, goes, round, next, nextLength, same, roundBy, ended, after, rounds}
+use Rattle.calculus.specs.Rounds.{Verdict, Shown, shownPosition, shows, Round, ends, goes, round, next, nextLength, atOnce, roundBy, ended, after, rounds}
 use Rattle.calculus.proofs.AcceptedLaws.{leftmost-keeps-accepted}
 use Rattle.calculus.proofs.WorkspaceLaws.{termAt-words}
 use Rattle.redex.specs.Held.{held, Holds}
@@ -20,18 +20,18 @@ use Rattle.search.specs.declared.Plan as code
 use Rattle.search.specs.Search as search
 use Rattle.search.specs.Search.{Searched}
 use Rattle.turn.specs.Compare.{Agrees, Compares}
-use Rattle.turn.specs.Turn.{Plan, lengthIn, planned, atOnce}
-use Rattle.resume.specs.Resume.{agreeAfter, Agreeing}
+use Rattle.turn.specs.Turn.{Plan, lengthIn, planned, atOnceIn}
+use Rattle.turn.specs.Resume.{agreeAfter, Agreeing}
 use Rattle.rounds.specs.Advance.{Advances, Advanced}
 use Rattle.rounds.specs.Run.{Ready, Ran}
 use Rattle.turn.proofs.CompareLaws.{agrees-none, compared-agrees}
 use Rattle.words.proofs.RoomLaws.{room-of-length}
 use Rattle.redex.proofs.HeldLaws.{held-term, holds-term, Start, termAt-start}
-use Rattle.resume.proofs.ResumeLaws.{resumes}
-use Rattle.resume.proofs.AgreeLaws.{agree-after}
+use Rattle.turn.proofs.ResumeLaws.{resumes}
+use Rattle.turn.proofs.AgreeLaws.{agree-after}
 use Rattle.rounds.proofs.RunCode.{searched}
-use Rattle.calculus.proofs.RoundsLaws.{Goes, goes-on, goes-wider, Moves, here, further, rounds-end, rounds-go, walk-fits, after-zero, after-after}
-use Rattle.turn.proofs.TurnLaws.{Planned, is-normal, contracts, planned-tells, next-is, next-normal, planned-length, asked}
+use Rattle.calculus.proofs.RoundsLaws.{next-is, next-normal, Goes, goes-on, goes-wider, Moves, here, further, rounds-end, rounds-go, walk-fits, after-zero, after-after}
+use Rattle.turn.proofs.TurnLaws.{Planned, is-normal, contracts, planned-tells, planned-length, asked}
 
 begins : {ws : List ℕ} {n : ℕ} → Holds ws n → Start ws n (held ws n)
 begins {ws} {n} h = termAt-start ws n (held ws n) (h .term)
@@ -41,8 +41,8 @@ module _ {ws vs : List ℕ} {n m : ℕ} (h : Holds ws n) (k : Holds vs m) where
   compares-terms : compareWords (take n ws) (take m vs) ≡ compare (held ws n) (held vs m)
   compares-terms = rw (begins h .taken, begins k .taken)
 
-  same-asked : atOnce (compareWords (take n ws) (take m vs)) ≡ same (held ws n) (held vs m)
-  same-asked = ap atOnce compares-terms ∙ asked (held ws n) (held vs m) (begins h .accepted) (begins k .accepted)
+  asked-here : atOnceIn (take n ws) (take m vs) ≡ atOnce (held ws n) (held vs m)
+  asked-here = rw (← begins h .taken, ← begins k .taken) (asked (held ws n) (held vs m) (begins h .accepted) (begins k .accepted))
 
 next-accepted : (t : Term) → Accepted 0 t → Accepted 0 (next t)
 next-accepted t h = by (planned-tells t)
@@ -74,6 +74,10 @@ module _ {ws ws′ scratch scratch′ : List ℕ} {n r from : ℕ} {todo : code.
         holds = advanced-holds;
         before = λ p l. rw advanced-held (resumes (held ws n) r (planned-tells (held ws n)) p (omega (arith, a .resumes)));
       }
+
+-- What is shown with a verdict, by the two terms compared.
+abbrev pub shownAt : Verdict → Comparison → (spent m n : ℕ) → Shown
+shownAt v c spent m n = record { verdict = v; spent = spent; left = m; right = n; position = shownPosition v c }
 
 -- What holds before each turn: both terms, where the search on each side goes on, and the words that agree.
 pub record Going (left₀ right₀ scratch₀ : List ℕ) (l r budget : ℕ) (left right scratch room : List ℕ) (m i n j agree spent : ℕ) : Type 0 where
@@ -124,14 +128,21 @@ module _ {left₀ right₀ scratch₀ : List ℕ} {l r budget : ℕ} {left right
   pub compares : Compares left m right n agree
   compares = record { left-fits = left-fits; right-fits = right-fits; agrees = g .agrees }
 
-  -- What the calls before the judgement tell: the two terms compared, and both plans.
-  module _ {c : Comparison} {a b : Plan} (s : c ≡ compareWords (take m left) (take n right)) (p : a ≡ planned (held left m)) (q : b ≡ planned (held right n)) where
-    pub judged : {x : Round} → x ≡ round (atOnce c) (length left) (budget - spent) (lengthIn a) (lengthIn b)
-        → roundBy same (length left₀) (budget - spent) (held left m) (held right n) ≡ x
-    judged e =
-        let first = same-asked (g .ready .left-holds) (g .ready .right-holds) in
-        sym (rw (e, p, q, g .left-kept, s, first, planned-length (held left m), planned-length (held right n)))
+  -- A round that is answered at once, and one that is not, by both plans.
+  module _ {e : Option Verdict} (h : e ≡ atOnceIn (take m left) (take n right)) where
+    asked-is : atOnce (held left m) (held right n) ≡ e
+    asked-is = sym (h ∙ asked-here (g .ready .left-holds) (g .ready .right-holds))
 
+    pub answered : {v : Verdict} → e ≡ some v → roundBy atOnce (length left₀) (budget - spent) (held left m) (held right n) ≡ ends v
+    answered k = rw (asked-is ∙ k)
+
+    pub judged : {a b : Plan} {x : Round} → e ≡ none → a ≡ planned (held left m) → b ≡ planned (held right n)
+        → x ≡ round none (length left) (budget - spent) (lengthIn a) (lengthIn b)
+        → roundBy atOnce (length left₀) (budget - spent) (held left m) (held right n) ≡ x
+    judged k p q j = sym (rw (j, p, q, g .left-kept, asked-is ∙ k, planned-length (held left m), planned-length (held right n)))
+
+  -- What the calls tell that go on from there: the two terms compared, and both plans.
+  module _ {c : Comparison} {a b : Plan} (s : c ≡ compareWords (take m left) (take n right)) (p : a ≡ planned (held left m)) (q : b ≡ planned (held right n)) where
     -- The words before the position where they differ agree.
     module _ {shared : ℕ} (at : shared ≡ positionOf c) where
       shared-agrees : Agrees shared (take m left) (take n right)
@@ -150,33 +161,36 @@ module _ {left₀ right₀ scratch₀ : List ℕ} {l r budget : ℕ} {left right
           (agree-after ls rs (omega (arith, left-fits, g .ready .left-holds .limit)) (omega (arith, right-fits, g .ready .right-holds .limit))
           (rw (ls .taken, rs .taken) shared-agrees) (planned-tells (held left m)) (planned-tells (held right n)))
 
-  pub ran : {v : Verdict} {position : ℕ} {scratch₁ : List ℕ} → length scratch₁ ≡ length scratch → position ≡ shownPosition v (compareWords (take m left) (take n right))
-      → roundBy same (length left₀) (budget - spent) (held left m) (held right n) ≡ ends v
-      → Ran budget (rounds (length left₀) budget (held left₀ l) (held right₀ r)) (record { verdict = v; spent = spent; left = m; right = n; position = position }) scratch₀ left right scratch₁
-  ran {v} {position} kept at t =
+  pub ran : {v : Verdict} {shown : Shown} {scratch₁ : List ℕ} → length scratch₁ ≡ length scratch
+      → shown ≡ shownAt v (compareWords (take m left) (take n right)) spent m n
+      → roundBy atOnce (length left₀) (budget - spent) (held left m) (held right n) ≡ ends v
+      → Ran (length left₀) budget (rounds (length left₀) budget (held left₀ l) (held right₀ r)) shown scratch₀ left right scratch₁
+  ran {v} kept e t =
       let o : after spent (ended v (held left m) (held right n)) ≡ rounds (length left₀) budget (held left₀ l) (held right₀ r)
-      = sym (ap (after spent) (rounds-end same (length left₀) (budget - spent) (held left m) (held right n) t)) ∙ g .rest in
+      = sym (ap (after spent) (rounds-end atOnce (length left₀) (budget - spent) (held left m) (held right n) t)) ∙ g .rest in
       let ls = begins (g .ready .left-holds) in
       let rs = begins (g .ready .right-holds) in
       let all : spent ≡ spent + 0 = omega arith in
-      let points : position ≡ shownPosition v (compare (held left m) (held right n)) = at ∙ ap (shownPosition v) (compares-terms (g .ready .left-holds) (g .ready .right-holds)) in
-      let here-shown : record { verdict = v; spent = spent; left = m; right = n; position = position } ≡ shows (after spent (ended v (held left m) (held right n)))
+      let points = ap (shownPosition v) (compares-terms (g .ready .left-holds) (g .ready .right-holds)) in
+      let here-shown : shownAt v (compareWords (take m left) (take n right)) spent m n ≡ shows (after spent (ended v (held left m) (held right n)))
       = λ i. record { verdict = v; spent = all i; left = sym (ls .long) i; right = sym (rs .long) i; position = points i } in
       record {
-        shown-is = here-shown ∙ ap shows o;
-        within = g .within;
+        shown-is = e ∙ here-shown ∙ ap shows o;
+        within = omega (arith, ap (λ a. a .spent) e, g .within);
         left-others = drop m left;
         left-words = sym (ls .start) ∙ ap (λ k. words (k .left) ++ drop m left) o;
+        left-length = g .left-kept;
         right-others = drop n right;
         right-words = sym (rs .start) ∙ ap (λ k. words (k .right) ++ drop n right) o;
+        right-length = g .ready .right-length ∙ g .left-kept;
         scratch-room = room-of-length (kept ∙ g .scratch-kept);
       }
 
-  module _ {p : ℕ} (t : roundBy same (length left₀) (budget - spent) (held left m) (held right n) ≡ goes p) where
-    goes-here : Goes (same (held left m) (held right n)) (length left₀) (budget - spent) (nextLength (held left m)) (nextLength (held right n)) p
-    goes-here = goes-on (same (held left m) (held right n)) (length left₀) (budget - spent) (nextLength (held left m)) (nextLength (held right n)) t
+  module _ {p : ℕ} (t : roundBy atOnce (length left₀) (budget - spent) (held left m) (held right n) ≡ goes p) where
+    goes-here : Goes (atOnce (held left m) (held right n)) (length left₀) (budget - spent) (nextLength (held left m)) (nextLength (held right n)) p
+    goes-here = goes-on (atOnce (held left m) (held right n)) (length left₀) (budget - spent) (nextLength (held left m)) (nextLength (held right n)) t
 
-    moves : Moves same (length left₀) p (held left m) (held right n)
+    moves : Moves atOnce (length left₀) p (held left m) (held right n)
     moves = goes-wider {C′ = length left₀} {rest′ = p} (omega arith) (omega arith) goes-here
 
     pub spends : (1 ≤ p) × (p ≤ budget - spent)
@@ -184,7 +198,7 @@ module _ {left₀ right₀ scratch₀ : List ℕ} {l r budget : ℕ} {left right
 
     both-fit : (size (next (held left m)) ≤ length left) × (size (next (held right n)) ≤ length left)
     both-fit =
-        let f = walk-fits same (further moves here) in
+        let f = walk-fits atOnce (further moves here) in
         let lm : size (held left m) ≤ length left₀ = omega (arith, begins (g .ready .left-holds) .long, left-fits, g .left-kept) in
         let rn : size (held right n) ≤ length left₀ = omega (arith, begins (g .ready .right-holds) .long, right-fits, g .left-kept, g .ready .right-length) in
         (omega (arith, f .0 lm, g .left-kept), omega (arith, f .1 rn, g .left-kept))
@@ -241,7 +255,7 @@ module _ {left₀ right₀ scratch₀ : List ℕ} {l r budget : ℕ} {left right
               rest =
                   rw (advanced-held (g .ready .left-holds) lk la, advanced-held (g .ready .right-holds) rk ra, less)
                   (sym (after-after spent p (rounds (length left₀) (budget - spent - p) (next (held left m)) (next (held right n))))
-                  ∙ ap (after spent) (sym (rounds-go same moves (budget - spent - p)))
+                  ∙ ap (after spent) (sym (rounds-go atOnce moves (budget - spent - p)))
                   ∙ ap (λ b. after spent (rounds (length left₀) b (held left m) (held right n))) whole
                   ∙ g .rest);
             }

@@ -12,7 +12,7 @@ use Rattle.redex.specs.Held.{held, Holds}
 use Rattle.redex.specs.Plan.{contractum}
 use Rattle.search.specs.Search.{Planned}
 use Rattle.turn.specs.Turn.{planned}
-use Rattle.resume.specs.Resume.{resumeAt}
+use Rattle.turn.specs.Resume.{resumeAt}
 
 -- The workspace holds a term of so many words, the plan is the one for it, the next term fits the workspace and the scratch, and a walk the room.
 pub record Advances (ws : List ℕ) (wordCount : ℕ) (todo : Plan) (scratch room : List ℕ) : Type 0 where

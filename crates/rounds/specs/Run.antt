@@ -15,13 +15,15 @@ pub record Ready (left right scratch : List ℕ) (leftLength rightLength : ℕ) 
   pub right-length : length right ≡ length left
   pub scratch-length : length scratch ≡ length left
 
--- The workspaces hold the two terms that the rounds with a budget end in. The words after a term, and those of the scratch, are free: the press
+-- The workspaces, of C words, hold the two terms that the rounds with a budget end in. The words after a term, and those of the scratch, are free: the press
 -- clears them.
-pub record Ran (budget : ℕ) (end : Outcome) (shown : Shown) (scratch left right scratch′ : List ℕ) : Type 0 where
+pub record Ran (C budget : ℕ) (end : Outcome) (shown : Shown) (scratch left right scratch′ : List ℕ) : Type 0 where
   pub shown-is : shown ≡ shows end
   pub within : shown .spent ≤ budget
   pub left-others : List ℕ
   pub left-words : left ≡ words (end .left) ++ left-others
+  pub left-length : length left ≡ C
   pub right-others : List ℕ
   pub right-words : right ≡ words (end .right) ++ right-others
+  pub right-length : length right ≡ C
   pub scratch-room : Room scratch scratch′

@@ -1,22 +1,26 @@
 // The rounds of a press, on two workspaces that hold terms.
+ghost use mathlib.Core.Path.{_≡_};
 ghost use lib.ListN.{length};
-ghost use Rattle.calculus.specs.Rounds.{rounds};
+ghost use Rattle.calculus.specs.Rounds.{shownPosition, rounds};
+ghost use Rattle.turn.specs.Types.{verdictOf, comparisonOf};
 ghost use Rattle.rounds.specs.Run.{Ready, Ran};
 ghost use Rattle.rounds.specs.Types.{shownOf};
 ghost use Rattle.redex.specs.Held.{held};
-use resume::agreed;
+use current::Current;
+use current::advance;
 use search::find;
-use side::Side;
-use side::advance;
+use turn::Early;
 use turn::Round;
 use turn::Verdict;
-use turn::compare::compare_terms;
+use turn::ask;
+use turn::compare::Comparison;
 use turn::compare::position;
 use turn::judge;
+use turn::resume::agreed;
 use turn::shown_position;
 use words::Word;
 
-mod side;
+mod current;
 
 // What a press shows: the verdict, spent, both lengths and the position, where the terms differ with Different and otherwise 0.
 pub struct Shown {
@@ -25,6 +29,27 @@ pub struct Shown {
     pub left: usize,
     pub right: usize,
     pub position: usize,
+}
+
+impl Shown {
+    // What is shown where the rounds end.
+    fn new(
+        verdict: Verdict,
+        spent: u32,
+        left: Current,
+        right: Current,
+        compared: Comparison,
+    ) -> Self
+        ensures { λ r. ⌜ shownOf r ≡ record { verdict = verdictOf verdict; spent = spent; left = left .length; right = right .length; position = shownPosition (verdictOf verdict) (comparisonOf compared) } ⌝ }
+    {
+        Self {
+            verdict,
+            spent,
+            left: left.length,
+            right: right.length,
+            position: shown_position(verdict, compared),
+        }
+    }
 }
 
 // Room for the scopes of a walk: a scope that is kept took two words.
@@ -40,26 +65,25 @@ pub fn run(
     budget: u32,
 ) -> Shown
     requires { ⌜ Ready (now left) (now right) (now scratch) «left_length» «right_length» ⌝ }
-    ensures { λ shown. ⌜ Ran budget (rounds (length (now (left .entry))) budget (held (now (left .entry)) «left_length») (held (now (right .entry)) «right_length»)) (shownOf shown) (now (scratch .entry)) (now (left .exit)) (now (right .exit)) (now (scratch .exit)) ⌝ }
+    ensures { λ shown. ⌜ Ran (length (now (left .entry))) budget (rounds (length (now (left .entry))) budget (held (now (left .entry)) «left_length») (held (now (right .entry)) «right_length»)) (shownOf shown) (now (scratch .entry)) (now (left .exit)) (now (right .exit)) (now (scratch .exit)) ⌝ }
 {
-    let mut left_side = Side::first(left_length);
-    let mut right_side = Side::first(right_length);
+    let mut left_side = Current::first(left_length);
+    let mut right_side = Current::first(right_length);
     let mut room = [0u32; ROOM];
     let mut agree: usize = 0;
     let mut spent: u32 = 0;
     loop {
-        let compared = compare_terms(left, left_side.length, right, right_side.length, agree);
+        let asked = ask(left, left_side.length, right, right_side.length, agree);
+        let compared = asked.compared;
+        let early = asked.early;
+        if let Early::Ends(verdict) = early {
+            return Shown::new(verdict, spent, left_side, right_side, compared);
+        }
         let left_plan = find(left, left_side.length, left_side.from, scratch);
         let right_plan = find(right, right_side.length, right_side.from, scratch);
-        match judge(compared, left_plan, right_plan, budget - spent, left.len()) {
+        match judge(left_plan, right_plan, budget - spent, left.len()) {
             Round::Ends(verdict) => {
-                return Shown {
-                    verdict,
-                    spent,
-                    left: left_side.length,
-                    right: right_side.length,
-                    position: shown_position(verdict, compared),
-                };
+                return Shown::new(verdict, spent, left_side, right_side, compared);
             }
             Round::Goes(count) => {
                 agree = agreed(

@@ -1,6 +1,6 @@
 // The search for the leftmost redex of the term in a workspace, and the plan of its contraction.
 mod ends;
-mod seen;
+pub mod seen;
 
 use ends::fill_ends;
 use redex::Redex;

@@ -9,15 +9,16 @@ use native.Mathlib.Omega.{arith}
 use borrow.Author.Tests.{eq-eqb, ne-eqb}
 use lib.Dec.{eqb}
 use lib.ListN.{length, getD, drop, set, replicate, length-set, drop-of-length-le}
-use lib.Seq.{drop-cons, getD-set-same, getD-set-other}
+use lib.Seq.{drop-cons, drop-set-lt, getD-set-same, getD-set-other}
 use Rattle.calculus.specs.Accepted.{argumentLimit}
 use Rattle.calculus.specs.Skip.{arity, span}
 use Rattle.words.specs.Bound.{bound}
+use Rattle.words.proofs.RoomLaws.{drop-replicate}
 use Rattle.walk.specs.Depths.{depths}
 use Rattle.walk.specs.Rewritten.{place}
 use Rattle.substitution.specs.Measure.{occurrences, Measurable, Measures}
-use Rattle.walk.specs.Scopes.{toCome, Entered}
-use Rattle.walk.proofs.ScopeLaws.{come-first}
+use Rattle.walk.proofs.ScopeLaws.{toCome, come-first}
+use Rattle.walk.proofs.EnterLaws.{Entered}
 use Rattle.substitution.proofs.WalkLaws.{starts-some}
 use Rattle.substitution.proofs.Walking.{Walking, walking-start, walking-done, walking-within, walking-number, walking-next, nothing-left}
 
@@ -51,6 +52,7 @@ pub record Counting (src : List ℕ) (body n : ℕ) (room₀ room occurs : List 
   pub small : (j : ℕ) → getD occurs j 0 ≤ i - body
   pub counted : (j : ℕ) → j < n
       → getD occurs j 0 + occurrences n j (toCome pending depth (drop top room)) (drop i src) ≡ occurrences n j (0 ∷ []) (drop body src)
+  pub rest : drop n occurs ≡ replicate (suc argumentLimit - n) 0
   pub passed : 0 < i - body → last ≡ getD (depths (0 ∷ []) (drop body src)) (i - body - 1) 0
 
 pub counting-start : {src room occurs : List ℕ} {body n : ℕ} → Measurable src body n room → occurs ≡ replicate (suc argumentLimit) 0
@@ -65,6 +67,7 @@ counting-start {src} {room} {occurs} {body} {n} h z =
       places = ap length z;
       small = λ j. omega (arith, zeros j);
       counted = λ j l. rw (zeros j, drop-of-length-le room {i = length room} (omega arith)) (omega arith);
+      rest = rw z (drop-replicate 0 n (suc argumentLimit));
       passed = λ q. absurd (omega arith);
     }
 
@@ -77,6 +80,7 @@ module _ {src : List ℕ} {body n : ℕ} {room₀ room occurs : List ℕ} {i pen
       record {
         ends = e;
         occur = λ j l. omega (arith, rw (nothing-left (v .walking) z) at (v .counted j l), occurrences-done n j (drop i src));
+        rest = v .rest;
         last-is = v .passed (omega (arith, e, v .some));
       }
 
@@ -87,14 +91,14 @@ module _ {src : List ℕ} {body n : ℕ} {room₀ room occurs : List ℕ} {i pen
 
     counting-turn : {occurs′ : List ℕ} {pending′ depth′ top′ : ℕ} {room′ : List ℕ}
         → ((j : ℕ) → j < n → getD occurs′ j 0 ≡ getD occurs j 0 + cond (eqb (place n depth w) j) 1 0) → ((j : ℕ) → getD occurs′ j 0 ≤ getD occurs j 0 + 1)
-        → length occurs′ ≡ length occurs → Entered (arity w) (bound w) pending depth top room pending′ depth′ top′ room′ → length room′ ≡ length room
+        → length occurs′ ≡ length occurs → drop n occurs′ ≡ drop n occurs → Entered (arity w) (bound w) pending depth top room pending′ depth′ top′ room′
         → Counting src body n room₀ room′ occurs′ (i + 1) pending′ depth′ top′ depth
-    counting-turn told few same entered kept =
+    counting-turn told few same behind entered =
         let u = v .walking in
         let more = walking-within u some in
         let shift : i + 1 - body - 1 ≡ i - body = omega (arith, more) in
         record {
-          walking = walking-next u some entered kept;
+          walking = walking-next u some entered;
           some = v .some;
           few = v .few;
           places = same ∙ v .places;
@@ -106,30 +110,31 @@ module _ {src : List ℕ} {body n : ℕ} {room₀ room occurs : List ℕ} {i pen
                 told j h,
                 rw (come-first pending depth (drop top room) (omega arith), drop-cons src i 0 (more .0)) at (v .counted j h),
               ));
+          rest = behind ∙ v .rest;
           passed = λ q. sym (walking-number u some) ∙ ap (λ m. getD (depths (0 ∷ []) (drop body src)) m 0) (sym shift);
         }
 
     -- An argument stands for the word.
     pub counting-next : {k pending′ depth′ top′ : ℕ} {room′ : List ℕ} → k ≡ place n depth w → k < n
-        → Entered (arity w) (bound w) pending depth top room pending′ depth′ top′ room′ → length room′ ≡ length room
+        → Entered (arity w) (bound w) pending depth top room pending′ depth′ top′ room′
         → Counting src body n room₀ room′ (set occurs k (getD occurs k 0 + 1)) (i + 1) pending′ depth′ top′ depth
-    counting-next {k} e l entered kept =
+    counting-next {k} e l entered =
         let inside : k < length occurs = omega (arith, l, v .few, v .places) in
         counting-turn
         (λ j h. told-set occurs k j inside ∙ ap (λ q. getD occurs j 0 + cond (eqb q j) 1 0) e)
         (λ j. omega (arith, told-set occurs k j inside, one (eqb k j)))
         (length-set occurs k _)
+        (drop-set-lt n occurs k _ l)
         entered
-        kept
 
     -- None does.
     pub counting-past : {k pending′ depth′ top′ : ℕ} {room′ : List ℕ} → k ≡ place n depth w → n ≤ k
-        → Entered (arity w) (bound w) pending depth top room pending′ depth′ top′ room′ → length room′ ≡ length room
+        → Entered (arity w) (bound w) pending depth top room pending′ depth′ top′ room′
         → Counting src body n room₀ room′ occurs (i + 1) pending′ depth′ top′ depth
-    counting-past {k} e l entered kept =
+    counting-past {k} e l entered =
         counting-turn
         (λ j h. rw (ne-eqb (place n depth w) j (λ q. omega (arith, q, e, l, h))) (omega arith))
         (λ j. omega arith)
         refl
+        refl
         entered
-        kept

@@ -19,11 +19,11 @@ use Rattle.words.proofs.PlacedLaws.{sets-append}
 use Rattle.walk.specs.Depths.{depths}
 use Rattle.walk.specs.Rewritten.{shifting, substituting, rewritten, standing}
 use Rattle.substitution.specs.Results.{Starts, Shiftable, shifted, Substitutable, substituted}
-use Rattle.walk.specs.Scopes.{toCome, Entered}
 use Rattle.walk.proofs.DepthLaws.{length-items, span-depths}
 use Rattle.substitution.proofs.Traversal.{marked, flat, MovableWord}
 use Rattle.substitution.proofs.ResultLaws.{movable-starts, shift-starts, subst-starts}
-use Rattle.walk.proofs.ScopeLaws.{come-first}
+use Rattle.walk.proofs.ScopeLaws.{toCome, come-first}
+use Rattle.walk.proofs.EnterLaws.{Entered}
 use Rattle.substitution.proofs.Walking.{Walking, walking-start, walking-some, walking-within, walking-inside, walking-number, walking-next, walking-lent}
 
 pub placed-as : {before after vs us : List ℕ} {out end : ℕ} → vs ≡ us → Placed before out vs after end → Placed before out us after end
@@ -53,9 +53,8 @@ pub rewriting-start : (f : ℕ → ℕ → Term) {src dst room : List ℕ} {body
     → Starts (drop body src) (firstTerm (drop body src)) → span 1 (drop body src) ≤ 2 * length room → body ≤ stop → stop ≤ body + span 1 (drop body src)
     → Rewriting f src body stop dst out room dst room out body 1 0 (length room)
 rewriting-start f {room = room} out short h enough from to =
-    let w = walking-start short h enough in
     let none : drop (length room) room ≡ [] = drop-of-length-le room {i = length room} (omega arith) in
-    record { walking = w; before = from; ends = to; kept = refl; work = rw none; position = rw none }
+    record { walking = walking-start short h enough; before = from; ends = to; kept = refl; work = rw none; position = rw none }
 
 module _ {f : ℕ → ℕ → Term} {src : List ℕ} {body stop : ℕ} {dst₀ : List ℕ} {out : ℕ} {room₀ dst room : List ℕ} {o i pending depth top : ℕ}
     (v : Rewriting f src body stop dst₀ out room₀ dst room o i pending depth top) where
@@ -91,12 +90,12 @@ module _ {f : ℕ → ℕ → Term} {src : List ℕ} {body stop : ℕ} {dst₀ :
     rewriting-room = omega (arith, v .position, ap length next-is, length-append here (standing f (stop - (i + 1)) (replicate (arity w) (depth + bound w) ++ ds) (drop (i + 1) src)))
 
     pub rewriting-next : {o′ pending′ depth′ top′ : ℕ} {dst′ room′ : List ℕ} → Placed dst o here dst′ o′
-        → Entered (arity w) (bound w) pending depth top room pending′ depth′ top′ room′ → length room′ ≡ length room
+        → Entered (arity w) (bound w) pending depth top room pending′ depth′ top′ room′
         → Rewriting f src body stop dst₀ out room₀ dst′ room′ o′ (i + 1) pending′ depth′ top′
-    rewriting-next n entered same =
+    rewriting-next n entered =
         let rest = standing f (stop - (i + 1)) (replicate (arity w) (depth + bound w) ++ ds) (drop (i + 1) src) in
         record {
-          walking = walking-next (v .walking) rewriting-some entered same;
+          walking = walking-next (v .walking) rewriting-some entered;
           before = omega arith;
           ends = v .ends;
           kept = ap length (n .slice) ∙ length-sets dst o here ∙ v .kept;

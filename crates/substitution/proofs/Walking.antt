@@ -9,12 +9,15 @@ use Rattle.calculus.specs.Words.{workspaceMost, kindOf, payloadOf}
 use Rattle.calculus.specs.Skip.{arity, span}
 use Rattle.calculus.specs.First.{firstTerm}
 use Rattle.words.specs.Bound.{bound}
+use Rattle.words.proofs.BoundLaws.{binding-few}
 use Rattle.words.proofs.Spans.{arity-bounded}
 use Rattle.walk.specs.Depths.{depths}
 use Rattle.substitution.specs.Results.{Starts}
-use Rattle.walk.specs.Scopes.{scopeBase, expanded, toCome, Stands, Enters, Entered}
-use Rattle.walk.proofs.DepthLaws.{bound-few, binder-one}
-use Rattle.walk.proofs.ScopeLaws.{come-first}
+use Rattle.walk.specs.declared.scope.Scope.{Scope}
+use Rattle.walk.specs.Scopes.{scopeBase, Enters, entered}
+use Rattle.walk.proofs.DepthLaws.{binder-one}
+use Rattle.walk.proofs.ScopeLaws.{expanded, toCome, come-first}
+use Rattle.walk.proofs.EnterLaws.{Stands, Entered, entered-means}
 use Rattle.substitution.proofs.WalkLaws.{Walk, walk-start, walk-word, walk-few, walk-done, depth-bounded, depth-is, walk-inside}
 
 pub record Walking (src : List ℕ) (body : ℕ) (room₀ room : List ℕ) (i pending depth top : ℕ) : Type 0 where
@@ -23,11 +26,6 @@ pub record Walking (src : List ℕ) (body : ℕ) (room₀ room : List ℕ) (i pe
   pub short : length src ≤ workspaceMost
   pub enough : span 1 (drop body src) ≤ 2 * length room₀
   pub same-length : length room ≡ length room₀
-
--- The scope behind a word, by its numbers.
-pub entered-word : (w : ℕ) {items binders pending depth top pending′ depth′ top′ : ℕ} {room room′ : List ℕ} → items ≡ arity w → binders ≡ bound w
-    → Entered items binders pending depth top room pending′ depth′ top′ room′ → Entered (arity w) (bound w) pending depth top room pending′ depth′ top′ room′
-entered-word w follow bind e = rw (follow, bind) at e
 
 pub walking-start : {src room : List ℕ} {body : ℕ} → length src ≤ workspaceMost → Starts (drop body src) (firstTerm (drop body src))
     → span 1 (drop body src) ≤ 2 * length room → Walking src body room room body 1 0 (length room)
@@ -89,7 +87,7 @@ module _ {src : List ℕ} {body : ℕ} {room₀ room : List ℕ} {i pending dept
         record {
           counts = rw follow (arity-bounded w number);
           one = λ l. follow ∙ binder-one w (rw bind at l);
-          few-binders = bound-few (kindOf w) (payloadOf w) bind;
+          few-binders = rw bind (binding-few (kindOf w) (payloadOf w));
           pends = omega arith;
           few = omega (arith, walk-few (v .walk), length-left, v .short);
           shallow = walking-depth;
@@ -97,16 +95,22 @@ module _ {src : List ℕ} {body : ℕ} {room₀ room : List ℕ} {i pending dept
           free = λ l. omega (arith, v .stands .more l, walking-inside, v .enough, v .same-length, v .walk .from);
         }
 
+    -- The scope behind a word, by its numbers.
+    pub walking-entered : {w items binders : ℕ} {next : Scope} {room′ : List ℕ} → w < 2 ^ 32 → items ≡ arity w → binders ≡ bound w
+        → (next, room′) ≡ entered items binders (record { pending = pending; depth = depth; top = top }) room
+        → Entered (arity w) (bound w) pending depth top room (next .pending) (next .depth) (next .top) room′
+    walking-entered number follow bind e = rw (follow, bind) at (entered-means (walking-enters number follow bind) e)
+
     pub walking-next : {pending′ depth′ top′ : ℕ} {room′ : List ℕ}
-        → Entered (arity (getD src i 0)) (bound (getD src i 0)) pending depth top room pending′ depth′ top′ room′ → length room′ ≡ length room → Walking src body room₀ room′ (i + 1) pending′ depth′ top′
-    walking-next entered kept =
+        → Entered (arity (getD src i 0)) (bound (getD src i 0)) pending depth top room pending′ depth′ top′ room′ → Walking src body room₀ room′ (i + 1) pending′ depth′ top′
+    walking-next entered =
         let shift : i + 1 - body ≡ i - body + 1 = omega (arith, v .walk .from) in
         record {
           walk = rw (entered .come) (walk-word next-walk (walking-within .0));
           stands = rw shift (entered .stands (i - body) (v .stands));
           short = v .short;
           enough = v .enough;
-          same-length = kept ∙ v .same-length;
+          same-length = entered .same-length ∙ v .same-length;
         }
 
 -- A nested walk may write before `top`.

@@ -1,5 +1,5 @@
 -- What one walk over a body finds: where it ends, how often each of n bound indices occurs in it, and the binders around its last word.
-use Prim.Native.Nat.{ℕ, _+_, _*_, _-_, _≤_, _<_}
+use Prim.Native.Nat.{ℕ, suc, _+_, _*_, _-_, _≤_, _<_}
 use mathlib.Core.Path.{_≡_}
 use mathlib.Core.Bool.{cond}
 use mathlib.Core.List.{List, [], _∷_, _++_}
@@ -27,7 +27,9 @@ pub record Measurable (src : List ℕ) (body n : ℕ) (room : List ℕ) : Type 0
   pub starts : Starts (drop body src) (firstTerm (drop body src))
   pub enough : span 1 (drop body src) ≤ 2 * length room
 
+-- Behind the last argument's the places hold 0.
 pub record Measures (src : List ℕ) (body n end last : ℕ) (occurs : List ℕ) : Type 0 where
   pub ends : end ≡ body + span 1 (drop body src)
   pub occur : (j : ℕ) → j < n → getD occurs j 0 ≡ occurrences n j (0 ∷ []) (drop body src)
+  pub rest : drop n occurs ≡ replicate (suc argumentLimit - n) 0
   pub last-is : last ≡ getD (depths (0 ∷ []) (drop body src)) (end - body - 1) 0

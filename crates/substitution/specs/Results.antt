@@ -3,7 +3,7 @@ use Prim.Native.Nat.{ℕ, _+_, _*_, _-_, _≤_, _<_}
 use mathlib.Core.Path.{_≡_}
 use mathlib.Core.List.{List, [], _∷_}
 use lib.IntN.{ℤ}
-use lib.ListN.{length, getD, take, drop}
+use lib.ListN.{length, getD, take, drop, replicate}
 use Rattle.calculus.specs.Term.{Sort, Exp, Term, count}
 use Rattle.calculus.specs.Words.{workspaceMost, words, size}
 use Rattle.calculus.specs.Accepted.{argumentLimit, indexLimit}
@@ -20,6 +20,11 @@ use Rattle.walk.specs.Rewritten.{place}
 pub record Starts {s : Sort} (ws : List ℕ) (e : Exp s) : Type 0 where
   pub first : take (size e) ws ≡ words e
   pub packable : Packable e
+
+-- The positions at which n consecutive items from position `at` on start, and behind them the position `after`; the places behind that hold 0.
+pub record Positions (ws : List ℕ) (at after n : ℕ) (starts : List ℕ) : Type 0 where
+  pub each : (j : ℕ) → j < n → getD starts j 0 ≡ at + span j (drop at ws)
+  pub rest : drop n starts ≡ after ∷ replicate (argumentLimit - n) 0
 
 -- The term at a position with its free indices moved.
 unfoldable pub shifted : List ℕ → (at : ℕ) → ℤ → Term

@@ -12,9 +12,9 @@ use words::extent;
 use words::slices::copy;
 ghost use mathlib.Core.Path.{_≡_};
 ghost use mathlib.Core.List.{[], _∷_};
-ghost use Prim.Native.Nat.{ℕ, _+_, _-_, _*_, _≤_, _<_};
+ghost use Prim.Native.Nat.{_+_, _-_, _*_, _≤_, _<_};
 ghost use lib.IntN.{pos};
-ghost use lib.ListN.{length, drop, getD};
+ghost use lib.ListN.{length, drop};
 ghost use Rattle.calculus.specs.Words.{words, size, workspaceMost};
 ghost use Rattle.calculus.specs.Accepted.{argumentLimit};
 ghost use Rattle.calculus.specs.Skip.{span};
@@ -23,7 +23,7 @@ ghost use Rattle.words.specs.Placed.{Placed};
 ghost use Rattle.words.specs.Room.{Room};
 ghost use Rattle.walk.specs.Index.{distanceBound};
 ghost use Rattle.walk.specs.Rewritten.{substituting, standing};
-ghost use Rattle.substitution.specs.Results.{Shiftable, shifted, Substitutes};
+ghost use Rattle.substitution.specs.Results.{Positions, Shiftable, shifted, Substitutes};
 
 // A place for each argument of a redex, and one more.
 const PLACES: usize = Word::ARGUMENTS_MOST as usize + 1;
@@ -31,7 +31,7 @@ const PLACES: usize = Word::ARGUMENTS_MOST as usize + 1;
 // The positions at which `count` consecutive items start, and after them the end of the last, where the caller knows it.
 fn starts(src: &[u32], args: usize, after: usize, count: usize) -> [usize; PLACES]
     requires { ⌜ (length (now src) ≤ workspaceMost) × (count ≤ argumentLimit) ⌝ }
-    ensures { λ r. ⌜ (after ≡ args + span count (drop args (now (src .entry))) → (j : ℕ) → j ≤ count → getD r j 0 ≡ args + span j (drop args (now (src .entry)))) ⌝ }
+    ensures { λ r. ⌜ Positions (now (src .entry)) args after count r ⌝ }
 {
     let mut starts = [0usize; PLACES];
     starts[0] = args;

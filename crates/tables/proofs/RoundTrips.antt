@@ -19,7 +19,7 @@ use Rattle.records.proofs.Fits.{fitted}
 use Rattle.calculus.proofs.WorkspaceLaws.{workspace-short}
 use Rattle.tables.proofs.Written.Standing.{records-length}
 use Rattle.tables.proofs.Written.TableWords.{stand-words}
-use Rattle.records.proofs.RecordLaws.{entry-path, sized}
+use Rattle.records.proofs.RecordLaws.{sized}
 use Rattle.tables.proofs.Written.PrefixStanding.{root-stands}
 use Rattle.tables.proofs.LoadLaws.{Passes, passes, passes-unmet, header-words, load-returned, loading-exact}
 use Rattle.tables.proofs.Written.WriteLaws.{write-returned, write-filled}
@@ -44,7 +44,7 @@ in-order-table table t C p m size-is order =
     stand-words (entry (form1 .number) (size t) 1 0 ∷ records 1 0 t) table 0 T
     (omega (arith, sized (inForm1 table) (p .length-fits) .2, records-length t 1 0))
     (λ j. let same : 0 + j ≡ j = omega arith in ap (recordAt (inForm1 table)) same)
-    (entry-path (eqb-true _ _ (header .0)) (sym size-is) (stands .0) (eqb-true _ _ (header .1)), stands .1)
+    (record { kind = eqb-true _ _ (header .0); value = sym size-is; first = stands .0; next = eqb-true _ _ (header .1) }, stands .1)
 
 pub write-after-load : Write-after-load
 write-after-load table workspace out l answered same-length =

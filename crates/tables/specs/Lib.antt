@@ -6,3 +6,4 @@ pub mod Load
 pub mod Write
 pub mod PrefixOrder
 pub mod Theorems
+pub mod Examples

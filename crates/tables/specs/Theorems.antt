@@ -10,7 +10,8 @@ use Rattle.calculus.specs.Term.{Sort, term, Exp, Term}
 use Rattle.calculus.specs.Words.{words, size}
 use Rattle.calculus.specs.Accepted.{Accepted}
 use Rattle.calculus.specs.Workspace.{wrongWorkspace}
-use Rattle.calculus.specs.Refusal.{Refusal}
+use Rattle.calculus.specs.Refusal.{Refusal, WrongLength, WrongWorkspace, NoTerm}
+use Rattle.calculus.specs.Theorems.{Held}
 use Rattle.calculus.specs.Bringing.{refused, returned, FirstMet, NoneMet}
 use Rattle.records.specs.Records.{Table, form1, Stored, view, inForm1, isRecord}
 use Rattle.tables.specs.Meaning.{Means, meaning}
@@ -20,7 +21,7 @@ use Rattle.records.specs.Children.{wrongChildren}
 use Rattle.tables.specs.FreeNumbers.{wrongFree}
 use Rattle.tables.specs.Load.{checks, loadStored, load}
 use Rattle.tables.specs.PrefixOrder.{InPrefixOrder}
-use Rattle.tables.specs.Write.{write}
+use Rattle.tables.specs.Write.{tableOf, Written, write}
 
 -- A table of records, in any form, whose root is one of them and that meets none of refusals 3 to 6.
 pub record Sound (T : Table) : Type 0 where
@@ -63,6 +64,22 @@ pub record LoadsExactly (S : Stored) (workspace : List ℕ) : Type 0 where
 
 abbrev pub Loading-exact : Type 0
 Loading-exact = (S : Stored) (workspace : List ℕ) → LoadsExactly S workspace
+
+-- Writing refuses by 7, then 10, then 1, and leaves the lent table as it was; otherwise this is the table of the term, with its records in prefix order, and
+-- their number is returned.
+abbrev pub tableKept : (table : List ℕ) → Refusal → Written
+tableKept table why = record { answer = refused why; table = table }
+
+pub record WritesExactly (workspace : List ℕ) (len : ℕ) (table : List ℕ) : Type 0 where
+  pub wrong-workspace : wrongWorkspace (length workspace) ≡ true → write workspace len table ≡ tableKept table WrongWorkspace
+  pub no-term : wrongWorkspace (length workspace) ≡ false → ((t : Term) → Held workspace len t → ⊥) → write workspace len table ≡ tableKept table NoTerm
+  pub wrong-length : wrongWorkspace (length workspace) ≡ false → (t : Term) → Held workspace len t → (length table ≡ 4 * (len + 1) → ⊥)
+      → write workspace len table ≡ tableKept table WrongLength
+  pub leaves : wrongWorkspace (length workspace) ≡ false → (t : Term) → Held workspace len t → length table ≡ 4 * (len + 1)
+      → write workspace len table ≡ record { answer = returned len; table = tableOf t }
+
+abbrev pub Writing-exact : Type 0
+Writing-exact = (workspace : List ℕ) (len : ℕ) (table : List ℕ) → WritesExactly workspace len table
 
 -- Loading what was written gives the term again: for every accepted term that a workspace holds, whatever stands after it there and in the two
 -- lent parts that are written to.

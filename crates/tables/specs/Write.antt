@@ -37,7 +37,7 @@ records i x (branch t n b bs) =
 
 -- The header, and the records with the root at index 1.
 abbrev pub tableOf : Term → List ℕ
-tableOf t = recordsWords (entry (form1 .number) (size t) 1 0 ∷ records 1 0 t)
+tableOf t = form1 .headerWords (size t) 1 ++ recordsWords (records 1 0 t)
 
 -- Everything at exit; the workspace is only read.
 pub record Written : Type 0 where

@@ -3,7 +3,6 @@ mod free_numbers;
 
 use free_numbers::wrong_free;
 use records::Form;
-use records::Record;
 use records::children::wrong_children;
 use records::count;
 use records::header::wrong_header;
@@ -116,7 +115,7 @@ pub fn write(workspace: &[u32], length: usize, table: &mut [u32]) -> Answer
     if !is_term(workspace, length) {
         return Answer::Refused(Refusal::NoTerm);
     }
-    if table.len() != Record::WORDS * (length + 1) {
+    if table.len() != Form::ONE_WORDS * (length + 1) {
         return Answer::Refused(Refusal::WrongLength);
     }
     put_table(&workspace[..length], table);

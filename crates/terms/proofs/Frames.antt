@@ -1,22 +1,13 @@
--- What a frame allows and what it leaves, by the tests that the code makes; and a bound on the binders of a word.
+-- What a frame allows and what it leaves, by the tests that the code makes.
 use Prim.Native.Nat.{ℕ, zero, suc, _-_, _≤_, _<_}
 use mathlib.Core.Path.{_≡_, refl, ap}
-use mathlib.Core.Bool.{Bool, true, false, cond}
+use mathlib.Core.Bool.{Bool, true, false, cond, not, _&&_}
 use native.Mathlib.Omega.{arith}
 use lib.Dec.{eqb}
-use Rattle.calculus.specs.Words.{abstractionKind, branchKind, tagOf, countOf}
-use Rattle.calculus.specs.Accepted.{argumentLimit}
-use Rattle.words.specs.Bound.{binding}
+use borrow.Author.Tests.{ne-eqb}
+use Rattle.calculus.specs.Words.{branchKind, tagOf}
+use Rattle.words.specs.Payload.{payloadFits}
 use Rattle.terms.specs.Frames.{frame, startsTerm, startsBranch, allowedBy, restBy}
-
-pub binding-bounded : (k p : ℕ) → binding k p ≤ argumentLimit
-unfolding binding
-binding-bounded k p = go (eqb k abstractionKind) (eqb k branchKind)
-  where
-    go : (a b : Bool) → cond a 1 (cond b (countOf p) 0) ≤ argumentLimit
-    go true b = omega arith
-    go false true = omega arith
-    go false false = omega arith
 
 -- Terms are to come.
 pub allowed-term : (n b d t k p : ℕ) → 0 < n → allowedBy n b d t k p ≡ startsTerm d k p
@@ -26,6 +17,15 @@ allowed-term (suc n) b d t k p h = refl
 pub rest-term : (n b d t p : ℕ) → 0 < n → restBy n b d t p ≡ frame (n - 1) b d t
 rest-term zero b d t p h = absurd (omega arith)
 rest-term (suc n) b d t p h = ap (λ m. frame m b d t) (omega arith)
+
+-- A branch starts no term, and neither does a number that is no kind.
+pub starts-none : (d k p : ℕ) → (k ≡ 0 → ⊥) → (k ≡ 1 → ⊥) → (k ≡ 2 → ⊥) → (k ≡ 3 → ⊥) → (k ≡ 4 → ⊥) → (k ≡ 6 → ⊥) → startsTerm d k p ≡ false
+unfolding startsTerm payloadFits
+starts-none d k p v a f c s n = simp (ne-eqb k 0 v, ne-eqb k 1 a, ne-eqb k 2 f, ne-eqb k 3 c, ne-eqb k 4 s, ne-eqb k 6 n) (neither _ (eqb k branchKind))
+  where
+    neither : (x b : Bool) → (not b && cond b x false) ≡ false
+    neither x true = refl
+    neither x false = refl
 
 -- Only branches are to come.
 pub allowed-branch : (n b d t k p : ℕ) → n ≤ 0 → 0 < b → allowedBy n b d t k p ≡ startsBranch t k p

@@ -17,8 +17,7 @@ use Rattle.calculus.specs.Workspace.{termAt}
 use Rattle.calculus.specs.Bringing.{freeFits}
 use Rattle.calculus.proofs.WordLaws.{accepted-scoped, accepted-packable}
 use Rattle.calculus.proofs.ReadLaws.{words-injective}
-use Rattle.calculus.proofs.WorkspaceLaws.{termAt-words}
-use Rattle.calculus.proofs.Held.{held}
+use Rattle.calculus.proofs.WorkspaceLaws.{termAt-words, held}
 use Rattle.terms.specs.IsTerm.{isTerm}
 use Rattle.terms.proofs.IsTerm.{isTerm-some, isTerm-none}
 

@@ -2,24 +2,28 @@
 -- items off the frames, and words on which the scan succeeds are those of accepted expressions that fill the frames.
 use Prim.Native.Nat.{ℕ, zero, suc, _+_, _≤_, _<_}
 use mathlib.Core.Path.{_≡_, refl, sym, _∙_, ap, subst}
-use mathlib.Core.Bool.{Bool, true, false, cond, _&&_, false≢true, and-eq-true-iff}
+use mathlib.Core.Bool.{Bool, true, false, not, _&&_, false≢true, and-eq-true-iff}
 use mathlib.Core.List.{List, [], _∷_, _++_, append-assoc, append-nil}
 use mathlib.Core.Option.{Option, some, none, Option·elim}
 use native.Mathlib.Nat.{add-zero}
 use native.Mathlib.Numerals.{add-one}
+use native.Mathlib.Decide.{ℕ-discrete}
 use native.Mathlib.Omega.{arith}
 use lib.Dec.{eqb, leb}
-use borrow.Author.Tests.{eqb-true, leb-true, le-leb}
+use borrow.Author.Tests.{eqb-true, leb-true, le-leb, ne-eqb}
 use Rattle.calculus.specs.Term.{Sort, term, terms, branches, Exp, Term, Terms, Branches, var, lam, app, con, case, num, nil, cons, end, branch, count}
 use Rattle.calculus.specs.Words.{variableKind, abstractionKind, applicationKind, constructorKind, caseKind, branchKind, numeralKind, kindBase, countBase, word, pack, tagOf, countOf, words}
-use Rattle.calculus.specs.Accepted.{tagLimit, branchLimit, StartsAbove, Rising, Pattern, Accepted}
+use Rattle.calculus.specs.Accepted.{tagLimit, StartsAbove, Rising, Pattern, Accepted}
 use Rattle.calculus.specs.Read.{read}
 use Rattle.calculus.specs.Skip.{following}
 use Rattle.calculus.proofs.WordLaws.{kindOf-word, payloadOf-word, word-of-parts, tagOf-pack, countOf-pack, pack-of-parts}
 use Rattle.calculus.proofs.ReadLaws.{read-exact}
 use Rattle.calculus.proofs.DefaultLaws.{pattern-limits}
 use Rattle.words.specs.Bound.{binding}
-use Rattle.words.proofs.PatternLaws.{tagged-passes, tagged-fits, pattern-passes, pattern-fits}
+use Rattle.words.specs.Payload.{payloadFits}
+use Rattle.words.specs.Theorems.{Payload, variable, abstraction, application, constructor, case, default, branch, numeral}
+use Rattle.words.proofs.PatternLaws.{tagged-passes, pattern-passes, pattern-fits}
+use Rattle.words.proofs.PayloadLaws.{payloads-exact}
 use Rattle.terms.specs.Frames.{Frame, frame, insideBy, inside, startsTerm, startsBranch, allowedBy, allowed, restBy, rest}
 
 -- A frame in front of others, left out if nothing is to come in it.
@@ -75,7 +79,7 @@ Passes {s = terms} d e = (b t : ℕ) (fs : List Frame) (ws : List ℕ) → scan 
 Passes {s = branches} d e = (l : ℕ) (fs : List Frame) (ws : List ℕ) → StartsFrom l e → Rising e → scan (push (frame 0 (count e) d l) fs) (words e ++ ws) ≡ scan fs ws
 
 passes : {s : Sort} (d : ℕ) (e : Exp s) → Accepted d e → Passes d e
-unfolding insideBy binding startsTerm startsBranch following
+unfolding insideBy binding startsTerm startsBranch payloadFits following
 passes d (var i) h = λ n b t fs ws. scan-term variableKind i n b d t fs ws (omega arith) (le-leb _ _ h)
 passes d (lam e) h = λ n b t fs ws. scan-term abstractionKind 0 n b d t fs _ (omega arith) refl ∙ rw add-one (passes (suc d) e h 0 0 0 _ ws)
 passes d (app e a) h =
@@ -131,49 +135,58 @@ gather-branches (suc n) d l P ws h =
     let r = gather-branches n d (suc (h .0)) P (h .3) (h .8) in
     (branch (h .0) (h .1) (h .2) (r .0), r .1, ap suc (r .2), h .4, (next-above (h .0) (r .0) (r .3), r .4), (h .5, h .6, r .5), rw (append-assoc, r .6) (h .7), r .7)
 
-when-eqb : {C : Type 0} (m n : ℕ) {x y : Bool} → (m ≡ n → x ≡ true → C) → (y ≡ true → C) → cond (eqb m n) x y ≡ true → C
-when-eqb {C} m n {x} {y} f g = go (eqb m n) refl
-  where
-    go : (b : Bool) → eqb m n ≡ b → cond b x y ≡ true → C
-    go true e q = f (eqb-true m n e) q
-    go false e q = g q
+-- The payload of a branch that is allowed.
+branch-pattern : (l k p : ℕ) → startsBranch l k p ≡ true → (k ≡ branchKind) × (l ≤ tagOf p) × Pattern (tagOf p) (countOf p)
+unfolding startsBranch payloadFits
+branch-pattern l k p q =
+    let a = and-eq-true-iff (eqb k branchKind) _ .0 q in
+    let kind = eqb-true k branchKind (a .0) in
+    let b = and-eq-true-iff (leb l (tagOf p)) _ .0 (rw kind at (a .1)) in
+    (kind, leb-true l (tagOf p) (b .0), pattern-fits (tagOf p) (countOf p) (b .1))
 
 -- A branch that is allowed is to come, and its tag is within the limit.
 pub branch-allowed : (n b d l k p : ℕ) → n ≤ 0 → allowedBy n b d l k p ≡ true → (0 < b) × (tagOf p ≤ tagLimit)
-unfolding startsBranch
 branch-allowed zero zero d l k p h q = absurd (false≢true q)
-branch-allowed zero (suc b) d l k p h q =
-    let both = and-eq-true-iff (leb l (tagOf p)) _ .0 (and-eq-true-iff (eqb k branchKind) _ .0 q .1) in
-    (omega arith, pattern-limits (tagOf p) (countOf p) (pattern-fits (tagOf p) (countOf p) (both .1)) .0)
+branch-allowed zero (suc b) d l k p h q = (omega arith, pattern-limits (tagOf p) (countOf p) (branch-pattern l k p q .2) .0)
 branch-allowed (suc n) b d l k p h q = absurd (omega arith)
 
 -- A word that may start a term starts one, if what follows the word is filled; and so for a branch.
+fill-other : {k p : ℕ} → Payload k p → (k ≡ variableKind → ⊥) → not (eqb k branchKind) ≡ true → (d : ℕ) (P : List ℕ → Type 0) (ws : List ℕ)
+    → FrameThen (insideBy d k p) P ws → TermsThen 1 d P (word k p ∷ ws)
+unfolding insideBy binding following
+fill-other (variable m) v b d P ws = absurd (v refl)
+fill-other abstraction v b d P ws = rw (add-one d) (λ h. (lam (h .0), h .1, h .2, cc, h .4))
+fill-other application v b d P ws =
+    rw add-zero (λ h. (app (h .0) (h .4 .0), h .4 .1, (h .2, h .4 .2), rw append-assoc (cc), h .4 .4))
+fill-other (constructor {t} {n} l u m) v b d P ws =
+    rw (countOf-pack t n (omega arith), add-zero)
+    (λ h.
+    let g = gather-terms n d P ws h in
+    (con t (g .0), g .1, (((l, u), omega (arith, g .2)), g .3), cc, g .5))
+fill-other (case {p} m) v b d P ws =
+    rw add-zero
+    (λ h.
+    let g = gather-branches p d 0 P (h .1) (h .4) in
+    (case (h .0) (g .0), g .1, ((omega (arith, m, g .2), g .4), h .2, g .5), rw append-assoc (cc), g .7))
+fill-other default v b d P ws = absurd (false≢true b)
+fill-other (branch l u m) v b d P ws = absurd (false≢true b)
+fill-other (numeral {p} m) v b d P ws = λ h. (num p, ws, m, refl, h)
+
 fill-term : (k p d : ℕ) (P : List ℕ → Type 0) (ws : List ℕ) → startsTerm d k p ≡ true → FrameThen (insideBy d k p) P ws → TermsThen 1 d P (word k p ∷ ws)
 unfolding insideBy binding startsTerm following
 fill-term k p d P ws =
-    when-eqb k variableKind (λ e q. rw e (λ h. (var p, ws, leb-true _ _ q, refl, h)))
-    (when-eqb k abstractionKind (λ e q. rw (e, eqb-true p 0 q, add-one d) (λ h. (lam (h .0), h .1, h .2, cc, h .4)))
-    (when-eqb k applicationKind (λ e q. rw (e, eqb-true p 0 q, add-zero) (λ h. (app (h .0) (h .4 .0), h .4 .1, (h .2, h .4 .2), rw append-assoc (cc), h .4 .4)))
-    (when-eqb k constructorKind
-    (λ e q. rw (e, add-zero)
-    (λ h.
-    let g = gather-terms (countOf p) d P ws h in
-    (con (tagOf p) (g .0), g .1, (rw (g .2) (tagged-fits (tagOf p) (countOf p) q), g .3), cc (pack-of-parts p), g .5)))
-    (when-eqb k caseKind
-    (λ e q. rw (e, add-zero)
-    (λ h.
-    let g = gather-branches p d 0 P (h .1) (h .4) in
-    (case (h .0) (g .0), g .1, ((omega (arith, leb-true p branchLimit q), g .4), h .2, g .5), rw append-assoc (cc), g .7)))
-    (when-eqb k numeralKind (λ e q. rw e (λ h. (num p, ws, leb-true _ _ q, refl, h)))
-    (λ q. absurd (false≢true q)))))))
+    elim (ℕ-discrete k variableKind) [
+      | yes e ↦ rw e (λ q h. (var p, ws, leb-true _ _ q, refl, h))
+      | no v ↦ λ q.
+          let both = and-eq-true-iff (not (eqb k branchKind)) (payloadFits k p) .0 (rw (ne-eqb k variableKind v) at q) in
+          fill-other (payloads-exact k p .0 (both .1)) v (both .0) d P ws
+    ]
 
 fill-branch : (k p n d l : ℕ) (P : List ℕ → Type 0) (ws : List ℕ) → startsBranch l k p ≡ true → FrameThen (insideBy d k p) (BranchesThen n d (suc (tagOf p)) P) ws → BranchesThen (suc n) d l P (word k p ∷ ws)
-unfolding insideBy binding startsBranch following
+unfolding insideBy binding following
 fill-branch k p n d l P ws q =
-    let a = and-eq-true-iff _ _ .0 q in
-    let b = and-eq-true-iff (leb l (tagOf p)) _ .0 (a .1) in
-    rw (eqb-true k branchKind (a .0))
-    (λ h. (tagOf p, countOf p, h .0, h .1, leb-true _ _ (b .0), pattern-fits (tagOf p) (countOf p) (b .1), h .2, cc (pack-of-parts p), h .4))
+    let (kind, least, pattern) = branch-pattern l k p q in
+    rw kind (λ h. (tagOf p, countOf p, h .0, h .1, least, pattern, h .2, cc (pack-of-parts p), h .4))
 
 -- A frame that is not kept is filled by nothing.
 push-fills : (n b d t : ℕ) (fs : List Frame) → Fills (push (frame n b d t) fs) ≡ FrameThen (frame n b d t) (Fills fs)

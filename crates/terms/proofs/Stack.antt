@@ -1,5 +1,5 @@
 -- The scan with its frames packed on a stack: what the loop of `is_term` keeps, and that a turn keeps it.
-use Prim.Native.Nat.{ℕ, zero, suc, _+_, _-_, _*_, _/_, _≤_, _<_}
+use Prim.Native.Nat.{ℕ, zero, suc, _+_, _*_, _/_, _≤_, _<_}
 use mathlib.Core.Path.{_≡_, refl, sym, _∙_, ap}
 use mathlib.Core.Bool.{Bool, true, false, cond, _&&_, false≢true, and-eq-true-iff}
 use mathlib.Core.List.{List, [], _∷_}
@@ -14,7 +14,7 @@ use Rattle.calculus.specs.Words.{kindOf, payloadOf, workspaceMost}
 use Rattle.calculus.specs.Accepted.{argumentLimit}
 use Rattle.terms.specs.Frames.{Frame, isFilled, insideBy, inside, allowed, restBy, rest, entered}
 use Rattle.terms.specs.Packed.{unpacked}
-use Rattle.terms.proofs.Frames.{binding-bounded}
+use Rattle.words.proofs.BoundLaws.{binding-few}
 use Rattle.terms.proofs.Scan.{pushBy, push, after, scan, whole}
 
 -- A frame that is filled is left out of the frames, and any other stands in front.
@@ -198,7 +198,7 @@ module _ {ws : List ℕ} {n : ℕ} {stack : List ℕ} {top f i r s : ℕ} (state
   unfolding insideBy
   inside-shallow =
       let w = getD ws i 0 in
-      omega (arith, ap (λ h. h .depth) (t .is-inside), binding-bounded (kindOf w) (payloadOf w), state .shallow)
+      omega (arith, ap (λ h. h .depth) (t .is-inside), binding-few (kindOf w) (payloadOf w), state .shallow)
 
   waits : Waiting ((i + 1) * argumentLimit) (stacked top stack)
   waits = waiting-more _ _ (stacked top stack) (omega arith) (state .waiting)

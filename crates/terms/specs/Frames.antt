@@ -3,14 +3,14 @@
 --
 -- A frame stands for a number of terms, then a number of branches whose tags rise, the first one at least `least`, all under its number of binders.
 use Prim.Native.Nat.{ℕ, zero, suc, _+_, _*_}
-use mathlib.Core.Bool.{Bool, false, cond, _&&_}
+use mathlib.Core.Bool.{Bool, false, cond, not, _&&_}
 use mathlib.Core.Option.{Option, some, none}
 use lib.Dec.{eqb, leb}
-use Rattle.calculus.specs.Words.{variableKind, abstractionKind, applicationKind, constructorKind, caseKind, branchKind, numeralKind, kindOf, payloadOf, tagOf, countOf, workspaceMost}
-use Rattle.calculus.specs.Accepted.{argumentLimit, branchLimit, freeLimit, numeralLimit}
+use Rattle.calculus.specs.Words.{variableKind, caseKind, branchKind, kindOf, payloadOf, tagOf, workspaceMost}
+use Rattle.calculus.specs.Accepted.{argumentLimit, freeLimit}
 use Rattle.calculus.specs.Skip.{following}
 use Rattle.words.specs.Bound.{binding}
-use Rattle.words.specs.Pattern.{isTagged, isPattern}
+use Rattle.words.specs.Payload.{payloadFits}
 
 pub record Frame : Type 0 where
   pub terms : ℕ
@@ -36,19 +36,13 @@ insideBy d k p = frame (cond (eqb k caseKind) 1 (following k p)) (cond (eqb k ca
 abbrev pub inside : (depth w : ℕ) → Frame
 inside d w = insideBy d (kindOf w) (payloadOf w)
 
--- Whether a word may start a term under d binders, or a branch whose tag is at least l (the first one of a case: at least 0).
+-- Whether a word may start a term under d binders, where an index is bound or its free number in range, or a branch whose tag is at least l (the first one of
+-- a case: at least 0).
 unfoldable pub startsTerm : (depth kind payload : ℕ) → Bool
-startsTerm d k p =
-    cond (eqb k variableKind) (leb p (d + freeLimit))
-    (cond (eqb k abstractionKind) (eqb p 0)
-    (cond (eqb k applicationKind) (eqb p 0)
-    (cond (eqb k constructorKind) (isTagged (tagOf p) (countOf p))
-    (cond (eqb k caseKind) (leb p branchLimit)
-    (cond (eqb k numeralKind) (leb p numeralLimit)
-    false)))))
+startsTerm d k p = cond (eqb k variableKind) (leb p (d + freeLimit)) (not (eqb k branchKind) && payloadFits k p)
 
 unfoldable pub startsBranch : (least kind payload : ℕ) → Bool
-startsBranch l k p = eqb k branchKind && (leb l (tagOf p) && isPattern (tagOf p) (countOf p))
+startsBranch l k p = eqb k branchKind && (leb l (tagOf p) && payloadFits k p)
 
 -- Whether a word may come next, by what is still to come.
 abbrev pub allowedBy : (terms branches depth least kind payload : ℕ) → Bool

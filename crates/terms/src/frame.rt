@@ -1,14 +1,13 @@
 // Frames of the scan for a whole term: what is still to come at one level of the term.
 use words::Word;
-use words::pattern::is_pattern;
-use words::pattern::is_tagged;
+use words::payload::payload_fits;
 ghost use mathlib.Core.Path.{_≡_};
 ghost use mathlib.Core.Bool.{true, cond, _&&_};
 ghost use mathlib.Core.Option.{some, none};
 ghost use Prim.Native.Nat.{_≤_};
 ghost use lib.Dec.{leb};
-ghost use Rattle.calculus.specs.Words.{kindOf, payloadOf, tagOf, countOf};
-ghost use Rattle.words.specs.Pattern.{isPattern};
+ghost use Rattle.calculus.specs.Words.{branchKind, kindOf, payloadOf, tagOf};
+ghost use Rattle.words.specs.Payload.{payloadFits};
 ghost use Rattle.terms.specs.Frames.{depthLimit, frame, isFilled, allowed, rest, enteredBy, entered, startsTerm, startsBranch};
 ghost use Rattle.terms.specs.Packed.{unpacked, Packs, enteredOf};
 
@@ -126,16 +125,28 @@ fn enter_term(word: Word, depth: u32) -> Entered
             payload <= depth + Word::FREE_MOST,
             Frame::new(0, 0, depth, 0),
         ),
-        Word::ABSTRACTION => inside_if(payload == 0, Frame::new(1, 0, depth + 1, 0)),
-        Word::APPLICATION => inside_if(payload == 0, Frame::new(2, 0, depth, 0)),
-        Word::CONSTRUCTOR => inside_if(is_tagged(payload), Frame::new(word.count(), 0, depth, 0)),
+        Word::ABSTRACTION => inside_if(
+            payload_fits(Word::ABSTRACTION, payload),
+            Frame::new(1, 0, depth + 1, 0),
+        ),
+        Word::APPLICATION => inside_if(
+            payload_fits(Word::APPLICATION, payload),
+            Frame::new(2, 0, depth, 0),
+        ),
+        Word::CONSTRUCTOR => inside_if(
+            payload_fits(Word::CONSTRUCTOR, payload),
+            Frame::new(word.count(), 0, depth, 0),
+        ),
         Word::CASE => {
-            if payload <= Word::BRANCHES_MOST {
+            if payload_fits(Word::CASE, payload) {
                 return Entered::Inside(Frame::new(1, payload, depth, 0));
             }
             Entered::Nowhere
         }
-        Word::NUMERAL => inside_if(payload <= Word::NUMERAL_MOST, Frame::new(0, 0, depth, 0)),
+        Word::NUMERAL => inside_if(
+            payload_fits(Word::NUMERAL, payload),
+            Frame::new(0, 0, depth, 0),
+        ),
         _ => Entered::Nowhere,
     }
 }
@@ -154,12 +165,12 @@ fn enter_branch(word: Word, depth: u32, least: u32) -> Entered
     Entered::Nowhere
 }
 
-// Whether a branch may have the tag and the bound count of the word, and the tag is at least `least`.
+// Whether a branch may have the payload of the word, with a tag that is at least `least`.
 fn pattern_from(word: Word, least: u32) -> bool
-    ensures { λ r. ⌜ r ≡ (leb least (tagOf (payloadOf (word .0))) && isPattern (tagOf (payloadOf (word .0))) (countOf (payloadOf (word .0)))) ⌝ }
+    ensures { λ r. ⌜ r ≡ (leb least (tagOf (payloadOf (word .0))) && payloadFits branchKind (payloadOf (word .0))) ⌝ }
 {
     if word.tag() < least {
         return false;
     }
-    is_pattern(word.payload())
+    payload_fits(Word::BRANCH, word.payload())
 }

@@ -1,16 +1,17 @@
 -- The digits of a number, as a loop finds them from the lowest on; and that they are the number's.
 use Prim.Native.Nat.{ℕ, zero, suc, _+_, _-_, _*_, _/_, _%_, _^_, _≤_, _<_}
-use mathlib.Core.Path.{_≡_, refl, _∙_}
+use mathlib.Core.Path.{_≡_, refl, sym, _∙_, ap, ap₂}
 use mathlib.Core.Bool.{Bool, true, false}
 use mathlib.Core.List.{List, [], _∷_, _++_, append-assoc}
 use native.Mathlib.Nat.{pow-suc, div-lt-iff-lt-mul}
 use native.Mathlib.Omega.{arith}
-use lib.ListN.{length, length-append, take, drop, set, length-drop}
-use lib.Seq.{take-all}
+use lib.ListN.{length, length-append, take, drop, set, length-drop, take-append-drop}
+use lib.Seq.{take-all, length-take-le, drop-at}
 use lib.Dec.{ltb}
 use borrow.Author.Tests.{ltb-true, lt-ltb, le-ltb}
-use Rattle.text.specs.Decimal.{digit, digitsMost, digits, decimal, Kept}
-use Rattle.words.proofs.PlacedLaws.{drop-set}
+use Rattle.text.specs.Decimal.{digit, digitsMost, digits, decimal, worth, Decimal-exact}
+use Rattle.words.specs.Placed.{Placed}
+use Rattle.words.proofs.PlacedLaws.{drop-set, sets-end}
 
 -- One digit more is kept in `text`, and others are left.
 pub digits-next : (text : List ℕ) (i n : ℕ) → 0 < i → i ≤ length text → 10 ≤ n
@@ -31,9 +32,19 @@ digits-last text (suc k) n p h t =
     let f : n % 10 ≡ n = omega arith in
     rw (e, f, lt-ltb n 10 t, digits, drop-set text k (n + 48) h)
 
--- The part of the slice from where the digits start.
-pub kept-part : {n from : ℕ} {kept : List ℕ} → Kept n kept from → length kept ≡ digitsMost → take (digitsMost - from) (drop from kept) ≡ decimal n
-kept-part {from = from} {kept = kept} k size = take-all (digitsMost - from) (drop from kept) (rw length-drop (omega arith)) ∙ k .digits
+-- The digits at the end of the slice, and the part from where they start.
+pub kept-placed : (n from : ℕ) (before after : List ℕ) → from ≤ digitsMost → length before ≡ digitsMost → length after ≡ digitsMost
+    → take from after ≡ take from before → drop from after ≡ decimal n → Placed before from (decimal n) after digitsMost
+kept-placed n from before after l h g p q =
+    let e : from + length (decimal n) ≡ digitsMost = omega (arith, ap length q, length-drop from after) in
+    record { slice = sym (take-append-drop from after) ∙ ap₂ _++_ p q ∙ sym (sets-end (decimal n) before from (omega arith)); position = sym e }
+
+pub kept-part : (n : ℕ) {from : ℕ} {before after : List ℕ} → Placed before from (decimal n) after digitsMost → length before ≡ digitsMost
+    → take (digitsMost - from) (drop from after) ≡ decimal n
+kept-part n {from} {before} p h =
+    let e : length (take from before) ≡ from = length-take-le from before (omega (arith, p .position)) in
+    rw (p .slice, sets-end (decimal n) before from (omega (arith, p .position)), drop-at (take from before) (decimal n) from e)
+    (take-all (digitsMost - from) (decimal n) (omega (arith, p .position)))
 
 -- No number has more digits than are kept.
 length-digits : (k n : ℕ) → length (digits k n) ≤ k
@@ -49,28 +60,22 @@ pub length-decimal : (n : ℕ) → length (decimal n) ≤ digitsMost
 unfolding decimal
 length-decimal n = length-digits digitsMost n
 
--- The number that digits are, behind those of `ahead`.
-pub number : (ahead : ℕ) → List ℕ → ℕ
-number ahead [] = ahead
-number ahead (d ∷ ds) = number (ahead * 10 + (d - 48)) ds
+worth-append : (ahead : ℕ) (ds : List ℕ) (d : ℕ) → worth ahead (ds ++ (d ∷ [])) ≡ worth ahead ds * 10 + (d - 48)
+unfolding worth
+worth-append ahead [] d = refl
+worth-append ahead (e ∷ ds) d = worth-append (ahead * 10 + (e - 48)) ds d
 
-number-append : (ahead : ℕ) (ds : List ℕ) (d : ℕ) → number ahead (ds ++ (d ∷ [])) ≡ number ahead ds * 10 + (d - 48)
-unfolding number
-number-append ahead [] d = refl
-number-append ahead (e ∷ ds) d = number-append (ahead * 10 + (e - 48)) ds d
-
-digits-number : (k n : ℕ) → n < 10 ^ k → number 0 (digits k n) ≡ n
-unfolding number digits
-digits-number zero n h = omega arith
-digits-number (suc k) n h = go (ltb n 10) refl (digits-number k (n / 10))
+digits-worth : (k n : ℕ) → n < 10 ^ k → worth 0 (digits k n) ≡ n
+unfolding worth digits
+digits-worth zero n h = omega arith
+digits-worth (suc k) n h = go (ltb n 10) refl (digits-worth k (n / 10))
   where
-    go : (b : Bool) → ltb n 10 ≡ b → (n / 10 < 10 ^ k → number 0 (digits k (n / 10)) ≡ n / 10) → number 0 (digits (suc k) n) ≡ n
+    go : (b : Bool) → ltb n 10 ≡ b → (n / 10 < 10 ^ k → worth 0 (digits k (n / 10)) ≡ n / 10) → worth 0 (digits (suc k) n) ≡ n
     go true e ih = rw (e, digits) (omega (arith, ltb-true n 10 e))
     go false e ih =
         let less : n / 10 < 10 ^ k = div-lt-iff-lt-mul {k = 10} (omega arith) .1 (rw pow-suc at h) in
-        rw (e, digits, number-append) (omega (arith, ih less))
+        rw (e, digits, worth-append) (omega (arith, ih less))
 
--- The digits of every number of 64 bits are the number's.
-pub decimal-number : (n : ℕ) → n < 2 ^ 64 → number 0 (decimal n) ≡ n
+pub decimal-exact : Decimal-exact
 unfolding decimal
-decimal-number n h = digits-number digitsMost n (omega arith)
+decimal-exact n h = digits-worth digitsMost n (omega arith)

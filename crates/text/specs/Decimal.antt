@@ -1,10 +1,9 @@
 -- Numbers in base ten, as ASCII bytes, and what stands between them.
-use Prim.Native.Nat.{ℕ, zero, suc, _+_, _/_, _%_, _≤_}
+use Prim.Native.Nat.{ℕ, zero, suc, _+_, _-_, _*_, _/_, _%_, _^_, _<_}
 use mathlib.Core.Path.{_≡_}
 use mathlib.Core.Bool.{true, false}
 use mathlib.Core.List.{List, [], _∷_, _++_}
 use lib.Dec.{ltb}
-use lib.ListN.{length, drop}
 
 -- The digit 0 is byte 48.
 abbrev pub digit : ℕ → ℕ
@@ -22,14 +21,17 @@ digitsMost = 20
 unfoldable pub decimal : ℕ → List ℕ
 decimal n = digits digitsMost n
 
+-- The number that digits are worth, behind those of `ahead`; and that the digits of every number of 64 bits are worth that number.
+unfoldable pub worth : (ahead : ℕ) → List ℕ → ℕ
+worth ahead [] = ahead
+worth ahead (d ∷ ds) = worth (ahead * 10 + (d - 48)) ds
+
+abbrev pub Decimal-exact : Type 0
+Decimal-exact = (n : ℕ) → n < 2 ^ 64 → worth 0 (decimal n) ≡ n
+
 -- A number behind a space.
 abbrev pub field : ℕ → List ℕ
 field n = 32 ∷ decimal n
 
 abbrev pub newline : ℕ
 newline = 10
-
--- The digits of a number stand at the end of `kept`, from a position on.
-pub record Kept (n : ℕ) (kept : List ℕ) (from : ℕ) : Type 0 where
-  pub inside : from ≤ length kept
-  pub digits : drop from kept ≡ decimal n

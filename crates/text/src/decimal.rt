@@ -4,7 +4,7 @@ ghost use mathlib.Core.List.{[], _∷_};
 ghost use Prim.Native.Nat.{_≤_, _+_};
 ghost use lib.ListN.{length};
 ghost use Rattle.words.specs.Placed.{Placed};
-ghost use Rattle.text.specs.Decimal.{digitsMost, decimal, field, newline, Kept};
+ghost use Rattle.text.specs.Decimal.{digitsMost, decimal, field, newline};
 
 // A number of 64 bits has at most so many digits.
 pub const DIGITS_MOST: usize = 20;
@@ -26,7 +26,7 @@ pub fn put_bytes(bytes: &[u8], out: &mut [u8], at: usize) -> usize
 // Keeps the digits of a number, the lowest at the end, and returns where they start.
 fn keep_digits(n: usize, kept: &mut [u8]) -> usize
     requires { ⌜ length (now kept) ≡ digitsMost ⌝ }
-    ensures { λ r. ⌜ Kept n (now (kept .exit)) r ⌝ }
+    ensures { λ r. ⌜ Placed (now (kept .entry)) r (decimal n) (now (kept .exit)) digitsMost ⌝ }
 {
     let mut i = DIGITS_MOST;
     let mut rest = n;
@@ -42,7 +42,7 @@ fn keep_digits(n: usize, kept: &mut [u8]) -> usize
 }
 
 // A number in base ten.
-pub fn put_decimal(n: usize, out: &mut [u8], at: usize) -> usize
+fn put_decimal(n: usize, out: &mut [u8], at: usize) -> usize
     requires { ⌜ at + length (decimal n) ≤ length (now out) ⌝ }
     ensures { λ r. ⌜ Placed (now (out .entry)) at (decimal n) (now (out .exit)) r ⌝ }
 {

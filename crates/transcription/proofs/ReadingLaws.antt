@@ -1,28 +1,23 @@
 -- The readers' turns: what is read at a link that is not 0, and how many records are ahead after it.
 use Prim.Native.Nat.{ℕ, suc, _+_, _-_, _≤_, _<_}
 use mathlib.Core.Path.{_≡_, refl, ap, _∙_}
-use mathlib.Core.Bool.{Bool, true, false, cond, and-eq-true-iff}
-use mathlib.Core.List.{List, [], _∷_, _++_}
+use mathlib.Core.Bool.{and-eq-true-iff}
+use mathlib.Core.List.{[], _∷_, _++_}
 use mathlib.Core.Logic.{inl, inr}
 use native.Mathlib.Omega.{arith}
-use lib.Dec.{leb, eqb}
 use lib.ListN.{length, length-append}
-use borrow.Author.Tests.{leb-true, eqb-true, eq-eqb, ne-eqb}
-use Rattle.calculus.specs.Words.{variableKind, constructorKind, caseKind, branchKind, numeralKind, tagOf, countOf, word, pack, workspaceMost}
-use Rattle.calculus.specs.Accepted.{branchLimit, numeralLimit, indexLimit}
-use Rattle.calculus.proofs.DefaultLaws.{pattern-limits}
-use Rattle.words.specs.Limits.{payloadBound}
-use Rattle.words.specs.Pattern.{isTag, isPattern}
-use Rattle.words.proofs.PatternLaws.{tag-fits, pattern-fits}
+use borrow.Author.Tests.{eq-eqb, ne-eqb}
+use Rattle.calculus.specs.Words.{word}
 use Rattle.records.specs.Records.{Record, Table, Stored, recordAt, view}
-use Rattle.records.specs.Values.{valueFits}
-use Rattle.records.specs.Children.{children, numberFits, subjectFirst, childrenFit, chainFrom}
-use Rattle.transcription.specs.Reading.{ahead, payload, Wordable, chainWords, termWords, Readable}
+use Rattle.records.specs.Payload.{payload, Wordable}
+use Rattle.records.specs.Values.{numberFits}
+use Rattle.records.specs.Children.{children, childrenFit, chainFrom}
+use Rattle.transcription.specs.Reading.{ahead, chainWords, termWords, Readable}
 use Rattle.records.proofs.LinkRules.{Ahead, Linked, linked}
+use Rattle.records.proofs.PayloadLaws.{has-word}
 use Rattle.records.proofs.Fits.{valued, fitted}
 use Rattle.records.proofs.Hanging.{hanging-zero, hanging-record}
-use Rattle.records.proofs.RecordLaws.{sized}
-use Rattle.records.proofs.Walks.{walk-short, walked}
+use Rattle.records.proofs.Walks.{walked}
 
 module _ (T : Table) where
   pub chainWords-end : (l : ℕ) → l ≡ 0 → chainWords T l ≡ []
@@ -44,34 +39,6 @@ module _ (T : Table) where
   ahead-falls i l v u (inl e) = omega (arith, ahead-end l e, ahead-record i v)
   ahead-falls i l v u (inr a) = omega (arith, ahead-record l (omega arith), ahead-record i v)
 
--- Values that fit are small, and so are payloads of them.
-value-small : (k v : ℕ) → valueFits k v ≡ true → v ≤ indexLimit
-unfolding valueFits
-value-small k v h = go (eqb k variableKind) (eqb k constructorKind) (eqb k branchKind) (eqb k numeralKind) h
-  where
-    go : (a b c d : Bool)
-        → cond a (leb v indexLimit) (cond b (isTag v) (cond c (isPattern (tagOf v) (countOf v)) (cond d (leb v numeralLimit) (eqb v 0)))) ≡ true
-        → v ≤ indexLimit
-    go true b c d e = leb-true v indexLimit e
-    go false true c d e = omega (arith, tag-fits v e .1)
-    go false false true d e = omega (arith, pattern-limits (tagOf v) (countOf v) (pattern-fits (tagOf v) (countOf v) e) .0)
-    go false false false true e = omega (arith, leb-true v numeralLimit e)
-    go false false false false e = omega (arith, eqb-true v 0 e)
-
-payload-small : (k v m : ℕ) → v ≤ indexLimit → m ≤ workspaceMost → payload k v m < payloadBound
-payload-small k v m h u = go (eqb k constructorKind) (eqb k caseKind)
-  where
-    go : (a b : Bool) → cond a (pack v m) (cond b (m - 1) v) < payloadBound
-    go true b = omega arith
-    go false true = omega arith
-    go false false = omega arith
-
-some-child : (rs : List Record) → childrenFit caseKind rs ≡ true → 1 ≤ length rs
-unfolding childrenFit
-some-child rs h =
-    let number = and-eq-true-iff (numberFits caseKind (length rs)) (subjectFirst rs) .0 h .0 in
-    leb-true 1 (length rs) (and-eq-true-iff (leb 1 (length rs)) (leb (length rs) (suc branchLimit)) .0 number .0)
-
 -- A turn: a record that was read at a link, and reading on from it.
 pub record ReadOn (S : Stored) (link : ℕ) (r : Record) : Type 0 where
   pub below : Readable S (r .first)
@@ -83,6 +50,7 @@ pub record ReadOn (S : Stored) (link : ℕ) (r : Record) : Type 0 where
   pub wordable : Wordable (r .kind) (r .value) (length (children (view S) link))
 
 pub read-on : (S : Stored) (link : ℕ) (r : Record) → Readable S link → 1 ≤ link → r ≡ recordAt S link → ReadOn S link r
+unfolding childrenFit
 read-on S link r h v e =
     let T = view S in
     let w = h .walkable in
@@ -91,8 +59,7 @@ read-on S link r h v e =
     let fits = fitted T (h .children-fit) in
     let values = valued T (h .values-fit) in
     let on = walked S link (recordAt S link) w v refl in
-    let few : length (children T link) ≤ workspaceMost = omega (arith, walk-short S (T .at link .first) (on .below), sized S (w .length-fits)) in
-    let small = value-small (T .at link .kind) (T .at link .value) (values .value-fits link v u) in
+    let number = and-eq-true-iff (numberFits (T .at link .kind) (length (children T link))) _ .0 (fits .children-fit link v u) .0 in
     rw e
     (record {
       below = record { walkable = on .below; values-fit = h .values-fit; children-fit = h .children-fit };
@@ -101,11 +68,7 @@ read-on S link r h v e =
       fewer-after = ahead-falls T link _ v u (L .next-ahead link v u);
       words = chainWords-record T L link v u;
       words-length = ap length (chainWords-record T L link v u) ∙ length-append (termWords T link) _;
-      wordable = record {
-        kind-fits = omega (arith, values .known-kind link v u);
-        payload-fits = payload-small (T .at link .kind) (T .at link .value) _ small few;
-        subject = λ k. some-child (children T link) (rw k at (fits .children-fit link v u));
-      };
+      wordable = has-word (T .at link .kind) (T .at link .value) (length (children T link)) (values .value-fits link v u) number;
     })
 
 -- The words of the record that was read, from the number of its children.

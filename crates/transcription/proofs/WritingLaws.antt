@@ -6,38 +6,48 @@ use mathlib.Core.List.{List, [], _∷_}
 use native.Mathlib.Numerals.{add-one}
 use native.Mathlib.Omega.{arith}
 use lib.Dec.{eqb}
-use lib.ListN.{length, drop, getD, set, drop-of-length-le}
+use lib.ListN.{length, drop, getD, set, length-set, drop-of-length-le}
 use lib.Seq.{sets, length-sets, drop-cons}
 use Rattle.calculus.specs.Words.{workspaceMost}
 use Rattle.calculus.specs.Skip.{arity, span}
 use Rattle.words.proofs.PlacedLaws.{drop-set}
 use Rattle.records.specs.Records.{Record, form1, recordsWords, Puttable}
-use Rattle.transcription.specs.Writing.{linkIf, push, entryOf, entries, Pushed, Descended}
+use Rattle.transcription.specs.Writing.{linkIf, push, entryOf, entries, pushed, descended}
 
-pub pushed-none : (levels : List ℕ) (top items : ℕ) → items ≡ 0 → Pushed levels top items levels top
-pushed-none levels top items e = record { levels = rw e; least = omega arith; most = omega arith }
+pub pushed-some : (levels : List ℕ) (top items : ℕ) → (items ≡ 0 → ⊥) → (top - 1, set levels (top - 1) items) ≡ pushed levels top items
+pushed-some levels top zero h = absurd (h refl)
+pushed-some levels top (suc k) h = refl
 
-push-some : (items : ℕ) (ks : List ℕ) → (items ≡ 0 → ⊥) → items ∷ ks ≡ push items ks
-push-some zero ks h = absurd (h refl)
-push-some (suc k) ks h = refl
+-- Where the levels ks stand in a slice that had others from `top` on: at most one place further in front, or up to `more` behind.
+pub record Levels (before : List ℕ) (top more : ℕ) (ks : List ℕ) (s : ℕ × List ℕ) : Type 0 where
+  pub levels : drop (s .0) (s .1) ≡ ks
+  pub least : top ≤ s .0 + 1
+  pub most : s .0 ≤ top + more
+  pub same-length : length (s .1) ≡ length before
 
-pub pushed-some : (levels : List ℕ) (top items : ℕ) → (items ≡ 0 → ⊥) → 1 ≤ top → top ≤ length levels
-    → Pushed levels top items (set levels (top - 1) items) (top - 1)
-pushed-some levels top items h l u =
+pub pushed-levels : (before : List ℕ) (top items : ℕ) {s : ℕ × List ℕ} → s ≡ pushed before top items → 1 ≤ top → top ≤ length before
+    → Levels before top 0 (push items (drop top before)) s
+pushed-levels before top zero q l u = rw q (record { levels = refl; least = omega arith; most = omega arith; same-length = refl })
+pushed-levels before top (suc k) q l u =
     let e : suc (top - 1) ≡ top = omega arith in
-    record {
-      levels = drop-set levels (top - 1) items (omega arith) ∙ rw e (push-some items (drop top levels) h);
+    rw q
+    (record {
+      levels = rw e at (drop-set before (top - 1) (suc k) (omega arith));
       least = omega arith;
       most = omega arith;
-    }
+      same-length = length-set before (top - 1) (suc k);
+    })
 
-pub descended : (before levels after : List ℕ) (top items rest top′ : ℕ) → Pushed before (top + 1) (getD before top 0 - 1) levels rest
-    → Pushed levels rest items after top′ → Descended before top items after top′
-descended before levels after top items rest top′ p q =
+descended-levels : (before : List ℕ) (top items : ℕ) {s : ℕ × List ℕ} → s ≡ descended before top items → 1 ≤ top → top < length before
+    → Levels before top 1 (push items (push (getD before top 0 - 1) (drop (top + 1) before))) s
+descended-levels before top items e l u =
+    let p = pushed-levels before (top + 1) (getD before top 0 - 1) refl (omega arith) (omega arith) in
+    let q = pushed-levels _ _ items e (omega (arith, p .least)) (omega (arith, p .most, p .same-length)) in
     record {
       levels = q .levels ∙ ap (push items) (p .levels);
       least = omega (arith, p .least, q .least);
       most = omega (arith, p .most, q .most);
+      same-length = q .same-length ∙ p .same-length;
     }
 
 -- Links into a written table are small.
@@ -76,15 +86,16 @@ pub record Putting (ws table₀ table levels : List ℕ) (top i : ℕ) : Type 0 
   pub to-put : sets table (form1 .recordWords * (i + 1)) (recordsWords (entries (i + 1) (drop top levels) (drop i ws)))
       ≡ sets table₀ (form1 .recordWords) (recordsWords (entries 1 (1 ∷ []) ws))
 
-pub putting-start : (ws table zeros levels : List ℕ) (top : ℕ) → length zeros ≡ workspaceMost + 1 → length levels ≡ length zeros
-    → Pushed zeros (workspaceMost + 1) 1 levels top → Putting ws table table levels top 0
-putting-start ws table zeros levels top z l p =
+pub putting-start : (ws table zeros levels : List ℕ) (top : ℕ) → length zeros ≡ workspaceMost + 1 → (top, levels) ≡ pushed zeros (workspaceMost + 1) 1
+    → Putting ws table table levels top 0
+putting-start ws table zeros levels top z e =
+    let p = pushed-levels zeros (workspaceMost + 1) 1 e (omega arith) (omega arith) in
     let start : drop top levels ≡ 1 ∷ [] = p .levels ∙ ap (λ ks. 1 ∷ ks) (drop-of-length-le zeros {i = workspaceMost + 1} (omega arith)) in
     record {
       within = omega arith;
-      levels-length = l ∙ z;
+      levels-length = p .same-length ∙ z;
       levels-left = omega (arith, p .least);
-      levels-most = p .most;
+      levels-most = omega (arith, p .most);
       positive = rw start (omega arith, tt);
       table-length = refl;
       to-put = rw start;
@@ -114,11 +125,11 @@ module _ (ws table₀ table levels : List ℕ) (top i : ℕ) (l : i < length ws)
   pub putting-more : (after levels′ : List ℕ) (top′ : ℕ) (r : Record)
       → r ≡ entryOf (i + 1) (getD levels top 0 - 1) (getD ws i 0) (span 1 (drop i ws))
       → after ≡ sets table (form1 .recordWords * (i + 1)) (recordsWords (r ∷ []))
-      → length levels′ ≡ length levels → Descended levels top (arity (getD ws i 0)) levels′ top′ → Putting ws table₀ after levels′ top′ (i + 1)
-  putting-more after levels′ top′ r e f a d =
+      → 1 ≤ top → (top′, levels′) ≡ descended levels top (arity (getD ws i 0)) → Putting ws table₀ after levels′ top′ (i + 1)
+  putting-more after levels′ top′ r e f a g =
       record {
         within = omega arith;
-        levels-length = a ∙ p .levels-length;
+        levels-length = d .same-length ∙ p .levels-length;
         levels-left = omega (arith, d .least, p .levels-left);
         levels-most = omega (arith, d .most);
         positive = rw (d .levels) (positive-push (arity (getD ws i 0)) (push (getD levels top 0 - 1) (drop (top + 1) levels)) (positive-push (getD levels top 0 - 1) (drop (top + 1) levels) ((rw level at (p .positive)) .1)));
@@ -126,6 +137,9 @@ module _ (ws table₀ table levels : List ℕ) (top i : ℕ) (l : i < length ws)
         to-put = rw (f, four) (rw step at (p .to-put));
       }
     where
+      d : Levels levels top 1 (push (arity (getD ws i 0)) (push (getD levels top 0 - 1) (drop (top + 1) levels))) (top′, levels′)
+      d = descended-levels levels top (arity (getD ws i 0)) g a (omega (arith, p .levels-length))
+
       step : entries (i + 1) (drop top levels) (drop i ws) ≡ r ∷ entries (i + 1 + 1) (drop top′ levels′) (drop (i + 1) ws)
       step = rw (e, d .levels, level, front, add-one (i + 1))
 

@@ -1,14 +1,14 @@
 -- What reading makes of the records that hang at a link ("The stored table": term and chain are read by turns): the words of the term that
 -- the records mean. A record is read with the chain of its children; its next sibling is read after it.
-use Prim.Native.Nat.{ℕ, suc, _-_, _≤_, _<_}
+use Prim.Native.Nat.{ℕ, suc, _-_}
 use mathlib.Core.Path.{_≡_}
 use mathlib.Core.Bool.{false, cond}
 use mathlib.Core.List.{List, [], _∷_, _++_}
 use lib.Dec.{eqb}
 use lib.ListN.{length}
-use Rattle.calculus.specs.Words.{constructorKind, caseKind, kindBase, word, pack}
-use Rattle.words.specs.Limits.{payloadBound}
+use Rattle.calculus.specs.Words.{word}
 use Rattle.records.specs.Records.{Table, Stored, view, hanging}
+use Rattle.records.specs.Payload.{payload}
 use Rattle.records.specs.Values.{wrongValue}
 use Rattle.records.specs.Children.{children, wrongChildren, Walkable}
 
@@ -16,17 +16,7 @@ use Rattle.records.specs.Children.{children, wrongChildren, Walkable}
 abbrev pub ahead : Table → (link : ℕ) → ℕ
 ahead T l = cond (eqb l 0) 0 (suc (T .n) - l)
 
--- The word of a record with so many children. A constructor's and a case's payload tell the number of their arguments and branches; any other is
--- the record's value.
-abbrev pub payload : (kind value children : ℕ) → ℕ
-payload k v m = cond (eqb k constructorKind) (pack v m) (cond (eqb k caseKind) (m - 1) v)
-
--- The word exists, and the payload does not go below 0.
-pub record Wordable (kind value children : ℕ) : Type 0 where
-  pub kind-fits : kind < kindBase
-  pub payload-fits : payload kind value children < payloadBound
-  pub subject : kind ≡ caseKind → 1 ≤ children
-
+-- The word of a record.
 abbrev pub recordWord : Table → ℕ → ℕ
 recordWord T i = word (T .at i .kind) (payload (T .at i .kind) (T .at i .value) (length (children T i)))
 

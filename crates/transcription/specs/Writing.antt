@@ -2,19 +2,15 @@
 --
 -- How many items follow a word tells where its children are; the items still to come are counted level by level, so that each word is known to
 -- have a sibling after it or none. As in `Skip`, the functions are total.
-use Prim.Native.Nat.{ℕ, zero, suc, _+_, _-_, _≤_}
-use mathlib.Core.Path.{_≡_}
+use Prim.Native.Nat.{ℕ, zero, suc, _+_, _-_}
 use mathlib.Core.Bool.{cond}
 use mathlib.Core.List.{List, [], _∷_}
 use lib.Dec.{eqb}
-use lib.ListN.{getD, drop}
-use Rattle.calculus.specs.Words.{constructorKind, caseKind, kindOf, payloadOf, tagOf}
+use lib.ListN.{getD, set}
+use Rattle.calculus.specs.Words.{kindOf, payloadOf}
 use Rattle.calculus.specs.Skip.{arity, span}
 use Rattle.records.specs.Records.{Record, entry}
-
--- The value of a record: a constructor's tag, 0 for a case, and otherwise the payload.
-unfoldable pub valueOf : (kind payload : ℕ) → ℕ
-valueOf k p = cond (eqb k constructorKind) (tagOf p) (cond (eqb k caseKind) 0 p)
+use Rattle.records.specs.Payload.{valueOf}
 
 -- A link, where there is something that it leads to.
 abbrev pub linkIf : (number link : ℕ) → ℕ
@@ -36,14 +32,11 @@ entries i [] (w ∷ ws) = []
 entries i (k ∷ ks) (w ∷ ws) =
     entryOf i (k - 1) w (span 1 (w ∷ ws)) ∷ entries (suc i) (push (arity w) (push (k - 1) ks)) ws
 
--- The levels that start at `top` of a slice with one more level on top of them start at `top′`, at most one place before.
-pub record Pushed (before : List ℕ) (top items : ℕ) (after : List ℕ) (top′ : ℕ) : Type 0 where
-  pub levels : drop top′ after ≡ push items (drop top before)
-  pub least : top ≤ top′ + 1
-  pub most : top′ ≤ top
+-- The levels that a slice holds from `top` on, with one more on top of them where it has items: where they start then, and the slice.
+abbrev pub pushed : (levels : List ℕ) (top items : ℕ) → ℕ × List ℕ
+pushed levels top zero = (top, levels)
+pushed levels top (suc k) = (top - 1, set levels (top - 1) (suc k))
 
--- The levels that start at `top` of a slice with one item less at the innermost, and one more level on top of them.
-pub record Descended (before : List ℕ) (top items : ℕ) (after : List ℕ) (top′ : ℕ) : Type 0 where
-  pub levels : drop top′ after ≡ push items (push (getD before top 0 - 1) (drop (top + 1) before))
-  pub least : top ≤ top′ + 1
-  pub most : top′ ≤ top + 1
+-- The same with one item less at the innermost of them.
+abbrev pub descended : (levels : List ℕ) (top items : ℕ) → ℕ × List ℕ
+descended levels top items = let rest = pushed levels (top + 1) (getD levels top 0 - 1) in pushed (rest .1) (rest .0) items

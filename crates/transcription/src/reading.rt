@@ -2,37 +2,18 @@
 use records::Form;
 use records::Record;
 use records::children::chain_length;
+use records::payload::word;
 use words::Word;
-ghost use mathlib.Core.Path.{_≡_};
 ghost use Prim.Native.Nat.{_+_, _≤_};
 ghost use lib.ListN.{length};
-ghost use Rattle.calculus.specs.Words.{word, workspaceMost};
+ghost use Rattle.calculus.specs.Words.{workspaceMost};
 ghost use Rattle.words.specs.Placed.{Placed};
 ghost use Rattle.records.specs.Types.{stored, viewed};
-ghost use Rattle.transcription.specs.Reading.{payload, Wordable, chainWords, termWords, Readable};
+ghost use Rattle.transcription.specs.Reading.{chainWords, termWords, Readable};
 
 // Room for the words of every term that a workspace holds. The readers are lent an array and no slice: a reference to an array is one machine word, so each
 // level of a table takes less machine stack.
 pub type Words = [u32; Word::WORKSPACE_MOST];
-
-// The payload of a record of this kind and value with so many children, and its word.
-fn payload(kind: u32, value: u32, children: usize) -> u32
-    requires { ⌜ Wordable kind value children ⌝ }
-    ensures { λ r. ⌜ r ≡ payload kind value children ⌝ }
-{
-    match kind {
-        Word::CONSTRUCTOR => value * Word::COUNT_BASE + children as u32,
-        Word::CASE => children as u32 - 1,
-        _ => value,
-    }
-}
-
-fn word(kind: u32, value: u32, children: usize) -> Word
-    requires { ⌜ Wordable kind value children ⌝ }
-    ensures { λ r. ⌜ r .0 ≡ word kind (payload kind value children) ⌝ }
-{
-    Word::new(kind, payload(kind, value, children))
-}
 
 // Writes the words of record `at` with its children from position `out` on, and returns the position after them.
 pub fn read_term(table: &[u32], form: Form, at: usize, words: &mut Words, out: usize) -> usize

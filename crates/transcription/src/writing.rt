@@ -1,5 +1,8 @@
 // The records of a term, from its words, into a table ("The stored table").
+use records::Declared;
+use records::Form;
 use records::Record;
+use records::payload::value;
 use words::Word;
 use words::extent;
 ghost use mathlib.Core.Path.{_≡_};
@@ -7,25 +10,14 @@ ghost use mathlib.Core.List.{[], _∷_};
 ghost use Prim.Native.Nat.{_+_, _*_, _<_, _≤_};
 ghost use lib.ListN.{length, getD, drop};
 ghost use lib.Seq.{sets};
-ghost use Rattle.calculus.specs.Words.{workspaceMost, kindOf, payloadOf};
+ghost use Rattle.calculus.specs.Words.{workspaceMost};
 ghost use Rattle.calculus.specs.Skip.{span};
-ghost use Rattle.records.specs.Records.{entry, form1, recordsWords};
+ghost use Rattle.records.specs.Records.{form1, recordsWords};
 ghost use Rattle.records.specs.Types.{recordOf};
-ghost use Rattle.transcription.specs.Writing.{valueOf, linkIf, entryOf, entries, Pushed, Descended};
+ghost use Rattle.transcription.specs.Writing.{linkIf, entryOf, entries, pushed, descended};
 
 // Room for a level for each word and one around them.
 const LEVELS: usize = Word::WORKSPACE_MOST + 1;
-
-// The value of a word's record.
-fn value(word: Word) -> u32
-    ensures { λ r. ⌜ r ≡ valueOf (kindOf (word .0)) (payloadOf (word .0)) ⌝ }
-{
-    match word.kind() {
-        Word::CONSTRUCTOR => word.tag(),
-        Word::CASE => 0,
-        _ => word.payload(),
-    }
-}
 
 // The link, if there is something that it leads to.
 fn link_if(number: usize, link: usize) -> usize
@@ -46,6 +38,7 @@ fn entry(ws: &[u32], i: usize, siblings: usize) -> Record
     Record {
         kind: word.kind(),
         value: value(word),
+        declared: Declared::Nothing,
         first: link_if(word.arity(), i + 2),
         next: link_if(siblings, extent(ws, i) + 1),
     }
@@ -54,7 +47,7 @@ fn entry(ws: &[u32], i: usize, siblings: usize) -> Record
 // One more level on top of the levels from `top` on, where it has items; returns where the levels start then.
 fn push(levels: &mut [usize], top: usize, items: usize) -> usize
     requires { ⌜ (1 ≤ top) × (top ≤ length (now levels)) ⌝ }
-    ensures { λ r. ⌜ Pushed (now (levels .entry)) top items (now (levels .exit)) r ⌝ }
+    ensures { λ r. ⌜ (r, now (levels .exit)) ≡ pushed (now (levels .entry)) top items ⌝ }
 {
     if items == 0 {
         return top;
@@ -66,7 +59,7 @@ fn push(levels: &mut [usize], top: usize, items: usize) -> usize
 // Goes on after an item of the innermost level that so many items follow: that level has one item less, and these are a level of their own.
 fn descend(levels: &mut [usize], top: usize, items: usize) -> usize
     requires { ⌜ (1 ≤ top) × (top < length (now levels)) × (1 ≤ getD (now levels) top 0) ⌝ }
-    ensures { λ r. ⌜ Descended (now (levels .entry)) top items (now (levels .exit)) r ⌝ }
+    ensures { λ r. ⌜ (r, now (levels .exit)) ≡ descended (now (levels .entry)) top items ⌝ }
 {
     let siblings = levels[top] - 1;
     let rest = push(levels, top + 1, siblings);
@@ -85,7 +78,7 @@ fn put_records(ws: &[u32], table: &mut [u32])
         if top == LEVELS {
             return;
         }
-        entry(ws, i, levels[top] - 1).put(table, i + 1);
+        entry(ws, i, levels[top] - 1).put(table, Form::One, i + 1);
         top = descend(&mut levels, top, Word(ws[i]).arity());
         i += 1;
     }
@@ -94,14 +87,8 @@ fn put_records(ws: &[u32], table: &mut [u32])
 // Puts the table of the term that the words are: the header, and behind it the records.
 pub fn put_table(ws: &[u32], table: &mut [u32])
     requires { ⌜ (length (now ws) ≤ workspaceMost) × (length (now table) ≡ form1 .recordWords * (length (now ws) + 1)) ⌝ }
-    ensures { λ _. ⌜ now (table .exit) ≡ sets (sets (now (table .entry)) 0 (recordsWords (entry (form1 .number) (length (now (ws .entry))) 1 0 ∷ []))) (form1 .recordWords) (recordsWords (entries 1 (1 ∷ []) (now (ws .entry)))) ⌝ }
+    ensures { λ _. ⌜ now (table .exit) ≡ sets (sets (now (table .entry)) 0 (form1 .headerWords (length (now (ws .entry))) 1)) (form1 .recordWords) (recordsWords (entries 1 (1 ∷ []) (now (ws .entry)))) ⌝ }
 {
-    let header = Record {
-        kind: Record::FORM,
-        value: ws.len() as u32,
-        first: 1,
-        next: 0,
-    };
-    header.put(table, 0);
+    Form::One.put_header(table, ws.len(), 1);
     put_records(ws, table);
 }

@@ -1,4 +1,4 @@
--- What a side's plan tells of its term, and what comparing two terms tells of point 1.
+-- What a side's plan tells of its term, and what the words of two terms tell of point 1.
 use Prim.Native.Nat.{ℕ, _+_, _≤_, _<_, max}
 use mathlib.Core.Path.{_≡_, refl, sym, _∙_, ap}
 use mathlib.Core.Logic.{if-pos, if-neg}
@@ -6,27 +6,22 @@ use mathlib.Core.Option.{Option, some, none, bind, Option·map, Option·getD}
 use native.Mathlib.Omega.{arith}
 use borrow.Author.Tests.{eq-eqb, ne-eqb, lt-ltb, le-ltb}
 use Rattle.calculus.specs.Term.{Term}
-use Rattle.calculus.specs.Words.{size}
+use Rattle.calculus.specs.Words.{words, size}
 use Rattle.calculus.specs.Accepted.{Accepted}
 use Rattle.calculus.specs.Leftmost.{leftmost}
 use Rattle.calculus.specs.Position.{contractAt, redexAt}
 use Rattle.calculus.specs.Equality.{equal?}
 use Rattle.calculus.specs.Comparison.{Comparison, equal, differ, compare}
-use Rattle.calculus.specs.Rounds.{Different, Budget, Full, contractions, ends, goes, round, next, nextLength, same}
+use Rattle.calculus.specs.Rounds.{Different, Budget, Full, contractions, ends, goes, round, nextLength, same, atOnce}
 use Rattle.calculus.proofs.PositionLaws.{redex-first, leftmost-at-redex}
+use Rattle.calculus.proofs.RoundsLaws.{next-is}
 use Rattle.calculus.proofs.ComparisonLaws.{equal≢differ, equal-terms-compared}
-use Rattle.turn.specs.Turn.{Plan, normal, contract, lengthIn, planAt, planned, atOnce}
+use Rattle.turn.specs.Turn.{Plan, normal, contract, lengthIn, planAt, planned, atOnceBy, atOnceIn}
 
 -- What a side's plan tells of its term.
 pub data Planned (t : Term) : Plan → Type 0 where
   is-normal : redexAt t ≡ none → leftmost t ≡ none → Planned t normal
   contracts : (p : ℕ) (u : Term) → redexAt t ≡ some p → contractAt p t ≡ some u → leftmost t ≡ some u → Planned t (contract p (size u))
-
-pub next-is : (t : Term) {u : Term} → leftmost t ≡ some u → next t ≡ u
-next-is t e = ap (λ o. Option·getD o t) e
-
-pub next-normal : (t : Term) → leftmost t ≡ none → next t ≡ t
-next-normal t e = ap (λ o. Option·getD o t) e
 
 at-redex : (t : Term) {r : Option ℕ} → redexAt t ≡ r → leftmost t ≡ bind r (λ p. contractAt p t)
 at-redex t e = leftmost-at-redex t ∙ ap (λ r. bind r (λ p. contractAt p t)) e
@@ -50,13 +45,13 @@ planned-length t = by (planned-tells t)
     by (is-normal r l) = sym (ap (Option·map size) l)
     by (contracts p u r c l) = sym (ap (Option·map size) l)
 
--- Point 1 is what comparing the terms tells.
-asked-by : (t u : Term) → Accepted 0 t → Accepted 0 u → (c : Comparison) → compare t u ≡ c → atOnce c ≡ same t u
+-- Point 1 is what the words of the terms tell.
+asked-by : (t u : Term) → Accepted 0 t → Accepted 0 u → (c : Comparison) → compare t u ≡ c → atOnceBy c ≡ atOnce t u
 unfolding same
 asked-by t u h k equal e = sym (if-pos (equal? t u) (equal-terms-compared t u h k .0 e) _ _)
 asked-by t u h k (differ p) e = sym (if-neg (equal? t u) (λ q. equal≢differ (sym (equal-terms-compared t u h k .1 q) ∙ e)) _ _)
 
-pub asked : (t u : Term) → Accepted 0 t → Accepted 0 u → atOnce (compare t u) ≡ same t u
+pub asked : (t u : Term) → Accepted 0 t → Accepted 0 u → atOnceIn (words t) (words u) ≡ atOnce t u
 asked t u h k = asked-by t u h k (compare t u) refl
 
 -- A side makes one contraction at most.

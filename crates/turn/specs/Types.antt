@@ -1,4 +1,7 @@
--- What the code's types stand for: the verdict's, the comparison's and the round's enum case by case, and what a side would do.
+-- What the code's types stand for: the enums of verdicts, answers, comparisons and rounds case by case, and what a side would do.
+use mathlib.Core.Path.{_≡_}
+use mathlib.Core.List.{[], _∷_, map}
+use mathlib.Core.Option.{Option, some, none}
 use Rattle.calculus.specs.Comparison.{Comparison, equal, differ}
 use Rattle.calculus.specs.Rounds.{Verdict, Same, Different, Budget, Full, Round, ends, goes}
 use Rattle.search.specs.declared.Plan as codePlan
@@ -7,6 +10,8 @@ use Rattle.turn.specs.declared.Verdict as code
 use Rattle.turn.specs.declared.Verdict.the-variants as verdict
 use Rattle.turn.specs.declared.compare.Comparison as codeComparison
 use Rattle.turn.specs.declared.compare.Comparison.the-variants as comparison
+use Rattle.turn.specs.declared.Early as codeEarly
+use Rattle.turn.specs.declared.Early.the-variants as early
 use Rattle.turn.specs.declared.Round as codeRound
 use Rattle.turn.specs.declared.Round.the-variants as round
 use Rattle.turn.specs.Turn.{Plan, normal, contract}
@@ -17,6 +22,11 @@ verdictOf verdict.Same = Same
 verdictOf verdict.Different = Different
 verdictOf verdict.Budget = Budget
 verdictOf verdict.Full = Full
+
+-- What is answered at once.
+abbrev pub earlyOf : codeEarly.Early → Option Verdict
+earlyOf (early.Ends verdict) = some (verdictOf verdict)
+earlyOf early.Open = none
 
 -- Equal, or the position where two terms differ.
 abbrev pub comparisonOf : codeComparison.Comparison → Comparison
@@ -30,3 +40,10 @@ planOf (plan.Contract redex) = contract (redex .at) (redex .length)
 abbrev pub roundOf : codeRound.Round → Round
 roundOf (round.Ends verdict) = ends (verdictOf verdict)
 roundOf (round.Goes count) = goes count
+
+-- Every case of these enums.
+pub record Verdict-cases : Type 0 where
+  pub verdicts : map verdictOf (verdict.Same ∷ verdict.Different ∷ verdict.Budget ∷ verdict.Full ∷ []) ≡ Same ∷ Different ∷ Budget ∷ Full ∷ []
+  pub early : map earlyOf (early.Ends verdict.Budget ∷ early.Open ∷ []) ≡ some Budget ∷ none ∷ []
+  pub comparisons : map comparisonOf (comparison.Equal ∷ comparison.Differ 5 ∷ []) ≡ equal ∷ differ 5 ∷ []
+  pub rounds : map roundOf (round.Ends verdict.Full ∷ round.Goes 2 ∷ []) ≡ ends Full ∷ goes 2 ∷ []

@@ -1,15 +1,20 @@
-// One round: what each side would do, and what the round comes to by the two terms compared. Nothing of the terms is changed.
+// One round: what two terms are answered at once, what each side would do otherwise, and what the round then comes to. Nothing of the terms is changed.
 ghost use mathlib.Core.Path.{_≡_};
-ghost use mathlib.Core.Option.{Option·getD};
 ghost use Prim.Native.Nat.{max};
-ghost use Rattle.calculus.specs.Rounds.{contractions, round, shownPosition};
-ghost use Rattle.turn.specs.Turn.{lengthIn, atOnce};
-ghost use Rattle.turn.specs.Types.{verdictOf, roundOf, planOf, comparisonOf};
+ghost use Rattle.calculus.specs.Rounds.{verdictNumber, contractions, round, shownPosition};
+ghost use lib.ListN.{take};
+ghost use mathlib.Core.Option.{none, Option·getD};
+ghost use Rattle.calculus.specs.Comparison.{compareWords};
+ghost use Rattle.turn.specs.Compare.{Compares};
+ghost use Rattle.turn.specs.Turn.{lengthIn, atOnceIn};
+ghost use Rattle.turn.specs.Types.{verdictOf, earlyOf, roundOf, planOf, comparisonOf};
 use compare::Comparison;
+use compare::compare_terms;
 use compare::position;
 use search::Plan;
 
 pub mod compare;
+pub mod resume;
 
 pub enum Verdict {
     Same,
@@ -18,10 +23,60 @@ pub enum Verdict {
     Full,
 }
 
+impl Verdict {
+    pub fn number(self) -> u32
+        ensures { λ r. ⌜ r ≡ verdictNumber (verdictOf self) ⌝ }
+    {
+        match self {
+            Verdict::Same => 0,
+            Verdict::Different => 1,
+            Verdict::Budget => 2,
+            Verdict::Full => 3,
+        }
+    }
+}
+
 // What a round comes to: it ends in a verdict, or makes so many contractions.
 pub enum Round {
     Ends(Verdict),
     Goes(u32),
+}
+
+// What two terms are answered before either is contracted: a verdict, or nothing yet.
+pub enum Early {
+    Ends(Verdict),
+    Open,
+}
+
+// The answer, with the two terms compared.
+pub struct Asked {
+    pub compared: Comparison,
+    pub early: Early,
+}
+
+// Point 1 of a round, of the terms in two workspaces, each by its length; the first `from` words are known to be the same.
+pub fn ask(
+    left: &[u32],
+    left_length: usize,
+    right: &[u32],
+    right_length: usize,
+    from: usize,
+) -> Asked
+    requires { ⌜ Compares (now left) «left_length» (now right) «right_length» from ⌝ }
+    ensures { λ r. ⌜ comparisonOf (r .compared) ≡ compareWords (take «left_length» (now (left .entry))) (take «right_length» (now (right .entry))) ⌝ }
+    ensures { λ r. ⌜ earlyOf (r .early) ≡ atOnceIn (take «left_length» (now (left .entry))) (take «right_length» (now (right .entry))) ⌝ }
+{
+    let compared = compare_terms(left, left_length, right, right_length, from);
+    if let Comparison::Equal = compared {
+        return Asked {
+            compared,
+            early: Early::Ends(Verdict::Same),
+        };
+    }
+    Asked {
+        compared,
+        early: Early::Open,
+    }
 }
 
 // How many contractions a side makes in a round.
@@ -53,13 +108,10 @@ fn longer(first: usize, second: usize) -> usize
     first
 }
 
-// One round, points 1 to 5 in this order, with `rest` left of the budget and workspaces of `capacity` words.
-pub fn judge(compared: Comparison, left: Plan, right: Plan, rest: u32, capacity: usize) -> Round
-    ensures { λ r. ⌜ roundOf r ≡ round (atOnce (comparisonOf compared)) capacity rest (lengthIn (planOf left)) (lengthIn (planOf right)) ⌝ }
+// Points 2 to 5 of a round, in this order, with `rest` left of the budget and workspaces of `capacity` words.
+pub fn judge(left: Plan, right: Plan, rest: u32, capacity: usize) -> Round
+    ensures { λ r. ⌜ roundOf r ≡ round none capacity rest (lengthIn (planOf left)) (lengthIn (planOf right)) ⌝ }
 {
-    if let Comparison::Equal = compared {
-        return Round::Ends(Verdict::Same);
-    }
     let count = contractions(left) + contractions(right);
     if count == 0 {
         return Round::Ends(Verdict::Different);

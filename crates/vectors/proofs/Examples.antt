@@ -11,10 +11,11 @@ use Rattle.calculus.specs.Equality.{tree, from-trees, equal?}
 use Rattle.calculus.specs.Workspace.{termAt}
 use Rattle.calculus.specs.Rounds.{same, roundsIn, roundsBy}
 use Rattle.claim.specs.Press.{press}
-use Rattle.press.specs.Showing.{show}
+use Rattle.claim.specs.Showing.{show}
 use Rattle.notation.specs.Reader.{sign, isIndex, settle, onDigit, onClose, popped, onBegun, step, scan, finish, lineWords, lineTerm}
 use Rattle.notation.specs.Reading.{readLine}
 use Rattle.records.specs.Header.{wrongLength, wrongHeader}
+use Rattle.words.specs.Payload.{payloadFits}
 use Rattle.records.specs.Values.{valueFits, wrongValue}
 use Rattle.records.specs.Links.{namings, wrongLink}
 use Rattle.records.specs.Children.{childrenFit, wrongChildren}
@@ -59,7 +60,7 @@ read-examples =
     }
 
 pub passing-examples : Passing-examples
-unfolding pastSpace startsWith after digits numberAt settingAt itemAt withMore items listAt comparedAt agree areWords verdictAt givenAt lentAt refusedAfter countedAfter checked pressStep shownAfter stepped stepsFrom openedAt pairRun pairHolds chainFrom tableAt isLast isTable writesInto writesBack broughtAs loadedAs loading loadHolds writesWords writeHolds reading lineHolds import export wordsIn decode combinator? exportsBack importedAs importing importHolds exportedAs exportsWords exportHolds passes areBytes readLine lineTerm lineWords scan step settle sign onDigit onClose isIndex onBegun finish popped anyTerm onlyTerm loadStored write wrongLength wrongHeader valueFits wrongValue namings wrongLink childrenFit wrongChildren termOf meantTerm meantTerms meantBranch meantBranches meant meaning press show termAt read readItems item takeTerm takeTerms takeBranches readLam readApp readCon readCase readBranch oneTerm accepted? scoped? everywhere? tagged? both₃ isTag? startsAbove? rising? Dec·and decLe decLt bind orElse firstStep leftmost tree from-trees equal? ℕ-discrete same roundsIn roundsBy
+unfolding pastSpace startsWith after digits numberAt settingAt itemAt withMore items listAt comparedAt agree areWords verdictAt givenAt lentAt refusedAfter countedAfter checked pressStep shownAfter stepped stepsFrom openedAt pairRun pairHolds chainFrom tableAt isLast isTable writesInto writesBack broughtAs loadedAs loading loadHolds writesWords writeHolds reading lineHolds import export wordsIn decode combinator? exportsBack importedAs importing importHolds exportedAs exportsWords exportHolds passes areBytes readLine lineTerm lineWords scan step settle sign onDigit onClose isIndex onBegun finish popped anyTerm onlyTerm loadStored write wrongLength wrongHeader payloadFits valueFits wrongValue namings wrongLink childrenFit wrongChildren termOf meantTerm meantTerms meantBranch meantBranches meant meaning press show termAt read readItems item takeTerm takeTerms takeBranches readLam readApp readCon readCase readBranch oneTerm accepted? scoped? everywhere? tagged? both₃ isTag? startsAbove? rising? Dec·and decLe decLt bind orElse firstStep leftmost tree from-trees equal? ℕ-discrete same roundsIn roundsBy
 passing-examples =
     record {
       pressed-right = refl;

@@ -2,21 +2,15 @@
 use Prim.Native.Nat.{ℕ}
 use mathlib.Core.Bool.{Bool, false, _&&_}
 use lib.Dec.{eqb}
-use Rattle.calculus.specs.Rounds.{Verdict, Same, Different, Budget, Full}
+use Rattle.calculus.specs.Rounds.{Verdict, verdictNumber}
 use Rattle.calculus.specs.Refusal.{number}
 use Rattle.claim.specs.State.{Session}
 use Rattle.claim.specs.Answer as press
 use Rattle.calculus.specs.Bringing as bring
 
--- The verdicts in the order in which the rules name them, from 0.
-abbrev pub numberOf : Verdict → ℕ
-numberOf Same = 0
-numberOf Different = 1
-numberOf Budget = 2
-numberOf Full = 3
-
+-- Verdicts are compared by their numbers.
 abbrev pub sameVerdict : Verdict → Verdict → Bool
-sameVerdict v u = eqb (numberOf v) (numberOf u)
+sameVerdict v u = eqb (verdictNumber v) (verdictNumber u)
 
 abbrev pub isSession : Session → (total left right : ℕ) → Verdict → Bool
 isSession s total left right v = ((eqb (s .total) total && eqb (s .left) left) && eqb (s .right) right) && sameVerdict (s .verdict) v

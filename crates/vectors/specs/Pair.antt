@@ -10,7 +10,7 @@ use Rattle.turn.specs.declared.Verdict.the-variants as verdict
 use Rattle.claim.specs.State.{Session, fresh}
 use Rattle.claim.specs.Answer.{Answer, Pressed}
 use Rattle.claim.specs.Press.{press}
-use Rattle.press.specs.Showing.{show, partWords}
+use Rattle.claim.specs.Showing.{show, partWords}
 use Rattle.turn.specs.Types.{verdictOf}
 use Rattle.press.specs.Types.{sessionOf, callOf}
 use Rattle.vector_text.specs.Text.{nowhere, after, numberAt, settingAt}

@@ -31,7 +31,7 @@ ghost use mathlib.Core.Path.{_≡_};
 ghost use lib.ListN.{length};
 ghost use Rattle.turn.specs.Types.{verdictOf};
 ghost use Rattle.press.specs.Types.{sessionOf, answerOf, pressedOf};
-ghost use Rattle.vectors.specs.Answers.{numberOf, sameVerdict, isSession, isShown, isRefused};
+ghost use Rattle.vectors.specs.Answers.{sameVerdict, isSession, isShown, isRefused};
 ghost use Rattle.vectors.specs.Pair.{room, junk, onlyIf, verdictAt, givenAt, lentAt, stageOf, refusedAfter, countedAfter, checked};
 ghost use Rattle.vectors.specs.Pair.{steppedOf, pressStep, shownAfter, stepped, endedOf, stepsFrom, openedOf, openedAt, pairRun, pairHolds};
 
@@ -91,21 +91,10 @@ fn only_if(passed: bool, next: usize) -> usize
     NOWHERE
 }
 
-fn verdict_number(verdict: Verdict) -> u32
-    ensures { λ r. ⌜ r ≡ numberOf (verdictOf verdict) ⌝ }
-{
-    match verdict {
-        Verdict::Same => 0,
-        Verdict::Different => 1,
-        Verdict::Budget => 2,
-        Verdict::Full => 3,
-    }
-}
-
 fn same_verdict(verdict: Verdict, other: Verdict) -> bool
     ensures { λ r. ⌜ r ≡ sameVerdict (verdictOf verdict) (verdictOf other) ⌝ }
 {
-    verdict_number(verdict) == verdict_number(other)
+    verdict.number() == other.number()
 }
 
 // Whether a session has this total, these lengths and this verdict.

@@ -12,6 +12,7 @@ use Rattle.calculus.specs.Workspace.{termAt}
 use Rattle.calculus.specs.Rounds.{same, roundsIn, roundsBy}
 use Rattle.claim.specs.Press.{press}
 use Rattle.records.specs.Header.{wrongLength, wrongHeader}
+use Rattle.words.specs.Payload.{payloadFits}
 use Rattle.records.specs.Values.{valueFits, wrongValue}
 use Rattle.records.specs.Links.{namings, wrongLink}
 use Rattle.records.specs.Children.{childrenFit, wrongChildren}
@@ -24,7 +25,7 @@ use Rattle.verdict_line.specs.Line.{printed}
 use Rattle.verdict_line.specs.Examples.{bytesOf, Printed-examples}
 
 pub printed-examples : Printed-examples
-unfolding printed request wordsOf bytesOf digits decimal loadStored wrongLength wrongHeader valueFits wrongValue namings wrongLink childrenFit wrongChildren termOf meantTerm meantTerms meantBranch meantBranches meant meaning press termAt read items item takeTerm takeTerms takeBranches readLam readApp readCon readCase readBranch oneTerm accepted? scoped? everywhere? tagged? both₃ isTag? startsAbove? rising? Dec·and decLe decLt bind orElse firstStep leftmost tree from-trees equal? ℕ-discrete same roundsIn roundsBy
+unfolding printed request wordsOf bytesOf digits decimal loadStored wrongLength wrongHeader payloadFits valueFits wrongValue namings wrongLink childrenFit wrongChildren termOf meantTerm meantTerms meantBranch meantBranches meant meaning press termAt read items item takeTerm takeTerms takeBranches readLam readApp readCon readCase readBranch oneTerm accepted? scoped? everywhere? tagged? both₃ isTag? startsAbove? rising? Dec·and decLe decLt bind orElse firstStep leftmost tree from-trees equal? ℕ-discrete same roundsIn roundsBy
 printed-examples =
     record {
       same = refl;

@@ -15,13 +15,13 @@ use Rattle.calculus.specs.Bringing.{refused}
 use Rattle.tables.specs.Load.{loadStored, load}
 use Rattle.request.specs.Request.{Request, request}
 use Rattle.words.specs.Placed.{Placed}
-use Rattle.verdict_text.specs.Line.{refuses, lineMost}
+use Rattle.verdict_text.specs.Line.{refuses, printedMost}
 use Rattle.verdict_text.proofs.LineLaws.{line-length}
 use Rattle.verdict_line.specs.Line.{judged, printed}
 use Rattle.verdict_line.specs.Judge.{lentMost}
 
 -- What is printed fits where it is put.
-pub printed-fits : {before after : List ℕ} (bytes : List ℕ) {r : ℕ} → Placed before 0 (printed bytes) after r → length before ≡ lineMost → r ≤ length after
+pub printed-fits : {before after : List ℕ} (bytes : List ℕ) {r : ℕ} → Placed before 0 (printed bytes) after r → length before ≡ printedMost → r ≤ length after
 unfolding printed
 printed-fits {before} bytes p size =
     rw (p .slice, length-sets) (omega (arith, p .position, line-length (judged (request bytes))))

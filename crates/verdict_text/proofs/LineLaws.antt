@@ -5,9 +5,9 @@ use lib.ListN.{length, length-append}
 use Rattle.calculus.specs.Rounds.{Verdict, Same, Different, Budget, Full}
 use Rattle.text.specs.Decimal.{field}
 use Rattle.text.proofs.DecimalLaws.{length-decimal}
-use Rattle.verdict_text.specs.Line.{Line, input, refuses, shows, nameOf, positionField, lineBytes, lineMost}
+use Rattle.verdict_text.specs.Line.{Line, input, refuses, shows, nameOf, positionField, lineBytes, printedMost}
 
-pub length-name : (v : Verdict) → length (nameOf v) ≤ 9
+length-name : (v : Verdict) → length (nameOf v) ≤ 9
 length-name Same = omega arith
 length-name Different = omega arith
 length-name Budget = omega arith
@@ -19,8 +19,8 @@ length-position Different p = omega arith
 length-position Budget p = omega arith
 length-position Full p = omega arith
 
--- No line is longer than `lineMost`.
-pub line-length : (l : Line) → length (lineBytes l) ≤ lineMost
+-- No line is longer than `printedMost`.
+pub line-length : (l : Line) → length (lineBytes l) ≤ printedMost
 line-length input = omega arith
 line-length (refuses n) = simp length-append (omega (arith, length-decimal n))
 line-length (shows a) =

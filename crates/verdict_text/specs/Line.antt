@@ -39,5 +39,5 @@ lineBytes (shows a) =
     ++ (field (a .spent) ++ (field (a .left) ++ (field (a .right) ++ (positionField (a .verdict) (a .position) ++ (newline ∷ [])))))
 
 -- The most bytes of a line: the longest verdict, four numbers behind a space, and the newline.
-abbrev pub lineMost : ℕ
-lineMost = length (nameOf Different) + 4 * (1 + digitsMost) + 1
+abbrev pub printedMost : ℕ
+printedMost = length (nameOf Different) + 4 * (1 + digitsMost) + 1

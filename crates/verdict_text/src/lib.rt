@@ -10,7 +10,7 @@ ghost use Prim.Native.Nat.{_≤_, _+_};
 ghost use lib.ListN.{length};
 ghost use Rattle.turn.specs.Types.{verdictOf};
 ghost use Rattle.rounds.specs.Types.{shownOf};
-ghost use Rattle.verdict_text.specs.Line.{nameOf, positionField, lineBytes, lineMost, refuses, shows};
+ghost use Rattle.verdict_text.specs.Line.{nameOf, positionField, lineBytes, printedMost, refuses, shows};
 ghost use Rattle.verdict_text.specs.Types.{printedLine};
 ghost use Rattle.words.specs.Placed.{Placed};
 
@@ -18,7 +18,7 @@ ghost use Rattle.words.specs.Placed.{Placed};
 const VERDICT_MOST: usize = 9;
 
 // The most bytes of a line: a verdict, four numbers behind a space, and the newline.
-pub const LINE_MOST: usize = VERDICT_MOST + 4 * (1 + DIGITS_MOST) + 1;
+pub const PRINTED_MOST: usize = VERDICT_MOST + 4 * (1 + DIGITS_MOST) + 1;
 
 pub enum Line {
     Input,
@@ -27,7 +27,7 @@ pub enum Line {
 }
 
 // The name of a verdict.
-pub fn put_verdict(verdict: Verdict, out: &mut [u8], at: usize) -> usize
+fn put_verdict(verdict: Verdict, out: &mut [u8], at: usize) -> usize
     requires { ⌜ at + length (nameOf (verdictOf verdict)) ≤ length (now out) ⌝ }
     ensures { λ r. ⌜ Placed (now (out .entry)) at (nameOf (verdictOf verdict)) (now (out .exit)) r ⌝ }
 {
@@ -88,5 +88,5 @@ pub fn put_line(line: Line, out: &mut [u8]) -> usize
 
 // Does nothing. Its contract says that the constant is the number that the definitions give its name.
 fn constants()
-    ensures { λ r. do ⌜ (← ⟦LINE_MOST⟧ .entry) ≡ lineMost ⌝ }
+    ensures { λ r. do ⌜ (← ⟦PRINTED_MOST⟧ .entry) ≡ printedMost ⌝ }
 {}

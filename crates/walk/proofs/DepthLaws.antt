@@ -1,17 +1,18 @@
 -- Laws of a word's binders and of `depths`: no more numbers than words, and each at most `countBase` for each word before it.
 use Prim.Native.Nat.{ℕ, zero, suc, _+_, _*_, _≤_, _<_}
 use mathlib.Core.Path.{_≡_, refl, sym, _∙_, ap}
-use mathlib.Core.Bool.{Bool, true, false, cond}
+use mathlib.Core.Bool.{Bool, true, false}
 use mathlib.Core.List.{List, [], _∷_, _++_}
 use native.Mathlib.Omega.{arith}
 use borrow.Author.Tests.{eqb-true}
 use lib.Dec.{eqb}
 use lib.ListN.{length, take, replicate, length-append, length-replicate}
 use lib.Seq.{take-nil}
-use Rattle.calculus.specs.Words.{abstractionKind, branchKind, countBase, kindOf, payloadOf, countOf}
+use Rattle.calculus.specs.Words.{abstractionKind, branchKind, countBase, kindOf, payloadOf}
 use Rattle.calculus.specs.Skip.{following, arity, span}
 use Rattle.walk.specs.Depths.{depths}
 use Rattle.words.specs.Bound.{binding as bound, bound as binders}
+use Rattle.words.proofs.BoundLaws.{binding-few}
 
 pub depths-done : (ws : List ℕ) → depths [] ws ≡ []
 depths-done [] = refl
@@ -53,15 +54,6 @@ bounded-replicate : (b n d : ℕ) (ds : List ℕ) → d ≤ b → Bounded b ds �
 bounded-replicate b zero d ds h p = p
 bounded-replicate b (suc n) d ds h p = (h, bounded-replicate b n d ds h p)
 
-pub bound-few : (k p : ℕ) {b : ℕ} → b ≡ bound k p → b < countBase
-unfolding bound
-bound-few k p q = rw q (go (eqb k abstractionKind) (eqb k branchKind))
-  where
-    go : (x y : Bool) → cond x 1 (cond y (countOf p) 0) < countBase
-    go true y = omega arith
-    go false true = omega arith
-    go false false = omega arith
-
 -- A binder has one item behind it.
 pub binder-one : (w : ℕ) → 0 < binders w → arity w ≡ 1
 unfolding following bound
@@ -75,7 +67,7 @@ binder-one w = go (kindOf w) (payloadOf w) (eqb (kindOf w) abstractionKind) refl
 -- A word adds at most `countBase` to the binders around the items to come.
 pub bounded-word : (b c w d : ℕ) (ds : List ℕ) → Bounded b (d ∷ ds) → b + countBase ≤ c → Bounded c (replicate (arity w) (d + binders w) ++ ds)
 bounded-word b c w d ds p h =
-    bounded-replicate c (arity w) (d + binders w) ds (omega (arith, bound-few (kindOf w) (payloadOf w) refl)) (bounded-weaken b c ds (omega arith) (p .1))
+    bounded-replicate c (arity w) (d + binders w) ds (omega (arith, binding-few (kindOf w) (payloadOf w))) (bounded-weaken b c ds (omega arith) (p .1))
 
 pub bounded-depths : (ws ds : List ℕ) (b c : ℕ) → Bounded b ds → b + countBase * length ws ≤ c → Bounded c (depths ds ws)
 bounded-depths [] ds b c p h = tt

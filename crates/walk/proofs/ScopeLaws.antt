@@ -1,11 +1,19 @@
 -- The binders around the items still to come, in their short form: what a word makes of them.
 use Prim.Native.Nat.{ℕ, zero, suc, _+_, _*_, _-_, _/_, _%_, _≤_, _<_}
 use mathlib.Core.Path.{_≡_, sym, _∙_, ap}
-use mathlib.Core.List.{List, _∷_, _++_, append-assoc}
+use mathlib.Core.List.{List, [], _∷_, _++_, append-assoc}
 use native.Mathlib.Omega.{arith}
 use lib.ListN.{length, drop, set, replicate, length-set, replicate-append-replicate}
 use lib.Seq.{drop-cons, getD-set-same, drop-set-lt}
-use Rattle.walk.specs.Scopes.{scopeBase, expanded, toCome}
+use Rattle.walk.specs.Scopes.{scopeBase}
+
+-- The binders around each item of scopes, and of `pending` items under `depth` binders in front of them.
+abbrev pub expanded : List ℕ → List ℕ
+expanded [] = []
+expanded (s ∷ ss) = replicate (s / scopeBase) (s % scopeBase) ++ expanded ss
+
+abbrev pub toCome : (pending depth : ℕ) → List ℕ → List ℕ
+toCome pending depth ss = replicate pending depth ++ expanded ss
 
 -- The next item is the first of the pending ones.
 pub come-first : (p d : ℕ) (ss : List ℕ) → 1 ≤ p → toCome p d ss ≡ d ∷ toCome (p - 1) d ss

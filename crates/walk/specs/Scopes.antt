@@ -4,36 +4,17 @@
 -- the scopes that were left, each with its own two numbers in one word. The scopes fill the room from its end, the last one left first.
 use Prim.Native.Nat.{ℕ, _+_, _*_, _-_, _/_, _%_, _≤_, _<_}
 use mathlib.Core.Path.{_≡_}
-use mathlib.Core.List.{List, [], _∷_, _++_}
-use lib.ListN.{length, drop, replicate}
+use mathlib.Core.Bool.{cond, _&&_}
+use mathlib.Core.List.{List}
+use lib.Dec.{ltb, eqb}
+use lib.ListN.{length, getD, set}
 use Rattle.calculus.specs.Words.{workspaceMost, countBase}
 use Rattle.words.specs.Limits.{payloadBound}
+use Rattle.walk.specs.declared.scope.Scope.{Scope}
 
 -- A scope is items × 32768 + binders.
 abbrev pub scopeBase : ℕ
 scopeBase = 32768
-
--- The binders around each item of scopes, and of `pending` items under `depth` binders in front of them.
-abbrev pub expanded : List ℕ → List ℕ
-expanded [] = []
-expanded (s ∷ ss) = replicate (s / scopeBase) (s % scopeBase) ++ expanded ss
-
-abbrev pub toCome : (pending depth : ℕ) → List ℕ → List ℕ
-toCome pending depth ss = replicate pending depth ++ expanded ss
-
--- Every scope has an item.
-abbrev pub Opened : List ℕ → Type 0
-Opened [] = Unit {0}
-Opened (s ∷ ss) = (scopeBase ≤ s) × Opened ss
-
--- Where a walk stands: a scope that is kept took two of the k words passed, the one that has its items, and the binder; a scope taken up again
--- has items, so nothing is pending only at the end.
-pub record Stands (k pending top : ℕ) (room : List ℕ) : Type 0 where
-  pub within : top ≤ length room
-  pub opened : Opened (drop top room)
-  pub some : pending ≡ 0 → top ≡ length room
-  pub scopes : 2 * (length room - top) ≤ k
-  pub more : 2 ≤ pending → 2 * (length room - top) + 1 ≤ k
 
 -- There is an item to come; at most as many items follow its word as a payload counts, under fewer binders more than a count's base, and only one where
 -- there is such a binder; and there is room for a scope if the walk may leave one.
@@ -47,7 +28,16 @@ pub record Enters (items binders pending depth top : ℕ) (room : List ℕ) : Ty
   pub within : top ≤ length room
   pub free : 2 ≤ pending → 1 ≤ top
 
--- The items behind the word come first, under its binders, and the walk stands one word further.
-pub record Entered (items binders pending depth top : ℕ) (room : List ℕ) (pending′ depth′ top′ : ℕ) (room′ : List ℕ) : Type 0 where
-  pub come : toCome pending′ depth′ (drop top′ room′) ≡ replicate items (depth + binders) ++ toCome (pending - 1) depth (drop top room)
-  pub stands : (k : ℕ) → Stands k pending top room → Stands (k + 1) pending′ top′ room′
+-- Where the walk stands behind the word, and its room. Behind a binder its one item comes next, and the others that were pending are kept as a scope, if there
+-- are any. Behind any other word its items come next, and then the others; where there are none, the last scope that was kept is taken up again.
+unfoldable pub entered : (items binders : ℕ) → Scope → (room : List ℕ) → Scope × List ℕ
+entered items binders at room =
+    let others = at .pending - 1 in
+    let scope = getD room (at .top) 0 in
+    cond (ltb 0 binders)
+    (cond (ltb 0 others)
+    (record { pending = 1; depth = at .depth + binders; top = at .top - 1 }, set room (at .top - 1) (others * scopeBase + at .depth))
+    (record { pending = 1; depth = at .depth + binders; top = at .top }, room))
+    (cond (eqb (items + others) 0 && ltb (at .top) (length room))
+    (record { pending = scope / scopeBase; depth = scope % scopeBase; top = at .top + 1 }, room)
+    (record { pending = items + others; depth = at .depth; top = at .top }, room))

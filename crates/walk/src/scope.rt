@@ -1,5 +1,6 @@
 // The scopes of a walk over words.
-ghost use Rattle.walk.specs.Scopes.{Enters, Entered};
+ghost use mathlib.Core.Path.{_≡_};
+ghost use Rattle.walk.specs.Scopes.{Enters, entered};
 
 // Where a walk stands: how many items come next, under how many binders, and from where on its room holds the scopes that were left with items.
 pub struct Scope {
@@ -14,7 +15,7 @@ const SCOPE: u32 = 32768;
 // Where the walk stands after a word that so many items follow, under so many binders more than the word.
 pub fn enter(items: usize, binders: u32, at: Scope, room: &mut [u32]) -> Scope
     requires { ⌜ Enters items binders (at .pending) (at .depth) (at .top) (now room) ⌝ }
-    ensures { λ r. ⌜ Entered items binders (at .pending) (at .depth) (at .top) (now (room .entry)) (r .pending) (r .depth) (r .top) (now (room .exit)) ⌝ }
+    ensures { λ r. ⌜ (r, now (room .exit)) ≡ entered items binders at (now (room .entry)) ⌝ }
 {
     let pending = at.pending;
     let depth = at.depth;

@@ -1,5 +1,9 @@
 pub mod Spans
 pub mod PatternLaws
+pub mod PayloadLaws
 pub mod PlacedLaws
 pub mod BringingLaws
 pub mod RoomLaws
+pub mod Cases
+pub mod ClearLaws
+pub mod BoundLaws

@@ -6,7 +6,7 @@ use native.Mathlib.Nat.{add-zero}
 use native.Mathlib.Numerals.{add-one}
 use native.Mathlib.Omega.{arith}
 use lib.ListN.{length, getD, take, drop, set, replicate, length-set, length-append, length-replicate, drop-of-length-le}
-use lib.Seq.{sets, sets-eq, length-sets, slice, slice-empty, slice-cons, length-slice, drop-cons, drop-set-lt, getD-set-same, take-append-seam, take-take}
+use lib.Seq.{sets, sets-eq, length-sets, slice, slice-empty, slice-cons, length-slice, drop-cons, drop-set-lt, getD-set-same, take-append-seam, take-take, take-set-le}
 use Rattle.words.specs.Placed.{Placed, Copies}
 
 -- A word stored, and what stands from there on.
@@ -27,9 +27,12 @@ sets-end vs l i e =
 pub sets-whole : (vs l : List ℕ) → length vs ≡ length l → sets l 0 vs ≡ vs
 sets-whole vs l e = sets-end vs l 0 (omega arith)
 
--- Where two slices start with the same words, they do with fewer of them.
+-- Where two slices start with the same words, they do with fewer of them, and where a word behind these is stored.
 pub taken-less : (xs ys : List ℕ) (j i : ℕ) → j ≤ i → take i xs ≡ take i ys → take j xs ≡ take j ys
 taken-less xs ys j i l e = sym (take-take j i xs l) ∙ ap (take j) e ∙ take-take j i ys l
+
+pub taken-set : (xs ys : List ℕ) (j i v : ℕ) → j ≤ i → take i xs ≡ take i ys → take j (set xs j v) ≡ take j ys
+taken-set xs ys j i v l e = take-set-le j xs j v (omega arith) ∙ taken-less xs ys j i l e
 
 pub placed-none : (l : List ℕ) (out : ℕ) → Placed l out [] l out
 placed-none l out = record { slice = refl; position = omega arith }

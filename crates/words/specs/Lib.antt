@@ -2,6 +2,8 @@
 pub mod Limits
 pub mod Bound
 pub mod Pattern
+pub mod Payload
 pub mod Placed
 pub mod Room
 pub mod Types
+pub mod Theorems

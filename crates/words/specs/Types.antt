@@ -1,8 +1,9 @@
 -- What the code's types stand for.
 use Prim.Native.Nat.{ℕ, _-_}
-use mathlib.Core.List.{List}
+use mathlib.Core.Path.{_≡_}
+use mathlib.Core.List.{List, [], _∷_, map}
 use Rattle.calculus.specs.Words.{variableKind, abstractionKind, applicationKind, constructorKind, caseKind, branchKind, numeralKind, kindBase}
-use Rattle.calculus.specs.Refusal.{Refusal, WrongLength, WrongHeader, WrongValue, WrongLink, WrongChildren, WrongFree, WrongWorkspace, TooLong, OverBudget, NoTerm, WrongLine, WrongBits, NoCombinator}
+use Rattle.calculus.specs.Refusal.{Refusal, WrongLength, WrongHeader, WrongValue, WrongLink, WrongChildren, WrongFree, WrongWorkspace, TooLong, OverBudget, NoTerm, WrongLine, WrongBits, NoCombinator, number}
 use Rattle.calculus.specs.Bringing.{Answer, refused, returned, Brought}
 use Rattle.words.specs.declared.kind.Kind as codeKind
 use Rattle.words.specs.declared.kind.Kind.the-variants as kind
@@ -45,3 +46,37 @@ answerOf (answer.Returned l) = returned l
 -- Everything at exit of bringing a term in: the answer and the lent workspace.
 abbrev pub broughtOf : codeAnswer.Answer → (workspace : List ℕ) → Brought
 broughtOf a workspace = record { answer = answerOf a; workspace = workspace }
+
+-- Every case by its number: refusals and kinds in the order of the rules; and an answer of each sort.
+pub record Refusal-cases : Type 0 where
+  pub refusals :
+      map (λ why. number (refusalOf why))
+      (refusal.WrongLength
+      ∷ refusal.WrongHeader
+      ∷ refusal.WrongValue
+      ∷ refusal.WrongLink
+      ∷ refusal.WrongChildren
+      ∷ refusal.WrongFree
+      ∷ refusal.WrongWorkspace
+      ∷ refusal.TooLong
+      ∷ refusal.OverBudget
+      ∷ refusal.NoTerm
+      ∷ refusal.WrongLine
+      ∷ refusal.WrongBits
+      ∷ refusal.NoCombinator
+      ∷ [])
+      ≡ 1 ∷ 2 ∷ 3 ∷ 4 ∷ 5 ∷ 6 ∷ 7 ∷ 8 ∷ 9 ∷ 10 ∷ 11 ∷ 12 ∷ 13 ∷ []
+  pub kinds :
+      map kindNumber
+      (kind.Variable
+      ∷ kind.Abstraction
+      ∷ kind.Application
+      ∷ kind.Constructor
+      ∷ kind.Case
+      ∷ kind.Branch
+      ∷ kind.Numeral
+      ∷ kind.Unassigned
+      ∷ [])
+      ≡ 0 ∷ 1 ∷ 2 ∷ 3 ∷ 4 ∷ 5 ∷ 6 ∷ 7 ∷ []
+  pub a-refusal : answerOf (answer.Refused refusal.NoTerm) ≡ refused NoTerm
+  pub a-length : answerOf (answer.Returned 5) ≡ returned 5

@@ -16,6 +16,7 @@ ghost use Rattle.words.specs.Types.{kindNumber};
 pub mod answer;
 pub mod kind;
 pub mod pattern;
+pub mod payload;
 pub mod refusal;
 pub mod slices;
 pub mod workspace;

@@ -16,51 +16,81 @@ use std::time::Instant;
 
 use bench::peers::bitwise;
 
-// A lent slice is a pointer and a length.
+// As firmware/fetsguin.h declares them.
 extern "C" {
-    fn probe_press(
+    fn fetsguin_fresh(session: *mut u32);
+
+    fn fetsguin_press(
         left: *mut u32,
-        left_words: usize,
+        left_c: usize,
         right: *mut u32,
-        right_words: usize,
+        right_c: usize,
         scratch: *mut u32,
-        scratch_words: usize,
+        scratch_c: usize,
         left_length: usize,
         right_length: usize,
         budget: u32,
+        session: *mut u32,
+        answer: *mut u32,
     ) -> u32;
 
-    fn probe_show(
+    fn fetsguin_show(
         left: *const u32,
-        left_words: usize,
+        left_c: usize,
         right: *const u32,
-        right_words: usize,
+        right_c: usize,
         left_length: usize,
         right_length: usize,
-    ) -> usize;
+        count: *mut usize,
+    ) -> u32;
 
-    fn probe_load(table: *const u32, table_words: usize, workspace: *mut u32, words: usize);
+    fn fetsguin_load(
+        table: *const u32,
+        table_words: usize,
+        workspace: *mut u32,
+        c: usize,
+        length: *mut usize,
+    ) -> u32;
 
-    fn probe_write(
+    fn fetsguin_write(
         workspace: *const u32,
-        words: usize,
+        c: usize,
         length: usize,
         table: *mut u32,
         table_words: usize,
-    );
+        records: *mut usize,
+    ) -> u32;
 
-    fn probe_line(line: *const u8, bytes: usize, workspace: *mut u32, words: usize);
+    fn fetsguin_read_line(
+        line: *const u8,
+        bytes: usize,
+        workspace: *mut u32,
+        c: usize,
+        length: *mut usize,
+    ) -> u32;
 
-    fn probe_import(bytes: *const u8, count: usize, bits: usize, workspace: *mut u32, words: usize);
+    fn fetsguin_import(
+        encoding: *const u8,
+        bytes: usize,
+        bits: usize,
+        workspace: *mut u32,
+        c: usize,
+        length: *mut usize,
+    ) -> u32;
 
-    fn probe_export(
+    fn fetsguin_export(
         workspace: *const u32,
-        words: usize,
+        c: usize,
         length: usize,
-        bytes: *mut u8,
-        count: usize,
-    );
+        encoding: *mut u8,
+        bytes: usize,
+        bits: *mut usize,
+    ) -> u32;
 }
+
+/// The words of a session, of which the first is the total, and of an answer.
+const SESSION: usize = 4;
+const ANSWER: usize = 5;
 
 /// Bytes that are painted, of a larger stack.
 const PAINTED: usize = 512 << 10;
@@ -207,33 +237,34 @@ fn read_pair(mut words: impl Iterator<Item = u32>) -> Option<Pair> {
 
 impl Pair {
     fn show(&self) -> usize {
-        let c = self.left.len();
+        let (c, mut count) = (self.left.len(), 0);
         // Safety: each pointer is that of as many words as stand behind it, none lent twice.
         used(&mut || unsafe {
             let (left, right) = (self.left.as_ptr(), self.right.as_ptr());
-            probe_show(left, c, right, c, self.left_length, self.right_length);
+            let (left_length, right_length) = (self.left_length, self.right_length);
+            fetsguin_show(left, c, right, c, left_length, right_length, &mut count);
         })
     }
 
     fn load(&self) -> usize {
-        let c = self.left.len();
+        let (c, mut length) = (self.left.len(), 0);
         let mut workspace = vec![7; c];
         // Safety: as above.
         let stack = used(&mut || unsafe {
             let (table, words) = (self.table.as_ptr(), self.table.len());
-            probe_load(table, words, workspace.as_mut_ptr(), c);
+            fetsguin_load(table, words, workspace.as_mut_ptr(), c, &mut length);
         });
         assert!(workspace == self.left, "the table is loaded");
         stack
     }
 
     fn write(&self) -> usize {
-        let mut table = vec![7; self.table.len()];
+        let (mut table, mut records) = (vec![7; self.table.len()], 0);
         // Safety: as above.
         let stack = used(&mut || unsafe {
             let (workspace, c) = (self.left.as_ptr(), self.left.len());
             let (words, count) = (table.as_mut_ptr(), table.len());
-            probe_write(workspace, c, self.left_length, words, count);
+            fetsguin_write(workspace, c, self.left_length, words, count, &mut records);
         });
         assert!(table == self.table, "the table is written");
         stack
@@ -243,10 +274,11 @@ impl Pair {
     fn press(&mut self) -> (u32, usize) {
         let c = self.left.len();
         let mut scratch = vec![7; c];
-        let mut spent = 0;
+        let (mut session, mut answer) = ([0; SESSION], [0; ANSWER]);
         // Safety: as above.
         let stack = used(&mut || unsafe {
-            spent = probe_press(
+            fetsguin_fresh(session.as_mut_ptr());
+            fetsguin_press(
                 self.left.as_mut_ptr(),
                 c,
                 self.right.as_mut_ptr(),
@@ -256,20 +288,22 @@ impl Pair {
                 self.left_length,
                 self.right_length,
                 self.budget,
+                session.as_mut_ptr(),
+                answer.as_mut_ptr(),
             );
         });
-        (spent, stack)
+        (session[0], stack)
     }
 }
 
 impl Brought {
     fn read_line(&self) -> usize {
-        let c = self.workspace.len();
+        let (c, mut length) = (self.workspace.len(), 0);
         let mut workspace = vec![7; c];
         // Safety: as above.
         let stack = used(&mut || unsafe {
             let (line, bytes) = (self.bytes.as_ptr(), self.bytes.len());
-            probe_line(line, bytes, workspace.as_mut_ptr(), c);
+            fetsguin_read_line(line, bytes, workspace.as_mut_ptr(), c, &mut length);
         });
         assert!(workspace == self.workspace, "the line is read");
         stack
@@ -277,9 +311,9 @@ impl Brought {
 }
 
 fn unit_import(bytes: &[u8], bits: usize, workspace: &mut [u32]) {
-    let (words, c) = (workspace.as_mut_ptr(), workspace.len());
+    let (words, c, mut length) = (workspace.as_mut_ptr(), workspace.len(), 0);
     // Safety: as above.
-    unsafe { probe_import(bytes.as_ptr(), bytes.len(), bits, words, c) };
+    unsafe { fetsguin_import(bytes.as_ptr(), bytes.len(), bits, words, c, &mut length) };
 }
 
 fn peer_import(bytes: &[u8], bits: usize, workspace: &mut [u32]) {
@@ -287,9 +321,9 @@ fn peer_import(bytes: &[u8], bits: usize, workspace: &mut [u32]) {
 }
 
 fn unit_export(workspace: &[u32], length: usize, bytes: &mut [u8]) {
-    let (words, c) = (workspace.as_ptr(), workspace.len());
+    let (words, c, mut bits) = (workspace.as_ptr(), workspace.len(), 0);
     // Safety: as above.
-    unsafe { probe_export(words, c, length, bytes.as_mut_ptr(), bytes.len()) };
+    unsafe { fetsguin_export(words, c, length, bytes.as_mut_ptr(), bytes.len(), &mut bits) };
 }
 
 fn peer_export(workspace: &[u32], length: usize, bytes: &mut [u8]) {

@@ -1,9 +1,7 @@
-//! The unit's calls alone, and importing and exporting beside their peers: a library of the
-//! repository's proved crates, linked to a program that measures its stack and its time.
+//! The unit's calls alone, and importing and exporting beside their peers: the archive for C, linked
+//! to a program that measures its stack and its time.
 
 use std::fs;
-use std::io;
-use std::os::unix::fs::symlink;
 use std::path::{Path, PathBuf};
 use std::process::Command;
 
@@ -14,10 +12,6 @@ use crate::measure::{input_file, spent};
 use crate::run::{lines_of, Counter};
 use crate::times::{resolved, Estimate, REPETITIONS};
 
-/// The library's one crate, over the crates that have the calls. It is proved when it is built; no crate
-/// of the repository holds it, so it has no name that rt would look for.
-const LIBRARY: &str = include_str!("../probe/library.txt");
-const LISTED: &str = "probe: words press tables lines binary\n";
 const PROGRAM: &str = include_str!("../probe/main.rs");
 
 /// Bytes of machine stack.
@@ -36,22 +30,28 @@ pub struct Probe {
 }
 
 impl Probe {
-    /// Builds the library and the program below the repository's target/.
+    /// Builds the archive and the program below the repository's target/.
     pub fn build(root: &Path) -> Result<Probe, String> {
         let folder = root.join("target/probe");
-        lay_out(root, &folder).map_err(|error| format!("{}: {error}", folder.display()))?;
-        succeed(
-            Command::new("rt")
-                .args(["staticlib", "probe"])
-                .current_dir(&folder),
-        )?;
+        let source = folder.join("main.rs");
+        let written = fs::create_dir_all(&folder).and_then(|()| fs::write(&source, PROGRAM));
+        written.map_err(|error| format!("{}: {error}", folder.display()))?;
+        succeed(&mut Command::new(root.join("firmware/build")))?;
         succeed(&mut rust_library(root, &folder, "unit"))?;
         succeed(rust_library(root, &folder, "bench").args(["--extern", "unit"]))?;
         let program = folder.join("probe");
         let mut rustc = rustc(&folder);
-        rustc.args(["-C", "lto", "--extern", "bench", "-l", "static=probe", "-L"]);
-        rustc.arg(folder.join("target/staticlib")).arg("-o");
-        succeed(rustc.arg(&program).arg(folder.join("main.rs")))?;
+        rustc.args([
+            "-C",
+            "lto",
+            "--extern",
+            "bench",
+            "-l",
+            "static=firmware",
+            "-L",
+        ]);
+        rustc.arg(root.join("target/staticlib")).arg("-o");
+        succeed(rustc.arg(&program).arg(source))?;
         Ok(Probe { program })
     }
 
@@ -205,29 +205,6 @@ fn read(printed: &str, line: &str) -> Option<Stack> {
         }),
         _ => None,
     }
-}
-
-/// A repository with the crates of this one and the library's, and with what is proved of them.
-fn lay_out(root: &Path, folder: &Path) -> io::Result<()> {
-    if folder.exists() {
-        fs::remove_dir_all(folder)?;
-    }
-    let (crates, target) = (folder.join("crates"), folder.join("target"));
-    fs::create_dir_all(crates.join("probe/src"))?;
-    fs::create_dir_all(target.join("stamp"))?;
-    for entry in fs::read_dir(root.join("crates"))? {
-        let entry = entry?;
-        symlink(entry.path(), crates.join(entry.file_name()))?;
-    }
-    for entry in fs::read_dir(root.join("target/stamp"))? {
-        let entry = entry?;
-        fs::copy(entry.path(), target.join("stamp").join(entry.file_name()))?;
-    }
-    symlink(root.join("target/rlib"), target.join("rlib"))?;
-    let list = fs::read_to_string(root.join("crates.txt"))?;
-    fs::write(folder.join("crates.txt"), list + LISTED)?;
-    fs::write(crates.join("probe/src/lib.rt"), LIBRARY)?;
-    fs::write(folder.join("main.rs"), PROGRAM)
 }
 
 /// The compiler, with the options by which Cargo compiles the peers.

@@ -100,7 +100,7 @@ impl Report {
         let mut text = format!(
             "## Importing and exporting\n\n\
              Instructions of the unit's calls alone, and of those of `{peer}` in Rust, which read and write one \
-             bit after the other. Both are in one program, the unit's from a library of the proved crates; \
+             bit after the other. Both are in one program, the unit's from its archive; \
              counted is by how much a run that makes the call twice exceeds one that makes it once. The \
              workspace has {c} words, and export is lent the bytes that the encoding fills; the second call \
              finds them as the first has left them. Setting zeros is in the counts, where each byte of a long \
@@ -324,11 +324,13 @@ fn growth(plot: &str) -> String {
     )
 }
 
-/// What reading a line takes of the code of `replay`: the call, and what it calls.
-const READING: [&str; 2] = ["lines::read_line", "terms::is_term"];
-
-/// Import and export in the program of the calls alone.
-const EXCHANGING: [&str; 2] = ["probe_import", "probe_export"];
+/// Calls in the code of `replay`, and what they call.
+const CALLED: [&str; 4] = [
+    "fetsguin_read_line",
+    "fetsguin_import",
+    "fetsguin_export",
+    "terms::is_term",
+];
 
 fn code(bench: &Bench) -> String {
     let mut text = "## Code\n\n\
@@ -352,17 +354,12 @@ fn code(bench: &Bench) -> String {
         },
     );
     let replay = fs::read(&bench.readers[0]).ok();
-    let [read, check] = READING.map(|name| size(&replay, &|file| function_size(file, name)));
+    let [read, import, export, check] =
+        CALLED.map(|name| size(&replay, &|file| function_size(file, name)));
     text += &format!(
-        "\nIn `{}`, `{}` has {read} bytes and `{}`, which it calls, {check}.",
-        READERS[0], READING[0], READING[1]
-    );
-    let probe = bench.probe.as_ref();
-    let calls = probe.and_then(|probe| fs::read(probe.program()).ok());
-    let [import, export] = EXCHANGING.map(|name| size(&calls, &|file| function_size(file, name)));
-    text += &format!(
-        " In the library that the benchmark links, `binary::import` has {import} and `binary::export`, which calls `{}` too, {export}.\n",
-        READING[1]
+        "\nIn `{}`, the call that reads a line has {read} bytes, importing {import} and exporting {export}; \
+         `{}`, which the first and the last call, has {check}.\n",
+        READERS[0], CALLED[3]
     );
     text
 }
@@ -490,8 +487,8 @@ mod tests {
             "| `flat` | n/a |",
             "| `replay` | n/a |",
             "| `bitwise` | n/a |",
-            "In `replay`, `lines::read_line` has n/a bytes and `terms::is_term`, which it calls, n/a. \
-             In the library that the benchmark links, `binary::import` has n/a and `binary::export`, which calls `terms::is_term` too, n/a.",
+            "In `replay`, the call that reads a line has n/a bytes, importing n/a and exporting n/a; \
+             `terms::is_term`, which the first and the last call, has n/a.",
             "| line | bytes | words | replay | descent |",
             "|---|---:|---:|---:|---:|",
             "| short | 256 | 1 | 12,345 | n/a |",

@@ -21,9 +21,10 @@ use reference::press::rounds;
 use reference::press::Verdict;
 use reference::random::Random;
 use reference::refusal::Refusal;
-use reference::replay::VERDICTS;
+use reference::replay::{self, Event, VERDICTS};
 use reference::table::write;
-use reference::term::{abs, app, branch, case, con, var, Term};
+use reference::term::{abs, app, branch, case, con, var, Term, WORKSPACE};
+use reference::verdict::{outcome, Outcome};
 use reference::words::{read, words};
 use std::collections::{HashMap, HashSet};
 
@@ -42,6 +43,34 @@ fn equal_seeds_give_equal_inputs() {
         let distinct: HashSet<_> = (0..32).map(|case| scripts::script(5, case)).collect();
         assert_eq!(distinct.len(), 32);
         assert_ne!(scripts::script(5, 0), scripts::script(6, 0));
+    });
+}
+
+#[test]
+fn every_length_has_an_input_and_a_script_that_press_in_it() {
+    on_large_stack(|| {
+        for capacity in WORKSPACE.step_by(127) {
+            let input = inputs::in_length(5, capacity);
+            assert!(matches!(outcome(&input), Outcome::Answered(_)));
+            assert_eq!(input[4..8], (capacity as u32).to_le_bytes());
+            let script = scripts::in_length(5, capacity);
+            assert_eq!(script[..4], (capacity as u32).to_le_bytes());
+            let events = replay::run_watched(&script, |_, _| ()).events;
+            assert!(matches!(
+                events[..],
+                [
+                    Event::Load(Ok(_)) | Event::Line(Ok(_)),
+                    Event::Load(Ok(_)) | Event::Line(Ok(_)),
+                    Event::Press(Ok(_)),
+                    Event::Show(Some(_)),
+                    Event::Write(Ok(_)),
+                    Event::Export(Ok(_) | Err(Refusal::NoEncoding)),
+                    Event::Line(Ok(_)),
+                    Event::Import(Ok(_)),
+                    Event::Print,
+                ]
+            ));
+        }
     });
 }
 

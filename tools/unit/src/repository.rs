@@ -1,4 +1,5 @@
-//! The repository that holds the unit, and its programs built from the sources as they are.
+//! The repository that holds the unit, and its programs built from the sources as they are: by rt,
+//! and by the C compiler over the archive that rt makes.
 
 use std::fs::{self, File, TryLockError};
 use std::io::{self, BufRead, BufReader, ErrorKind, Write};
@@ -10,14 +11,18 @@ use std::time::{Duration, Instant};
 
 /// The list of crates, which stands at the root.
 const CRATES: &str = "crates.txt";
-/// Where the programs are, each named as its crate.
+/// Where the programs are.
 const PROGRAMS: &str = "target/bin";
+/// The program that is in C, what builds it, and the crate of the archive that it is linked to.
+const IN_C: &str = "replay";
+const C_BUILD: &str = "firmware/build";
+const ARCHIVE: &str = "firmware";
 /// What makes rt take a program for built, even where it is gone.
 const STAMPS: &str = "target/stamp";
-/// All that rt printed when it was last asked for a program.
+/// All that was printed when a program was last built.
 const LOG: &str = "target/log/judge.out";
 
-/// Locked while rt works: two of them in one repository would take each other's results for their own.
+/// Locked while one is built: two builds in one repository would take each other's results for their own.
 const LOCK: &str = "target/judge.lock";
 
 /// With nothing to prove, rt says its first word sooner than this.
@@ -35,8 +40,8 @@ pub fn find(folder: &Path) -> Option<PathBuf> {
     root.map(Path::to_path_buf)
 }
 
-/// A program of the repository, proved and linked by rt unless it is there already and nothing it
-/// depends on has changed. Lines for the user go to `tell`.
+/// A program of the repository, proved and built unless it is there already and nothing it depends on
+/// has changed. Lines for the user go to `tell`.
 pub fn program(root: &Path, name: &str, tell: &mut dyn FnMut(&str)) -> Result<PathBuf, String> {
     if !root.join(CRATES).is_file() {
         return Err(format!(
@@ -51,21 +56,73 @@ pub fn program(root: &Path, name: &str, tell: &mut dyn FnMut(&str)) -> Result<Pa
     if !program.is_file() {
         let _ = fs::remove_file(root.join(STAMPS).join(name));
     }
-    let checked = match start(root, name) {
-        Ok(child) => watch(child, root, name, tell),
+    let recipe = Recipe::of(name);
+    let built = match recipe.start(root) {
+        Ok(child) => watch(child, root, recipe.proved(), tell),
         Err(error) if error.kind() == ErrorKind::NotFound => {
             return unchecked(root, &path, tell);
         }
         Err(error) => Err(error),
     };
-    match checked {
+    match built {
         Ok(status) if status.success() && program.is_file() => Ok(program),
         Ok(status) => Err(format!(
-            "`rt check {name}` did not build {} from these sources: {status}\nIts log is {}",
+            "`{}` did not build {} from these sources: {status}\nIts log is {}",
+            recipe.text(),
             path.display(),
             root.join(LOG).display()
         )),
-        Err(error) => Err(format!("`rt check {name}` cannot be followed: {error}")),
+        Err(error) => Err(format!("`{}` cannot be followed: {error}", recipe.text())),
+    }
+}
+
+/// How a program is built: by rt, which proves its crate, or over the archive.
+#[derive(Clone, Copy)]
+enum Recipe<'a> {
+    Rt(&'a str),
+    C,
+}
+
+impl<'a> Recipe<'a> {
+    fn of(name: &'a str) -> Self {
+        match name {
+            IN_C => Recipe::C,
+            name => Recipe::Rt(name),
+        }
+    }
+
+    /// The crate that is proved for it.
+    fn proved(self) -> &'a str {
+        match self {
+            Recipe::Rt(name) => name,
+            Recipe::C => ARCHIVE,
+        }
+    }
+
+    fn text(self) -> String {
+        match self {
+            Recipe::Rt(name) => format!("rt check {name}"),
+            Recipe::C => C_BUILD.to_string(),
+        }
+    }
+
+    /// Where rt is not installed, the error says that it is not found.
+    fn start(self, root: &Path) -> io::Result<Child> {
+        let mut build = match self {
+            Recipe::Rt(name) => {
+                let mut rt = Command::new("rt");
+                rt.args(["check", name]);
+                rt
+            }
+            Recipe::C => {
+                let mut rt = Command::new("rt");
+                rt.arg("version").stdin(Stdio::null());
+                rt.stdout(Stdio::null()).stderr(Stdio::null()).status()?;
+                Command::new(root.join(C_BUILD))
+            }
+        };
+        build.current_dir(root).stdin(Stdio::null());
+        build.stdout(Stdio::piped()).stderr(Stdio::piped()).spawn()
     }
 }
 
@@ -101,25 +158,18 @@ fn unchecked(root: &Path, path: &Path, tell: &mut dyn FnMut(&str)) -> Result<Pat
     ))
 }
 
-fn start(root: &Path, name: &str) -> io::Result<Child> {
-    let mut rt = Command::new("rt");
-    rt.args(["check", name]).current_dir(root);
-    rt.stdin(Stdio::null()).stdout(Stdio::piped());
-    rt.stderr(Stdio::piped()).spawn()
-}
-
-/// Waits for rt: all that it prints goes to the log, its progress to `tell`.
+/// Waits for a build: all that it prints goes to the log, its progress to `tell`.
 fn watch(
-    mut rt: Child,
+    mut build: Child,
     root: &Path,
-    name: &str,
+    proved: &str,
     tell: &mut dyn FnMut(&str),
 ) -> io::Result<ExitStatus> {
-    let lines = lines(&mut rt);
+    let lines = lines(&mut build);
     let log = root.join(LOG);
     let mut progress = Progress {
         log: log.clone(),
-        needed: needed(&fs::read_to_string(root.join(CRATES))?, name),
+        needed: needed(&fs::read_to_string(root.join(CRATES))?, proved),
         proved: 0,
         is_told: false,
     };
@@ -132,7 +182,7 @@ fn watch(
                 progress.line(&line, tell);
             }
             Err(RecvTimeoutError::Timeout) => progress.start(tell),
-            Err(RecvTimeoutError::Disconnected) => return rt.wait(),
+            Err(RecvTimeoutError::Disconnected) => return build.wait(),
         }
     }
 }

@@ -13,8 +13,11 @@ returns : tie.Need-returns
 returns c =
     let start = c .before .before .before .before in
     let a = start .args in (
-      record { at = start .pre .1; top = start .pre .2; value = omega arith; power = omega arith; wanted = λ e. refl },
-      begin-space (a .b) (a .s .count) (drop (a .s .top) (a .stack .now)) (drop (a .s .at) (a .out .now)) (omega arith),
+      (
+        record { at = omega arith; top = start .pre .2; value = omega arith; power = omega arith; wanted = λ e. refl },
+        begin-space (a .b) (a .s .count) (drop (a .s .top) (a .stack .now)) (drop (a .s .at) (a .out .now)) (omega arith),
+      ),
+      refl,
     )
 
 returns-2 : tie.Need-returns-2
@@ -22,8 +25,11 @@ returns-2 c =
     let start = c .before .before .before .before .before .before .before in
     let a = start .args in
     let told = c .before .before .on-backslash .ensures in (
-      told .0 _ (start .pre .2),
-      told .1 (a .stack .now) ∙ ap (λ (s : Sign). onBegun s (begunBy (a .s) (a .stack .now) (a .out .now))) (sign-lambda (a .b) (omega arith)),
+      (
+        told .0 .0 _ (start .pre .2),
+        told .0 .1 (a .stack .now) ∙ ap (λ (s : Sign). onBegun s (begunBy (a .s) (a .stack .now) (a .out .now))) (sign-lambda (a .b) (omega arith)),
+      ),
+      told .1,
     )
 
 returns-3 : tie.Need-returns-3
@@ -31,12 +37,12 @@ returns-3 c =
     let start = c .before .before .before .before .before .before .before in
     let a = start .args in
     let told = c .before .before .on-opening .ensures in
-    (told .0, told .1 ∙ ap (λ (s : Sign). onBegun s (begunBy (a .s) (a .stack .now) (a .out .now))) (sign-opens (a .b) (omega arith)))
+    ((told .0 .0, told .0 .1 ∙ ap (λ (s : Sign). onBegun s (begunBy (a .s) (a .stack .now) (a .out .now))) (sign-opens (a .b) (omega arith))), told .1)
 
 returns-4 : tie.Need-returns-4
 returns-4 c =
     let a = c .before .before .before .args in
-    (tt, begin-none (a .b) (begunBy (a .s) (a .stack .now) (a .out .now)) (λ e. omega arith) (λ e. omega arith) (λ e. omega arith))
+    ((tt, begin-none (a .b) (begunBy (a .s) (a .stack .now) (a .out .now)) (λ e. omega arith) (λ e. omega arith) (λ e. omega arith)), refl)
 
 pub begin-spec : {M : Type 1} → statement M
 begin-spec =

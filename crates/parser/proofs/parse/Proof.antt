@@ -9,6 +9,7 @@ use lib.ListN.{drop}
 use Rattle.notation.specs.Reader.{scan}
 use Rattle.words.proofs.RoomLaws.{room-of-length}
 use Rattle.parser.specs.Scan.{stateOf, steppedOf}
+use Rattle.parser.proofs.PutLaws.{put-behind}
 use Rattle.parser.proofs.ParseLaws.{Parsing, parsing-starts, parsing-room, parsing-count, scan-byte, lineWords-none, lineWords-unsettled, lineWords-settled, finish-open, finish-closed}
 use Rattle.parser.proofs.parse.Statement.{statement}
 use Rattle.parser.proofs.parse.Tie as tie
@@ -32,7 +33,7 @@ stepped : (c : tie.After-on-byte Inv-loop μ-loop) → let l = c .before .before
     steppedOf (c .on-byte .result) (c .on-byte .last .1 .1 .0) (c .on-byte .last .1 .1 .1 .0) ≡ scan (drop (l .i - 1) (c .before .before .before .before .before .before .before .before .before .args .line .now))
 stepped c =
     let l = c .before .before .before .before .before .loop in
-    c .on-byte .ensures .1 ∙ sym (scan-byte (c .before .before .before .before .before .before .before .before .before .args .line .now) (l .i) (omega arith) (l .inv .inside) (l .inv .scanned))
+    c .on-byte .ensures .0 .1 ∙ sym (scan-byte (c .before .before .before .before .before .before .before .before .before .args .line .now) (l .i) (omega arith) (l .inv .inside) (l .inv .scanned))
 
 returns : tie.Need-returns Inv-loop μ-loop
 returns c = (
@@ -51,7 +52,7 @@ loop-again c =
       out-full = omega (arith, v .out-full);
       short = v .short;
       inside = omega (arith, v .inside);
-      within = rw (v .stack-full, v .out-full) at (rw on at (byte .on-byte .ensures .0));
+      within = rw (v .stack-full, v .out-full) at (rw on at (byte .on-byte .ensures .0 .0));
       scanned = sym (rw on at (stepped byte));
     }
 
@@ -70,9 +71,9 @@ returns-2 c =
     let over = c .before .before .before .before .before .before in
     let l = over .before .before .before .loop in
     let on = c .before .before .p .given .1 in
-    let kept = rw on at (over .settle .ensures .0) in (
+    let kept = rw on at (over .settle .ensures .0 .0) in (
       finish-open (c .before .before .p .given .0 .0 .top) (l .stack) _ (omega (arith, kept, l .inv .within, l .inv .stack-full))
-          ∙ lineWords-settled (line over) (whole over) (rw on at (over .settle .ensures .1 (l .stack))),
+          ∙ lineWords-settled (line over) (whole over) (rw on at (over .settle .ensures .0 .1 (l .stack))),
       (room-of-length (omega arith), room-of-length (omega arith)),
     )
 
@@ -80,13 +81,13 @@ put-applications-requires : tie.Need-put-applications-requires Inv-loop μ-loop
 put-applications-requires c κs =
     let over = c .before .before .before .before .before .before .before in
     let v = over .before .before .before .loop .inv in
-    let kept = rw (c .before .before .before .p .given .1) at (over .settle .ensures .0) in
+    let kept = rw (c .before .before .before .p .given .1) at (over .settle .ensures .0 .0) in
     (omega (arith, kept, parsing-count v), omega (arith, kept, v .out-full))
 
 returns-3 : tie.Need-returns-3 Inv-loop μ-loop
 returns-3 c =
     let over = c .before .before .before .before in (
-      lineWords-unsettled (line over) (whole over) (rw (c .enum-told2 .given .1) at (over .settle .ensures .1 (over .before .before .before .loop .stack))),
+      lineWords-unsettled (line over) (whole over) (rw (c .enum-told2 .given .1) at (over .settle .ensures .0 .1 (over .before .before .before .loop .stack))),
       (room-of-length (omega arith), room-of-length (omega arith)),
     )
 
@@ -94,10 +95,11 @@ returns-4 : tie.Need-returns-4 Inv-loop μ-loop
 returns-4 c =
     let over = c .before .before .before .before .before .before .before .before .before .before in
     let l = over .before .before .before .loop in
-    let on = c .before .before .before .before .before .before .p .given .1 in (
-      rw (c .before .before .put-applications .ensures .1)
+    let on = c .before .before .before .before .before .before .p .given .1 in
+    let put = c .before .before .put-applications in (
+      rw (put-behind (over .settle .last .1 .0) _ (put .result) (omega (arith, rw on at (over .settle .ensures .0 .0))) (put .ensures .1))
           (finish-closed (c .before .before .before .before .before .before .p .given .0 .0 .top) (l .stack) _ (omega (arith, l .inv .stack-full))
-          ∙ lineWords-settled (line over) (whole over) (rw on at (over .settle .ensures .1 (l .stack)))),
+          ∙ lineWords-settled (line over) (whole over) (rw on at (over .settle .ensures .0 .1 (l .stack)))),
       (room-of-length (omega arith), room-of-length (omega arith)),
     )
 

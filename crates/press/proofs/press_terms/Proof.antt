@@ -1,5 +1,4 @@
 -- `press_terms` meets its contract: the rounds leave the two terms, and clearing leaves zeros after them. Assumes nothing.
-use mathlib.Core.Path.{_∙_}
 use lib.ListN.{length}
 use borrow.Author.Needs.{needs}
 use Rattle.calculus.specs.Rounds.{rounds}
@@ -53,8 +52,8 @@ returns c =
     let s = entry r in
     let a = s .args in
     let C = length (a .left .now) in
-    ran-concludes {o = rounds C (a .budget) (held (a .left .now) (a .left-length)) (held (a .right .now) (a .right-length))} (r .run .ensures) C
-    (sessionOf (a .session)) (s .pre .0 .scratch-length) (r .run .kept .0) (r .run .kept .1 .0 ∙ s .pre .0 .right-length)
+    ran-concludes {o = rounds C (a .budget) (held (a .left .now) (a .left-length)) (held (a .right .now) (a .right-length))} (r .run .ensures)
+    (sessionOf (a .session)) (s .pre .0 .scratch-length)
     (left-cleared (right-cleared d) .clear .ensures) (right-cleared d .clear2 .ensures) (d .clear3 .ensures)
 
 pub press-terms-spec : {M : Type 1} → statement M

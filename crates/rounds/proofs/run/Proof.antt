@@ -1,17 +1,17 @@
 -- `run` meets its contract. The invariant is `Going`: both workspaces hold the current terms, and the rounds still to make end in what all end in.
 -- The measure is what is left of the budget. Assumes nothing.
 use Prim.Native.Nat.{_-_}
-use mathlib.Core.Path.{_≡_, sym, _∙_, ap}
+use mathlib.Core.Path.{_≡_, refl, sym, _∙_, ap}
 use native.Mathlib.Omega.{arith}
 use lib.ListN.{length, take}
 use borrow.Author.Needs.{needs}
 use Rattle.calculus.specs.Comparison.{compareWords}
-use Rattle.calculus.specs.Rounds.{Round, goes, shownPosition, same, roundBy}
+use Rattle.calculus.specs.Rounds.{Round, goes, atOnce, roundBy}
 use Rattle.redex.specs.Held.{held}
 use Rattle.turn.specs.Turn.{planned}
-use Rattle.turn.specs.Types.{verdictOf, comparisonOf, planOf, roundOf}
+use Rattle.turn.specs.Types.{verdictOf, earlyOf, comparisonOf, planOf, roundOf}
 use Rattle.rounds.proofs.RunCode.{plan-is}
-use Rattle.rounds.proofs.RunLoop.{Going, going-first, left-room, right-room, compares, judged, agreeing, ran, spends, left-advances, right-advances, going-on}
+use Rattle.rounds.proofs.RunLoop.{shownAt, Going, going-first, left-room, right-room, compares, answered, judged, agreeing, ran, spends, left-advances, right-advances, going-on}
 use Rattle.rounds.proofs.run.Statement.{statement}
 use Rattle.rounds.proofs.run.Tie as tie
 
@@ -26,11 +26,14 @@ abbrev μ-loop : tie.MeasureT-loop
 abbrev called : tie.At-loop Inv-loop μ-loop → tie.Start Inv-loop μ-loop
 called p = p .before .before .before .before .before .before
 
-abbrev turn : tie.After-compare-terms Inv-loop μ-loop → tie.At-loop Inv-loop μ-loop
+abbrev turn : tie.After-ask Inv-loop μ-loop → tie.At-loop Inv-loop μ-loop
 turn p = p .before .before .before
 
-abbrev compared : tie.After-find Inv-loop μ-loop → tie.After-compare-terms Inv-loop μ-loop
-compared p = p .before .before .before
+abbrev asked : tie.After-enum-told Inv-loop μ-loop → tie.After-ask Inv-loop μ-loop
+asked p = p .before .before
+
+abbrev unanswered : tie.After-find Inv-loop μ-loop → tie.After-enum-told Inv-loop μ-loop
+unanswered p = p .before .before .before
 
 abbrev left-found : tie.After-find2 Inv-loop μ-loop → tie.After-find Inv-loop μ-loop
 left-found p = p .before .before .before .before .before
@@ -61,20 +64,50 @@ loop-holds c =
     let s = c .before .before .before .before .before in
     rw (c .before .first .ensures, c .first2 .ensures) (going-first (s .args .budget) (s .pre) (omega arith))
 
-compare-terms-requires : tie.Need-compare-terms-requires Inv-loop μ-loop
-compare-terms-requires c κs = compares (c .before .before .loop .inv)
+ask-requires : tie.Need-ask-requires Inv-loop μ-loop
+ask-requires c κs = compares (c .before .before .loop .inv)
+
+enum-known-early : tie.Need-enum-known-early Inv-loop μ-loop
+enum-known-early c = search needs
+
+new-requires : tie.Need-new-requires Inv-loop μ-loop
+new-requires c κs = search needs
+
+-- The question, from the place where its answer ends the rounds.
+abbrev answering : tie.After-new Inv-loop μ-loop → tie.After-ask Inv-loop μ-loop
+answering c = c .before .before .before .before
+
+same-length : tie.Need-same-length Inv-loop μ-loop
+same-length c = turn (answering c) .loop .inv .left-kept
+
+same-length-2 : tie.Need-same-length-2 Inv-loop μ-loop
+same-length-2 c = turn (answering c) .loop .inv .right-kept
+
+same-length-3 : tie.Need-same-length-3 Inv-loop μ-loop
+same-length-3 c = turn (answering c) .loop .inv .scratch-kept
+
+returns : tie.Need-returns Inv-loop μ-loop
+returns c =
+    let q = answering c in
+    let g = turn q .loop .inv in
+    let v = c .before .before .early .given in
+    ran g refl (c .new .ensures ∙ ap (λ x. shownAt (verdictOf (v .0 .0)) x (turn q .loop .spent) (turn q .loop .left-side .length) (turn q .loop .right-side .length)) (q .ask .ensures .0))
+    (answered g (q .ask .ensures .1) (ap earlyOf (v .1)))
+
+enum-told : tie.Need-enum-told Inv-loop μ-loop
+enum-told c = search needs
 
 find-requires : tie.Need-find-requires Inv-loop μ-loop
-find-requires c κs = let g = turn (c .before .before) .loop .inv in (g .left-searched, left-room g)
+find-requires c κs = let g = turn (asked (c .before .before)) .loop .inv in (g .left-searched, left-room g)
 
 find-requires-2 : tie.Need-find-requires-2 Inv-loop μ-loop
 find-requires-2 c κs =
     let f = c .before .before .before .before in
-    let g = turn (compared f) .loop .inv in
+    let g = turn (asked (unanswered f)) .loop .inv in
     (g .right-searched, right-room g (f .find .last .1 .1 .1 .0) (f .find .kept .1 .1 .1 .0))
 
 sub-judge : tie.Need-sub-judge Inv-loop μ-loop
-sub-judge c = turn (compared (left-found (c .before .before))) .loop .inv .within
+sub-judge c = turn (asked (unanswered (left-found (c .before .before)))) .loop .inv .within
 
 judge-requires : tie.Need-judge-requires Inv-loop μ-loop
 judge-requires c κs = search needs
@@ -87,15 +120,18 @@ module _ (c : tie.After-judge Inv-loop μ-loop) where
   abbrev left-search : tie.After-find Inv-loop μ-loop
   left-search = left-found (right-found c)
 
+  abbrev question : tie.After-ask Inv-loop μ-loop
+  question = asked (unanswered left-search)
+
   abbrev here : tie.At-loop Inv-loop μ-loop
-  here = turn (compared left-search)
+  here = turn question
 
   abbrev call : tie.Start Inv-loop μ-loop
   call = called here
 
-  comparison : comparisonOf (compared left-search .compare-terms .result)
+  comparison : comparisonOf (question .ask .result .compared)
       ≡ compareWords (take (here .loop .left-side .length) (here .loop .left)) (take (here .loop .right-side .length) (here .loop .right))
-  comparison = compared left-search .compare-terms .ensures
+  comparison = question .ask .ensures .0
 
   left-plan : planOf (left-search .find .result) ≡ planned (held (here .loop .left) (here .loop .left-side .length))
   left-plan = plan-is (here .loop .left) (here .loop .left-side .length) (left-search .find .result) (left-search .find .ensures .0)
@@ -110,33 +146,36 @@ module _ (c : tie.After-judge Inv-loop μ-loop) where
   -- The judged round of the rounds' definition.
   abbrev Judged : Round → Type 0
   Judged x =
-      roundBy same (length (call .args .left .now)) (call .args .budget - here .loop .spent) (held (here .loop .left) (here .loop .left-side .length))
+      roundBy atOnce (length (call .args .left .now)) (call .args .budget - here .loop .spent) (held (here .loop .left) (here .loop .left-side .length))
       (held (here .loop .right) (here .loop .right-side .length)) ≡ x
 
   the-round : {x : Round} → roundOf (c .judge .result) ≡ x → Judged x
-  the-round e = judged (here .loop .inv) comparison left-plan right-plan (sym e ∙ c .judge .ensures)
+  the-round e =
+      judged (here .loop .inv) (question .ask .ensures .1) (ap earlyOf (unanswered left-search .enum-told .given .1)) left-plan right-plan (sym e ∙ c .judge .ensures)
 
-shown-position-requires : tie.Need-shown-position-requires Inv-loop μ-loop
-shown-position-requires c κs = search needs
+new-requires-2 : tie.Need-new-requires-2 Inv-loop μ-loop
+new-requires-2 c κs = search needs
 
 -- The judged round, from the place where it ends.
-abbrev ending : tie.After-shown-position Inv-loop μ-loop → tie.After-judge Inv-loop μ-loop
+abbrev ending : tie.After-new2 Inv-loop μ-loop → tie.After-judge Inv-loop μ-loop
 ending c = c .before .before .before .before
 
-same-length : tie.Need-same-length Inv-loop μ-loop
-same-length c = here (ending c) .loop .inv .left-kept
+same-length-4 : tie.Need-same-length-4 Inv-loop μ-loop
+same-length-4 c = here (ending c) .loop .inv .left-kept
 
-same-length-2 : tie.Need-same-length-2 Inv-loop μ-loop
-same-length-2 c = here (ending c) .loop .inv .right-kept
+same-length-5 : tie.Need-same-length-5 Inv-loop μ-loop
+same-length-5 c = here (ending c) .loop .inv .right-kept
 
-same-length-3 : tie.Need-same-length-3 Inv-loop μ-loop
-same-length-3 c = let j = ending c in scratch-same j ∙ here j .loop .inv .scratch-kept
+same-length-6 : tie.Need-same-length-6 Inv-loop μ-loop
+same-length-6 c = let j = ending c in scratch-same j ∙ here j .loop .inv .scratch-kept
 
-returns : tie.Need-returns Inv-loop μ-loop
-returns c =
+returns-2 : tie.Need-returns-2 Inv-loop μ-loop
+returns-2 c =
     let j = ending c in
     let v = c .before .before .verdict .given in
-    ran (here j .loop .inv) (scratch-same j) (c .shown-position .ensures ∙ ap (shownPosition (verdictOf (v .0 .0))) (comparison j)) (the-round j (ap roundOf (v .1)))
+    ran (here j .loop .inv) (scratch-same j)
+    (c .new2 .ensures ∙ ap (λ x. shownAt (verdictOf (v .0 .0)) x (here j .loop .spent) (here j .loop .left-side .length) (here j .loop .right-side .length)) (comparison j))
+    (the-round j (ap roundOf (v .1)))
 
 enum-known-count : tie.Need-enum-known-count Inv-loop μ-loop
 enum-known-count c = search needs
@@ -216,17 +255,24 @@ run-spec =
     first-requires
     first-requires-2
     loop-holds
-    compare-terms-requires
+    ask-requires
+    enum-known-early
+    new-requires
+    same-length
+    same-length-2
+    same-length-3
+    returns
+    enum-told
     find-requires
     find-requires-2
     sub-judge
     judge-requires
     enum-known-verdict
-    shown-position-requires
-    same-length
-    same-length-2
-    same-length-3
-    returns
+    new-requires-2
+    same-length-4
+    same-length-5
+    same-length-6
+    returns-2
     enum-known-count
     position-requires
     agreed-requires

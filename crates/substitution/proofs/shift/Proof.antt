@@ -14,7 +14,7 @@ use Rattle.walk.specs.Rewritten.{shifting, rewritten, standing}
 use Rattle.substitution.specs.Results.{shifted}
 use Rattle.words.proofs.RoomLaws.{room-of-length}
 use Rattle.walk.proofs.RewrittenLaws.{shifting-length, place-most}
-use Rattle.substitution.proofs.Walking.{entered-word, walking-inside, walking-depth, walking-enters, walking-done}
+use Rattle.substitution.proofs.Walking.{walking-inside, walking-depth, walking-enters, walking-entered, walking-done}
 use Rattle.substitution.proofs.RewritingLaws.{placed-as, Rewriting, rewriting-start, rewriting-within, rewriting-room, rewriting-next, rewriting-done, standing-shifted, moving-word}
 use Rattle.substitution.proofs.shift.Statement.{statement}
 use Rattle.substitution.proofs.shift.Tie as tie
@@ -122,7 +122,7 @@ loop-again c =
     let v = u .visit .ensures in
     let one : rewritten (shifting (z t)) (depth t) (word t) ≡ u .visit .result .word .0 ∷ [] =
     v .stands (omega (arith, v .place-is, place-most 0 (depth t) (word t))) in
-    rewriting-next (t .before .before .loop .inv) (more t) (placed-as (sym one) (record { slice = refl; position = omega (arith, inside t) })) (entered-word (word t) (v .items-are) (v .binders-are) (c .before .before .enter .ensures)) (c .before .before .enter .kept .1 .1 .1 .0)
+    rewriting-next (t .before .before .loop .inv) (more t) (placed-as (sym one) (record { slice = refl; position = omega (arith, inside t) })) (walking-entered (t .before .before .loop .inv .walking) (t .if1 .taken) (u .before .shared-slice-known2 .given (t .before .before .loop .i) .fits) (v .items-are) (v .binders-are) (c .before .before .enter .ensures))
 
 -- The end.
 module _ (c : tie.Else1 Inv-loop μ-loop) where

@@ -1,16 +1,19 @@
--- `starts` meets its contract. The invariant: the starts of the items up to the j-th are written.
-use Prim.Native.Nat.{suc, _-_, _≤_}
-use mathlib.Core.Path.{_≡_, refl}
+-- `starts` meets its contract. The invariant: the starts of the items up to the j-th are written, and the places behind hold 0.
+use Prim.Native.Nat.{ℕ, suc, _+_, _-_, _≤_, _<_}
+use mathlib.Core.Path.{_≡_, refl, _∙_}
 use native.Mathlib.Omega.{arith}
 use borrow.Author.Needs.{needs}
-use lib.ListN.{length, length-set}
+use lib.ListN.{length, drop, replicate, length-set}
+use lib.Seq.{drop-set-lt}
 use Rattle.calculus.specs.Accepted.{argumentLimit}
+use Rattle.words.proofs.RoomLaws.{drop-replicate}
 use Rattle.substitution.proofs.StartLaws.{Offsets, offsets-first, offsets-next, offsets-last}
 use Rattle.substitution.proofs.starts.Statement.{statement}
 use Rattle.substitution.proofs.starts.Tie as tie
 
 abbrev Inv-loop : tie.InvT-loop
-Inv-loop src args after count starts₀ j₀ starts j = (length starts ≡ suc argumentLimit) × (j ≤ count) × Offsets src args starts j
+Inv-loop src args after count starts₀ j₀ starts j =
+    (length starts ≡ suc argumentLimit) × (j ≤ count) × Offsets src args starts j × ((k : ℕ) → j < k → drop k starts ≡ replicate (suc argumentLimit - k) 0)
 
 abbrev μ-loop : tie.MeasureT-loop
 μ-loop src args after count starts₀ j₀ starts j = count - j
@@ -19,7 +22,12 @@ array-write-starts : tie.Need-array-write-starts Inv-loop μ-loop
 array-write-starts c = omega arith
 
 loop-holds : tie.Need-loop-holds Inv-loop μ-loop
-loop-holds c = (refl, omega arith, offsets-first (c .before .args .src .now) (c .before .args .args) _ refl)
+loop-holds c = (
+  refl,
+  omega arith,
+  offsets-first (c .before .args .src .now) (c .before .args .args) _ refl,
+  λ k l. drop-set-lt k (replicate (suc argumentLimit) 0) 0 (c .before .args .args) l ∙ drop-replicate 0 k (suc argumentLimit),
+)
 
 add-loop : tie.Need-add-loop Inv-loop μ-loop
 add-loop c = omega arith
@@ -55,6 +63,7 @@ loop-again c =
       simp length-set (l .inv .0),
       omega arith,
       offsets-next (s .args .src .now) (s .args .args) (l .starts) (l .j) (c .extent .result) (omega arith) (l .inv .2) (c .extent .ensures),
+      λ k m. drop-set-lt k (l .starts) (l .j + 1) (c .extent .result) m ∙ l .inv .3 k (omega arith),
     )
 
 mul-starts-2 : tie.Need-mul-starts-2 Inv-loop μ-loop
@@ -64,10 +73,10 @@ array-write-starts-3 : tie.Need-array-write-starts-3 Inv-loop μ-loop
 array-write-starts-3 c = omega arith
 
 returns : tie.Need-returns Inv-loop μ-loop
-returns c after-is =
+returns c =
     let l = c .before .loop in
     let s = c .before .before .before in
-    offsets-last (s .args .src .now) (s .args .args) (l .starts) (l .j) (s .args .count) (s .args .after) (omega arith) (omega arith) (l .inv .2) after-is .offsets
+    offsets-last (s .args .src .now) (s .args .args) (l .starts) (l .j) (s .args .count) (s .args .after) (omega arith) (omega arith) (omega arith) (l .inv .2) (l .inv .3)
 
 pub starts-spec : {M : Type 1} → statement M
 starts-spec =

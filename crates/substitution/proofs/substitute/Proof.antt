@@ -17,9 +17,9 @@ use Rattle.words.proofs.RoomLaws.{room-of-length}
 use Rattle.walk.specs.Rewritten.{shifting, substituting, rewritten}
 use Rattle.substitution.specs.Results.{shifted}
 use Rattle.walk.proofs.RewrittenLaws.{place-most}
-use Rattle.substitution.proofs.Walking.{entered-word, walking-depth, walking-number, walking-enters, walking-free}
+use Rattle.substitution.proofs.Walking.{walking-depth, walking-number, walking-enters, walking-entered, walking-free}
 use Rattle.substitution.proofs.RewritingLaws.{placed-as, Rewriting, rewriting-start, rewriting-some, rewriting-within, rewriting-room, rewriting-lent, rewriting-next, rewriting-done}
-use Rattle.substitution.proofs.StartLaws.{Offsets}
+use Rattle.substitution.proofs.StartLaws.{Offsets, positions-offsets}
 use Rattle.substitution.proofs.ArgumentLaws.{rewritten-body, movable-body}
 use Rattle.substitution.proofs.Chosen.{chosen-shiftable, chosen-words, chosen-end, chosen-part}
 use Rattle.substitution.proofs.substitute.Statement.{statement}
@@ -102,12 +102,9 @@ placed : (c : tie.Then1 Inv-loop μ-loop)
 placed c =
     let t = c .before .before .before in
     let v = t .before .loop .inv in
-    record {
-      offsets =
-          t .before .before .before .starts .ensures
-          (start t .pre .0 .after-is (t .before .loop .i) (inside t .2) (t .loop-test .taken)
-          (rw (walking-number (v .walking) (some t), ← c .before .visit .ensures .place-is) (c .if1 .taken)));
-    }
+    positions-offsets (t .before .before .before .starts .ensures)
+    (start t .pre .0 .after-is (t .before .loop .i) (inside t .2) (t .loop-test .taken)
+    (rw (walking-number (v .walking) (some t), ← c .before .visit .ensures .place-is) (c .if1 .taken)))
 
 argument-words : (c : tie.Then1 Inv-loop μ-loop)
     → words (shifted (src (c .before .before .before)) (getD (c .before .before .before .before .before .before .starts .result) (c .before .visit .result .place) 0) (pos (depth (c .before .before .before))))
@@ -199,7 +196,7 @@ loop-again c =
     let r = c .before .before .before .before .before .before .before .before in
     let t = turn r in
     let u = r .before .before .before .before in
-    rewriting-next (lent r) (t .loop-test .taken) (placed-as (argument-words (r .before .before .before)) (r .raise .ensures .0)) (entered-word (word t) (u .visit .ensures .items-are) (u .visit .ensures .binders-are) (c .before .before .enter .ensures)) (c .before .before .enter .kept .1 .1 .1 .0)
+    rewriting-next (lent r) (t .loop-test .taken) (placed-as (argument-words (r .before .before .before)) (r .raise .ensures .0)) (walking-entered (lent r .walking) (some t) (u .before .shared-slice-known2 .given (t .before .loop .i) .fits) (u .visit .ensures .items-are) (u .visit .ensures .binders-are) (c .before .before .enter .ensures))
 
 -- No argument stands for the word.
 module _ (c : tie.Else1 Inv-loop μ-loop) where
@@ -245,7 +242,7 @@ loop-again-2 : tie.Need-loop-again-2 Inv-loop μ-loop
 loop-again-2 c =
     let e = c .before .before .before .before in
     let v = e .before .visit .ensures in
-    rewriting-next (t e .before .loop .inv) (t e .loop-test .taken) (placed-as (sym (one-word e)) (record { slice = refl; position = refl })) (entered-word (word (t e)) (v .items-are) (v .binders-are) (c .before .before .enter2 .ensures)) (c .before .before .enter2 .kept .1 .1 .1 .0)
+    rewriting-next (t e .before .loop .inv) (t e .loop-test .taken) (placed-as (sym (one-word e)) (record { slice = refl; position = refl })) (walking-entered (t e .before .loop .inv .walking) (some (t e)) (e .before .before .shared-slice-known2 .given (t e .before .loop .i) .fits) (v .items-are) (v .binders-are) (c .before .before .enter2 .ensures))
 
 same-length : tie.Need-same-length Inv-loop μ-loop
 same-length c = c .before .loop .inv .kept

@@ -17,8 +17,9 @@ use Rattle.terms.specs.IsTerm.{isTerm}
 use Rattle.terms.proofs.FreeNumbers.{scoped-is-term}
 use Rattle.records.specs.Records.{Table, OfKind}
 use Rattle.tables.specs.Meaning.{Means, plain, case-of, no-term, a-term, no-branch, a-branch}
-use Rattle.records.specs.Values.{valueFits}
-use Rattle.records.specs.Children.{children, numberFits, subjectFirst, sortsFit, childrenFit}
+use Rattle.words.specs.Payload.{payloadFits}
+use Rattle.records.specs.Values.{valueFits, numberFits}
+use Rattle.records.specs.Children.{children, subjectFirst, sortsFit, childrenFit}
 use Rattle.calculus.specs.Bringing.{freeFits}
 use Rattle.tables.proofs.Meaning.Nodes.{node-accepted, node-scoped}
 use Rattle.records.proofs.LinkRules.{Linked}
@@ -46,7 +47,7 @@ module _ (T : Table) (L : Linked T) (values : Valued T) (fits : Fitted T) where
       (omega (arith, counted .0), counted .1 .0 (both .1))
 
   branch-fits : {i : ℕ} → OfKind T branchKind i → Pattern (tagOf (T .at i .value)) (countOf (T .at i .value))
-  unfolding valueFits
+  unfolding valueFits payloadFits
   branch-fits k = pattern-fits _ _ (value-of k)
 
   pub means-accepted : {s : Sort} {i : ℕ} {e : Exp s} → Means T s i e → (d : ℕ) → Scoped d e → Accepted d e

@@ -13,13 +13,13 @@ use Rattle.calculus.specs.Words.{caseKind, branchKind, tagOf}
 use Rattle.calculus.specs.Accepted.{branchLimit}
 use Rattle.records.specs.Records.{Table}
 use Rattle.tables.specs.Meaning.{Means, plain, case-of, no-term, a-term, no-branch, a-branch}
-use Rattle.records.specs.Children.{children, chainFrom, isBranch, startsAbove, mayStand, chainFits, numberFits, subjectFirst, sortsFit, childrenFit}
-use Rattle.records.specs.Values.{valueFits}
+use Rattle.records.specs.Children.{children, chainFrom, isBranch, startsAbove, mayStand, chainFits, subjectFirst, sortsFit, childrenFit}
+use Rattle.records.specs.Values.{valueFits, numberFits}
 use Rattle.records.proofs.LinkRules.{Ahead, ahead-from, Linked, Enough, nothing-left, next-enough, children-enough}
 use Rattle.tables.proofs.Meaning.Nodes.{Plain, one-child, some-node}
 use Rattle.tables.proofs.Meaning.ChainMeaning.{terms-chain}
 use Rattle.records.proofs.Hanging.{chain-end, chain-next}
-use Rattle.records.proofs.Fits.{Valued, Fitted}
+use Rattle.records.proofs.Fits.{Valued, known-kind, Fitted}
 
 module _ (T : Table) (L : Linked T) (F : Fitted T) where
   -- Every later record that is no branch means a term.
@@ -106,5 +106,5 @@ module _ (T : Table) (L : Linked T) (F : Fitted T) where
         elim (ℕ-discrete (T .at i .kind) caseKind) [
           | yes e ↦ case-means i later l u e
           | no n ↦ plain-means i later l u
-              (record { no-case = n; no-branch = eqb-false (T .at i .kind) branchKind f; known = values .known-kind i l u })
+              (record { no-case = n; no-branch = eqb-false (T .at i .kind) branchKind f; known = known-kind values i l u })
         ]

@@ -17,13 +17,12 @@ use Rattle.calculus.proofs.WordLaws.{tagOf-pack}
 use Rattle.calculus.proofs.SkipLaws.{arity-variable, arity-constructor, arity-numeral}
 use Rattle.calculus.proofs.All.{All, holds, nothing, all-eqb}
 use Rattle.tables.specs.Meaning.{Node, variable, abstraction, application, constructor, numeral, leafOf, onlyOne, applicationOf, valueless, termOf}
-use Rattle.records.specs.Values.{valueFits}
-use Rattle.records.specs.Children.{numberFits}
-use Rattle.transcription.specs.Reading.{payload}
+use Rattle.words.specs.Payload.{payloadFits}
+use Rattle.records.specs.Values.{valueFits, numberFits}
 use Rattle.words.proofs.PatternLaws.{tag-passes, tag-fits}
 use Rattle.records.specs.Records.{entry}
 use Rattle.tables.specs.Write.{linkTo, records}
-use Rattle.transcription.specs.Writing.{valueOf}
+use Rattle.records.specs.Payload.{payload, valueOf}
 
 -- `termOf` finds the term of a node, and nothing else.
 of-leaf : {k v : ℕ} {t : Term} (xs : Terms) → Node k v nil t → All (Node k v xs) (leafOf t xs)
@@ -97,7 +96,7 @@ two : {v : ℕ} {xs : Terms} {f a : Term} → v ≡ 0 → xs ≡ cons f (cons a 
 two e f = rw (e, f) application
 
 pub some-node : (k v : ℕ) (xs : Terms) → Plain k → valueFits k v ≡ true → numberFits k (count xs) ≡ true → (t : Term) × Node k v xs t
-unfolding valueFits
+unfolding valueFits payloadFits
 some-node zero v xs l f g = (var v, leaf xs (eqb-true (count xs) 0 g) variable)
 some-node (suc zero) v xs l f g = let a = one-child xs (eqb-true (count xs) 1 g) in (lam (a .0), one (eqb-true v 0 f) (a .1))
 some-node (suc (suc zero)) v xs l f g =
@@ -156,7 +155,7 @@ node-below P numeral d h = (d, tt)
 -- Acceptance, and what refusals 3 and 5 test of the node itself.
 pub node-fits : {k v : ℕ} {xs : Terms} {t : Term} → Node k v xs t → (d : ℕ) → Accepted d t → IndicesWithin indexLimit t
     → (valueFits k v ≡ true) × (numberFits k (count xs) ≡ true)
-unfolding valueFits
+unfolding valueFits payloadFits
 node-fits (variable {v}) d a w = (le-leb v indexLimit w, refl)
 node-fits abstraction d a w = (refl, refl)
 node-fits application d a w = (refl, refl)
@@ -165,7 +164,7 @@ node-fits (numeral {v}) d a w = (le-leb v numeralLimit a, refl)
 
 pub node-accepted : {k v : ℕ} {xs : Terms} {t : Term} → Node k v xs t → (d : ℕ) → valueFits k v ≡ true → numberFits k (count xs) ≡ true
     → ((d′ : ℕ) → Scoped d′ xs → Accepted d′ xs) → Scoped d t → Accepted d t
-unfolding valueFits
+unfolding valueFits payloadFits
 node-accepted variable d f g below h = h
 node-accepted abstraction d f g below h = below (suc d) (h, tt) .0
 node-accepted application d f g below h = let both = below d (h .0, (h .1, tt)) in (both .0, both .1 .0)
@@ -175,7 +174,7 @@ node-accepted (numeral {v}) d f g below h = leb-true v numeralLimit f
 -- Under so many binders that no index of a record is free.
 pub node-scoped : {k v : ℕ} {xs : Terms} {t : Term} → Node k v xs t → (d : ℕ) → valueFits k v ≡ true → ((d′ : ℕ) → indexLimit ≤ d′ → Scoped d′ xs) → indexLimit ≤ d
     → Scoped d t
-unfolding valueFits
+unfolding valueFits payloadFits
 node-scoped (variable {v}) d f below h = omega (arith, leb-true v indexLimit f)
 node-scoped abstraction d f below h = below (suc d) (omega arith) .0
 node-scoped application d f below h = let both = below d h in (both .0, both .1 .0)

@@ -13,10 +13,10 @@ use Rattle.calculus.specs.Theorems.{counted, Packable}
 use Rattle.calculus.proofs.WordLaws.{kindOf-word, payloadOf-word}
 use Rattle.calculus.proofs.SkipLaws.{arity-case, arity-branch, span-words, span-zero}
 use Rattle.records.specs.Records.{Record, entry}
-use Rattle.transcription.specs.Reading.{payload}
 use Rattle.tables.specs.Write.{linkTo, records}
-use Rattle.transcription.specs.Writing.{valueOf, linkIf, push, entries}
+use Rattle.transcription.specs.Writing.{linkIf, push, entries}
 use Rattle.tables.proofs.Meaning.Nodes.{node-plain, node-words, node-size, node-arity, node-value, node-records, node-below, Built, plain, of-case, empty, listed, ended, branched, built}
+use Rattle.records.specs.Payload.{payload, valueOf}
 
 -- The record of a word in front, by its kind, payload, number of children and extent.
 first-entry : (k p a s i m : ℕ) (ks ws : List ℕ) → k < kindBase → arity (word k p) ≡ a → span 1 (word k p ∷ ws) ≡ s

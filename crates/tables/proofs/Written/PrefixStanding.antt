@@ -15,7 +15,6 @@ use Rattle.tables.specs.Write.{linkTo, records}
 use Rattle.tables.proofs.Meaning.Nodes.{node-size, node-records}
 use Rattle.tables.proofs.Meaning.MeaningLaws.{term-inside}
 use Rattle.tables.proofs.Written.Standing.{Stand, stand-with, link-cons, link-branch}
-use Rattle.records.proofs.RecordLaws.{entry-path}
 
 -- A link is 0 and fills nothing, or it names the first record that it fills; that record's children fill what is right after it.
 fills-cases : {T : Table} {l i k : ℕ} → Fills T l i k
@@ -46,7 +45,7 @@ module _ (T : Table) where
   in-order-stands {i = i} (plain k n m) = λ to f.
       let parts = record-fills (k .0) f .1 in
       let below = in-order-stands m (suc i) (parts .0) (omega arith) (parts .1) in
-      (rw (node-records n i _) (entry-path (k .2) refl (below .1) refl, below .0), fills-from (omega (arith, node-size n)) (parts .2))
+      (rw (node-records n i _) (record { kind = k .2; value = refl; first = below .1; next = refl }, below .0), fills-from (omega (arith, node-size n)) (parts .2))
   in-order-stands {i = i} (case-of {e = e} {bs = bs} k z m ms) = λ n f.
       let parts = record-fills (k .0) f .1 in
       let here : T .at i .first ≡ suc i = fills-first (term-inside m .0) (parts .1) in
@@ -55,7 +54,7 @@ module _ (T : Table) where
       let first = subject (parts .0) (rw here at (parts .1)) in
       let later = rest (suc i + size e) (parts .0) (omega arith) (first .1) in (
         (
-          entry-path (k .2) z here refl,
+          record { kind = k .2; value = z; first = here; next = refl },
           stand-with T e bs (suc i) (linkTo (suc i + size e) bs) 0 (rw (later .1) at (first .0)) (later .0),
         ),
         fills-from (omega (arith, length-append (words e) (words bs))) (parts .2),
@@ -79,7 +78,7 @@ module _ (T : Table) where
       let kind : T .at i .kind ≡ branchKind = rw here at (k .2) in
       let value : T .at i .value ≡ pack (tagOf (T .at l .value)) (countOf (T .at l .value)) = rw here (sym (pack-of-parts (T .at i .value))) in (
         (
-          entry-path kind value (below .1 ∙ link-cons (suc i) b nil) (later .1),
+          record { kind = kind; value = value; first = below .1 ∙ link-cons (suc i) b nil; next = later .1 },
           stand-with T b bs (suc i) 0 0 (rw append-nil at (below .0)) (later .0),
         ),
         here ∙ sym (link-branch i (tagOf (T .at l .value)) (countOf (T .at l .value)) b bs),

@@ -10,14 +10,16 @@ use Rattle.calculus.specs.Words.{words, size, tagOf, countOf}
 use Rattle.calculus.specs.Theorems.{counted, Packable}
 use Rattle.calculus.proofs.WordLaws.{tagOf-pack, countOf-pack}
 use Rattle.records.specs.Records.{Record, Table, entry}
+use Rattle.records.proofs.RecordLaws.{Parts}
 use Rattle.tables.specs.Meaning.{Node, Means, plain, case-of, no-term, a-term, no-branch, a-branch}
 use Rattle.tables.specs.PrefixOrder.{Fills, nothing, chained}
 use Rattle.tables.specs.Write.{linkTo, records}
 use Rattle.tables.proofs.Meaning.Nodes.{node-size, node-records, node-below, Built, plain, of-case, empty, listed, ended, branched, built}
 
+-- The record at an index has the parts of the first of them, whatever it declares, and so on.
 abbrev pub Stand : Table → ℕ → List Record → Type 0
 Stand T i [] = Unit {0}
-Stand T i (r ∷ rs) = (T .at i ≡ r) × Stand T (suc i) rs
+Stand T i (r ∷ rs) = Parts (T .at i) r × Stand T (suc i) rs
 
 -- Records one after the other.
 stand-split : (T : Table) (rs rs′ : List Record) (i j : ℕ) → j ≡ i + length rs → Stand T i (rs ++ rs′) → Stand T i rs × Stand T j rs′
@@ -51,13 +53,13 @@ stand-with T e g i x y h h′ = stand-join T (records i x e) _ i (i + size e) (o
 
 -- A plain record and its children.
 pub stand-node : (T : Table) {k v : ℕ} {xs : Terms} {t : Term} → Node k v xs t → (i x : ℕ) → Stand T i (records i x t)
-    → (T .at i ≡ entry k v (linkTo (suc i) xs) x) × Stand T (suc i) (records (suc i) 0 xs)
+    → Parts (T .at i) (entry k v (linkTo (suc i) xs) x) × Stand T (suc i) (records (suc i) 0 xs)
 stand-node T n i x h = rw (node-records n i x) at h
 
 -- The record of a term has the next sibling that it is given.
 pub stand-next : (T : Table) {t : Term} → Built term t → (i x : ℕ) → Stand T i (records i x t) → T .at i .next ≡ x
-stand-next T (plain n b) i x h = rw (stand-node T n i x h .0)
-stand-next T (of-case b c) i x h = rw (h .0)
+stand-next T (plain n b) i x h = stand-node T n i x h .0 .next
+stand-next T (of-case b c) i x h = h .0 .next
 
 -- Where a list stands, a link to it names its first record.
 pub link-cons : (i : ℕ) (a : Term) (xs : Terms) → linkTo i (cons a xs) ≡ i
@@ -81,13 +83,13 @@ pub stand-means : (T : Table) {s : Sort} {e : Exp s} → Built s e → (i x : �
 stand-means T (plain {xs = xs} {t = t} n b) i x l u p h =
     let own = stand-node T n i x h in
     let m = stand-means T b (suc i) 0 (omega arith) (omega (arith, node-size n)) (node-below counted n tt p .1) (own .1) in
-    plain {xs = xs} {t = t} (l, omega (arith, node-size n), ap (λ r. r .kind) (own .0)) (rw (own .0) n) (rw (own .0) m)
+    plain {xs = xs} {t = t} (l, omega (arith, node-size n), own .0 .kind) (rw (own .0 .value) n) (rw (own .0 .first) m)
 stand-means T (of-case {e} {bs} b c) i x l u p h =
     let room = length-append (words e) (words bs) in
     let both = stand-both T e bs (suc i) (linkTo (suc i + size e) bs) 0 (h .1) in
     let m = stand-means T b (suc i) (linkTo (suc i + size e) bs) (omega arith) (omega arith) (p .1) (both .0) in
     let ms = stand-means T c (suc i + size e) 0 (omega arith) (omega arith) (p .2) (both .1) in
-    case-of {e = e} {bs = bs} (l, omega arith, ap (λ r. r .kind) (h .0)) (ap (λ r. r .value) (h .0)) (rw (h .0) m) (rw (h .0) (rw (stand-next T b _ _ (both .0)) ms))
+    case-of {e = e} {bs = bs} (l, omega arith, h .0 .kind) (h .0 .value) (rw (h .0 .first) m) (rw (h .0 .first) (rw (stand-next T b _ _ (both .0)) ms))
 stand-means T empty i x l u p h = no-term
 stand-means T (listed {a} {xs} b c) i x l u p h =
     let room = length-append (words a) (words xs) in
@@ -101,14 +103,14 @@ stand-means T (branched {t} {n} {b} {bs} c d) i x l u p h =
     let both = stand-both T b bs (suc i) 0 0 (h .1) in
     let body = stand-means T c (suc i) 0 (omega arith) (omega arith) (p .1) (both .0) in
     let ms = stand-means T d (suc i + size b) 0 (omega arith) (omega arith) (p .2) (both .1) in
-    let child : Means T terms (T .at i .first) (cons b nil) = rw (h .0) (then body (stand-next T c _ 0 (both .0)) no-term) in
+    let child : Means T terms (T .at i .first) (cons b nil) = rw (h .0 .first) (then body (stand-next T c _ 0 (both .0)) no-term) in
     let m : Means T branches i (branch (tagOf (T .at i .value)) (countOf (T .at i .value)) b bs) =
-    a-branch {b = b} {bs = bs} (l, omega arith, ap (λ r. r .kind) (h .0)) child (rw (h .0) ms) in
-    rw (link-branch i t n b bs) (rw (h .0, tagOf-pack t n (p .0), countOf-pack t n (p .0)) at m)
+    a-branch {b = b} {bs = bs} (l, omega arith, h .0 .kind) child (rw (h .0 .next) ms) in
+    rw (link-branch i t n b bs) (rw (h .0 .value, tagOf-pack t n (p .0), countOf-pack t n (p .0)) at m)
 
 -- A record, the chain of its children and what follows it.
-record-fills : (T : Table) (r : Record) (i j j′ k : ℕ) → T .at i ≡ r → Fills T (r .first) (suc i) j → j ≡ j′ → Fills T (r .next) j′ k → Fills T i i k
-record-fills T r i j j′ k e f q g = chained {i = i} {j = j′} {k = k} (rw (e, ← q) f) (rw e g)
+record-fills : (T : Table) (r : Record) (i j j′ k : ℕ) → Parts (T .at i) r → Fills T (r .first) (suc i) j → j ≡ j′ → Fills T (r .next) j′ k → Fills T i i k
+record-fills T r i j j′ k e f q g = chained {i = i} {j = j′} {k = k} (rw (e .first, ← q) f) (rw (e .next) g)
 
 nothing-to : (T : Table) (i k : ℕ) → i ≡ k → Fills T 0 i k
 nothing-to T i k e = rw e nothing

@@ -1,13 +1,13 @@
 -- The records of an accepted expression, standing in a table, have values and children that fit.
 use Prim.Native.Nat.{ℕ, suc, _+_, _≤_, _<_}
-use mathlib.Core.Path.{_≡_, refl, ap}
+use mathlib.Core.Path.{_≡_, refl}
 use mathlib.Core.Bool.{true}
 use native.Mathlib.Decide.{decLt}
 use native.Mathlib.Omega.{arith}
 use lib.ListN.{length-append}
 use borrow.Author.Tests.{le-leb, ne-eqb}
 use Rattle.calculus.specs.Term.{Sort, term, terms, branches, Exp, case, nil, cons, branch, Term, Terms, Branches, count}
-use Rattle.calculus.specs.Words.{words, size, caseKind, numeralKind, countBase}
+use Rattle.calculus.specs.Words.{words, size, caseKind, countBase}
 use Rattle.calculus.specs.Accepted.{branchLimit, acceptance, Accepted, indexLimit}
 use Rattle.calculus.specs.Theorems.{counted, within, IndicesWithin}
 use Rattle.calculus.proofs.WordLaws.{tagOf-pack, countOf-pack, accepted-packable}
@@ -15,8 +15,9 @@ use Rattle.calculus.proofs.DefaultLaws.{pattern-limits}
 use Rattle.words.proofs.PatternLaws.{pattern-passes}
 use Rattle.records.specs.Records.{Table, OfKind}
 use Rattle.tables.specs.Meaning.{Node, Means, no-term}
-use Rattle.records.specs.Values.{valueFits}
-use Rattle.records.specs.Children.{children, numberFits, childrenFit}
+use Rattle.words.specs.Payload.{payloadFits}
+use Rattle.records.specs.Values.{valueFits, numberFits}
+use Rattle.records.specs.Children.{children, childrenFit}
 use Rattle.tables.specs.Write.{linkTo, records}
 use Rattle.records.proofs.LinkRules.{Linked}
 use Rattle.tables.proofs.Meaning.Nodes.{node-plain, node-size, node-below, node-fits, Built, plain, of-case, empty, listed, ended, branched}
@@ -25,7 +26,6 @@ use Rattle.tables.proofs.Written.Standing.{Stand, stand-node, stand-bot
 
 -- What is tested of one record.
 pub record Fits (T : Table) (i : ℕ) : Type 0 where
-  pub known-kind : T .at i .kind ≤ numeralKind
   pub value-fits : valueFits (T .at i .kind) (T .at i .value) ≡ true
   pub children-fit : childrenFit (T .at i .kind) (children T i) ≡ true
 
@@ -52,9 +52,8 @@ module _ (T : Table) (L : Linked T) where
       let tests = node-fits n d a w in
       let below = stand-means T b (suc i) 0 (omega arith) (omega (arith, node-size n)) (node-below counted n tt (accepted-packable d t a) .1) (own .1) in
       record {
-        known-kind = rw (own .0) (node-plain n .known);
-        value-fits = rw (own .0) (tests .0);
-        children-fit = node-children {xs = xs} (l, omega (arith, node-size n), ap (λ r. r .kind) (own .0)) (rw (own .0) below) (node-plain n .no-case) (tests .1);
+        value-fits = rw (own .0 .kind, own .0 .value) (tests .0);
+        children-fit = node-children {xs = xs} (l, omega (arith, node-size n), own .0 .kind) (rw (own .0 .first) below) (node-plain n .no-case) (tests .1);
       }
 
   case-fits : {e : Term} {bs : Branches} → Built term e → Built branches bs → (i x d : ℕ) → 1 ≤ i → i + size (case e bs) ≤ suc (T .n) → Accepted d (case e bs)
@@ -65,27 +64,25 @@ module _ (T : Table) (L : Linked T) where
       let both = stand-both T e bs (suc i) (linkTo (suc i + size e) bs) 0 (h .1) in
       let m = stand-means T b (suc i) (linkTo (suc i + size e) bs) (omega arith) (omega arith) (accepted-packable d e (a .1)) (both .0) in
       let ms = stand-means T c (suc i + size e) 0 (omega arith) (omega arith) (accepted-packable d bs (a .2)) (both .1) in
-      let subject : Means T term (T .at i .first) e = rw (h .0) m in
-      let rest : Means T branches (T .at (T .at i .first) .next) bs = rw (h .0) (rw (stand-next T b _ _ (both .0)) ms) in
+      let subject : Means T term (T .at i .first) e = rw (h .0 .first) m in
+      let rest : Means T branches (T .at (T .at i .first) .next) bs = rw (h .0 .first) (rw (stand-next T b _ _ (both .0)) ms) in
       let counted = case-chain T L subject rest in
       record {
-        known-kind = rw (h .0) (omega arith);
-        value-fits = rw (h .0);
-        children-fit = rw (ap (λ r. r .kind) (h .0), counted .0, le-leb 1 (suc (count bs)) (omega arith), le-leb (suc (count bs)) (suc branchLimit) (omega (arith, a .0 .0))) (counted .1 .1 (a .0 .1));
+        value-fits = rw (h .0 .kind, h .0 .value);
+        children-fit = rw (h .0 .kind, counted .0, le-leb 1 (suc (count bs)) (omega arith), le-leb (suc (count bs)) (suc branchLimit) (omega (arith, a .0 .0))) (counted .1 .1 (a .0 .1));
       }
 
   branch-fits : {b : Term} → Built term b → (t n : ℕ) (bs : Branches) (i x d : ℕ) → 1 ≤ i → i + size (branch t n b bs) ≤ suc (T .n)
       → Accepted d (branch t n b bs) → Stand T i (records i x (branch t n b bs)) → Fits T i
-  unfolding valueFits
+  unfolding valueFits payloadFits
   branch-fits {b} c t n bs i x d l u a h =
       let room = length-append (words b) (words bs) in
       let both = stand-both T b bs (suc i) 0 0 (h .1) in
       let body = stand-means T c (suc i) 0 (omega arith) (omega arith) (accepted-packable _ b (a .1)) (both .0) in
       let small : n < countBase = omega (arith, pattern-limits t n (a .0) .1) in
       record {
-        known-kind = rw (h .0) (omega arith);
-        value-fits = rw (h .0, tagOf-pack t n small, countOf-pack t n small) (pattern-passes t n (a .0));
-        children-fit = node-children {xs = cons b nil} (l, omega arith, ap (λ r. r .kind) (h .0)) (rw (h .0) (then body (stand-next T c _ 0 (both .0)) no-term)) (λ e. omega arith) refl;
+        value-fits = rw (h .0 .kind, h .0 .value, tagOf-pack t n small, countOf-pack t n small) (pattern-passes t n (a .0));
+        children-fit = node-children {xs = cons b nil} (l, omega arith, h .0 .kind) (rw (h .0 .first) (then body (stand-next T c _ 0 (both .0)) no-term)) (λ e. omega arith) refl;
       }
 
   pub stand-fits : {s : Sort} {e : Exp s} → Built s e → (i x d : ℕ) → 1 ≤ i → i + size e ≤ suc (T .n) → Accepted d e → IndicesWithin indexLimit e

@@ -1,11 +1,11 @@
 -- Records and their words: which records a list of words holds, and that these words are no others.
 use Prim.Native.Nat.{ℕ, suc, _+_, _*_}
-use mathlib.Core.Path.{_≡_, refl, sym, ap, ap₂, _∙_}
+use mathlib.Core.Path.{_≡_, refl, sym, ap, _∙_}
 use mathlib.Core.List.{List, [], _∷_}
 use native.Mathlib.Omega.{arith}
 use lib.ListN.{length, getD}
-use Rattle.records.specs.Records.{Record, Table, recordAt, form1, inForm1, recordsWords, entry}
-use Rattle.records.proofs.RecordLaws.{entry-path}
+use Rattle.records.specs.Records.{Record, Table, recordAt, form1, inForm1, recordsWords}
+use Rattle.records.proofs.RecordLaws.{entry-path, parts}
 use Rattle.tables.proofs.Written.Standing.{Stand}
 
 -- After the words of one record the next ones begin.
@@ -28,7 +28,8 @@ words-stand [] T i h = tt
 words-stand (r ∷ rs) T i h =
     let here : i ≡ i + 0 = omega arith in
     let next : (j : ℕ) → suc i + j ≡ i + suc j = λ j. omega arith in
-    (ap (T .at) here ∙ h 0, words-stand rs T (suc i) (λ j. ap (T .at) (next j) ∙ h (suc j) ∙ recordAt-suc _ _ _ _ (recordsWords rs) j))
+    let p = parts (ap (T .at) here ∙ h 0) in
+    (record { kind = p .kind; value = p .value; first = p .first; next = p .next }, words-stand rs T (suc i) (λ j. ap (T .at) (next j) ∙ h (suc j) ∙ recordAt-suc _ _ _ _ (recordsWords rs) j))
 
 -- Words that hold these records, and no more, are their words.
 pub stand-words : (rs : List Record) (ws : List ℕ) (i : ℕ) (T : Table) → length ws ≡ form1 .recordWords * length rs
@@ -41,7 +42,8 @@ stand-words (r ∷ rs) (a ∷ b ∷ []) i T e h s = absurd (omega arith)
 stand-words (r ∷ rs) (a ∷ b ∷ c ∷ []) i T e h s = absurd (omega arith)
 stand-words (r ∷ rs) (a ∷ b ∷ c ∷ d ∷ ws) i T e h s =
     let here : i ≡ i + 0 = omega arith in
-    let own : entry a b c d ≡ r = sym (ap (T .at) here ∙ h 0) ∙ s .0 in
-    ap₂ (λ q v. q .kind ∷ q .value ∷ q .first ∷ q .next ∷ v) own
-    (stand-words rs ws (suc i) T (omega arith)
-    (λ j. let next : suc i + j ≡ i + suc j = omega arith in ap (T .at) next ∙ h (suc j) ∙ recordAt-suc a b c d ws j) (s .1))
+    let p = parts (sym (ap (T .at) here ∙ h 0)) in
+    let next : (j : ℕ) → suc i + j ≡ i + suc j = λ j. omega arith in
+    let rest = stand-words rs ws (suc i) T (omega arith) (λ j. ap (T .at) (next j) ∙ h (suc j) ∙ recordAt-suc a b c d ws j) (s .1) in
+    let own = s .0 in
+    cc

@@ -57,7 +57,7 @@ module _ (t : Term) where
         (indices-bounded t accepted fits) standing i l (omega arith)
 
     written-valued : Valued (view (inForm1 (tableOf t)))
-    written-valued = record { known-kind = λ i l u. each-fits i l u .known-kind; value-fits = λ i l u. each-fits i l u .value-fits }
+    written-valued = record { value-fits = λ i l u. each-fits i l u .value-fits; declared-fits = λ i l u. refl }
 
     written-fitted : Fitted (view (inForm1 (tableOf t)))
     written-fitted =

@@ -3,6 +3,7 @@
 use reference::child::{self, Ending, Feed};
 use reference::generate::{inputs, scripts};
 use reference::tally::{Halves, Tally};
+use reference::term::WORKSPACE;
 use reference::{replay, verdict, LARGE_STACK};
 use std::path::{Path, PathBuf};
 use std::process::{self, ExitCode};
@@ -13,12 +14,15 @@ use std::{env, fs, thread};
 const USAGE: &str = "\
 usage: compare VERDICT REPLAY [CASES [SEED]] [--report] [--keep DIR] [--wait SECONDS]
   VERDICT, REPLAY  paths of the built programs; - leaves one out
-  CASES            number of inputs, 6000 if not given
+  CASES            number of inputs, 6000 if not given; from 6000 on there is besides one for
+                   each program and each length that workspaces may have
   SEED             start of the random numbers, 1 if not given
   --report         print how often each kind of answer was seen
   --keep DIR       where difference.bin is written, the current directory if not given
   --wait SECONDS   time that a program has for one input, 20 if not given";
 
+/// The cases of a run that also goes through all lengths of workspaces.
+const WHOLE: usize = 6_000;
 /// Programs that run at the same time.
 const WORKERS: usize = 2;
 /// The longest part of an answer that a message shows.
@@ -60,7 +64,7 @@ impl Run {
         let mut run = Run {
             verdict: None,
             replay: None,
-            cases: 6_000,
+            cases: WHOLE,
             seed: 1,
             report: false,
             keep: PathBuf::new(),
@@ -167,7 +171,7 @@ impl Run {
         let file = env::temp_dir().join(format!("compare-{}-{worker}.bin", process::id()));
         while !stopped.load(Ordering::Relaxed) {
             let case = next.fetch_add(1, Ordering::Relaxed);
-            if case >= self.cases {
+            if case >= self.cases + self.lengths() {
                 break;
             }
             if let Err(problem) = self.one_case(case, &file, &mut tally) {
@@ -178,8 +182,26 @@ impl Run {
         (tally, None)
     }
 
+    /// The cases behind the random ones, each with a length of its own.
+    fn lengths(&self) -> usize {
+        match self.cases < WHOLE {
+            true => 0,
+            false => WORKSPACE.count() * self.programs().len(),
+        }
+    }
+
+    fn programs(&self) -> Vec<&Path> {
+        let programs = [&self.verdict, &self.replay];
+        programs
+            .into_iter()
+            .flatten()
+            .map(PathBuf::as_path)
+            .collect()
+    }
+
     fn one_case(&self, case: usize, file: &Path, tally: &mut Tally) -> Result<(), Problem> {
         let (program, input, expected) = match (&self.verdict, &self.replay) {
+            _ if case >= self.cases => self.length_case(case - self.cases),
             // Two inputs of the verdict program, then one script.
             (Some(verdict), Some(_)) if case % 3 < 2 => {
                 self.verdict_case(verdict, 2 * (case / 3) + case % 3, tally)
@@ -201,6 +223,21 @@ impl Run {
             Err(error) => format!("(not run: {error})").into_bytes(),
         };
         Err(self.difference(case, program, input, &expected, &got))
+    }
+
+    /// One program, by turns, in workspaces of one length.
+    fn length_case(&self, index: usize) -> (&Path, Vec<u8>, String) {
+        let programs = self.programs();
+        let program = programs[index % programs.len()];
+        let capacity = WORKSPACE.start() + index / programs.len();
+        if self.verdict.as_deref() == Some(program) {
+            let input = inputs::in_length(self.seed, capacity);
+            let expected = verdict::outcome(&input).to_string();
+            return (program, input, expected);
+        }
+        let input = scripts::in_length(self.seed, capacity);
+        let expected = replay::run_watched(&input, |_, _| ()).text;
+        (program, input, expected)
     }
 
     fn verdict_case<'a>(

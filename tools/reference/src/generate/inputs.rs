@@ -2,7 +2,9 @@
 
 use crate::default::{self, Fault, Role};
 use crate::generate::damage::{faulty_default, faulty_numeral, faulty_table, FAULTS};
-use crate::generate::pairs::{default_trial, long_run, numeral_trial, stuck_trial, trial, Trial};
+use crate::generate::pairs::{
+    default_trial, long_run, numeral_trial, stuck_trial, trial, trial_in, Trial,
+};
 use crate::generate::tables::{term_table, Order};
 use crate::input::bytes;
 use crate::part::{self, Part};
@@ -83,6 +85,13 @@ const LONG_RUNS: usize = 120;
 /// The input of one case of a run.
 pub fn input(seed: u64, case: u64) -> Vec<u8> {
     aimed(&mut Random::new(seed, case), aim(case))
+}
+
+/// An input that is not refused, with workspaces of this length.
+pub fn in_length(seed: u64, capacity: usize) -> Vec<u8> {
+    let mut random = Random::new(!seed, capacity as u64);
+    let trial = trial_in(&mut random, capacity);
+    encoded(&request(&mut random, &trial))
 }
 
 /// An input whose outcome is the aim.

@@ -27,6 +27,16 @@ pub fn trial(random: &mut Random, wish: Option<Verdict>) -> Trial {
     }
 }
 
+/// A trial in workspaces of this length.
+pub fn trial_in(random: &mut Random, capacity: usize) -> Trial {
+    loop {
+        let trial = trial(random, None);
+        if trial.left.size().max(trial.right.size()) <= capacity {
+            return Trial { capacity, ..trial };
+        }
+    }
+}
+
 /// A trial that gives Different, most often behind equal words.
 pub fn near_trial(random: &mut Random) -> Trial {
     trial_of(random, Some(Verdict::Different), near::pair)

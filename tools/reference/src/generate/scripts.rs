@@ -9,7 +9,7 @@ use crate::generate::damage::{
 };
 use crate::generate::inputs::{wrong_budget, wrong_capacity};
 use crate::generate::pairs::{
-    default_trial, near_trial, numeral_trial, plain_trial, stuck_trial, trial, Trial,
+    default_trial, near_trial, numeral_trial, plain_trial, stuck_trial, trial, trial_in, Trial,
 };
 use crate::generate::tables::{term_table, Order};
 use crate::generate::terms::{replace, subterms, term, Style};
@@ -51,6 +51,39 @@ pub fn script(seed: u64, case: u64) -> Vec<u8> {
         3 => long_script(&mut random, composer),
         _ => bytes(&composer.words),
     }
+}
+
+/// A script in workspaces of this length with a call of each kind, none refused
+/// but exports of terms that have no encoding.
+pub fn in_length(seed: u64, capacity: usize) -> Vec<u8> {
+    let mut random = Random::new(!seed, capacity as u64);
+    let trial = trial_in(&mut random, capacity);
+    let mut composer = Composer::new(capacity as u32, capacity as u32);
+    composer.load_trial(&mut random, &trial);
+    composer.press(trial.budget);
+    composer.show();
+    let side = any_side(&mut random);
+    let length = composer.length(side);
+    let table = RECORD * (length as usize + 1);
+    composer.add(Operation::Write {
+        side,
+        length,
+        table,
+    });
+    composer.add(Operation::Export {
+        side,
+        length,
+        bytes: LONGEST_TABLE,
+    });
+    let line = vec![b'0'];
+    composer.add(Operation::Line { side, line });
+    composer.add(Operation::Import {
+        side,
+        count: 4,
+        bytes: vec![0x20],
+    });
+    composer.print();
+    bytes(&composer.words)
 }
 
 /// A budget that is soon spent on any terms.

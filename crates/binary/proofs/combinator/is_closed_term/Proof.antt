@@ -1,6 +1,6 @@
 -- `is_closed_term` meets its contract. The invariant is `Walking`.
 use Prim.Native.Nat.{_-_}
-use mathlib.Core.Path.{_≡_, sym, _∙_}
+use mathlib.Core.Path.{sym, _∙_}
 use native.Mathlib.Omega.{arith}
 use lib.ListN.{length}
 use Rattle.words.proofs.RoomLaws.{room-of-length}

@@ -9,7 +9,7 @@ use borrow.Author.Needs.{needs}
 use borrow.Author.Tests.{not-true, not-false}
 use Rattle.calculus.specs.Workspace.{sized}
 use Rattle.terms.specs.IsTerm.{isTerm}
-use Rattle.press.specs.Showing.{Part, partOf}
+use Rattle.claim.specs.Showing.{Part, partOf}
 use Rattle.press.proofs.ShowingLaws.{shows-nothing, shows-no-left, shows-no-right, left-fits, right-fits, shows-right-form, shows-left-form}
 use Rattle.press.proofs.showing.show.Statement.{statement}
 use Rattle.press.proofs.showing.show.Tie as tie

@@ -1,4 +1,5 @@
 -- `record_fits` meets its contract: the chain that it tests is that of the record's children.
+use mathlib.Core.Path.{ap}
 use borrow.Author.Needs.{needs}
 use borrow.Author.Tests.{not-true, not-false}
 use Rattle.records.specs.Types.{stored}
@@ -20,9 +21,9 @@ chain-length-requires c κs = here c
 returns : tie.Need-returns
 returns c =
     let agreed = c .before in
-    let number = agreed .before .before in
+    let number = agreed .before in
     let r = parts (number .before .at .ensures) in
-    rw (← r .first, ← number .chain-length .ensures, ← agreed .before .declared .ensures, ← agreed .agrees .ensures, not-true (agreed .agrees .result) (c .if1 .taken))
+    rw (← r .first, ← number .chain-length .ensures, ← ap (λ x. x .declared) (number .before .at .ensures), ← agreed .agrees .ensures, not-true (agreed .agrees .result) (c .if1 .taken))
 
 returns-2 : tie.Need-returns-2
 unfolding childrenFit
@@ -30,12 +31,12 @@ returns-2 c =
     let fits = c .before .number-fits in
     let passed = c .before .before in
     let agreed = passed .before in
-    let number = agreed .before .before in
+    let number = agreed .before in
     let r = parts (number .before .at .ensures) in
-    rw (← r .first, ← number .chain-length .ensures, ← agreed .before .declared .ensures, ← agreed .agrees .ensures, not-false (agreed .agrees .result) (passed .if1 .left), ← r .kind, ← fits .ensures, not-true (fits .result) (c .if2 .taken))
+    rw (← r .first, ← number .chain-length .ensures, ← ap (λ x. x .declared) (number .before .at .ensures), ← agreed .agrees .ensures, not-false (agreed .agrees .result) (passed .if1 .left), ← r .kind, ← fits .ensures, not-true (fits .result) (c .if2 .taken))
 
 sorts-fit-requires : tie.Need-sorts-fit-requires
-sorts-fit-requires c κs = here (c .before .before .before .before .before .before)
+sorts-fit-requires c κs = here (c .before .before .before .before .before)
 
 returns-3 : tie.Need-returns-3
 unfolding childrenFit
@@ -43,9 +44,9 @@ returns-3 c =
     let fits = c .before .before .number-fits in
     let passed = c .before .before .before in
     let agreed = passed .before in
-    let number = agreed .before .before in
+    let number = agreed .before in
     let r = parts (number .before .at .ensures) in
-    rw (← r .first, ← number .chain-length .ensures, ← agreed .before .declared .ensures, ← agreed .agrees .ensures, not-false (agreed .agrees .result) (passed .if1 .left), ← r .kind, ← fits .ensures, not-false (fits .result) (c .before .if2 .left))
+    rw (← r .first, ← number .chain-length .ensures, ← ap (λ x. x .declared) (number .before .at .ensures), ← agreed .agrees .ensures, not-false (agreed .agrees .result) (passed .if1 .left), ← r .kind, ← fits .ensures, not-false (fits .result) (c .before .if2 .left))
     (c .sorts-fit .ensures)
 
 pub record-fits-spec : {M : Type 1} → statement M
@@ -54,7 +55,6 @@ record-fits-spec =
     (tie.spec
     at-requires
     chain-length-requires
-    (λ c κs. search needs)
     (λ c κs. search needs)
     returns
     (λ c κs. search needs)

@@ -1,11 +1,12 @@
 -- `wrong_length` meets its contract: each return knows the tests before it.
-use mathlib.Core.Path.{ap, _∙_}
+use Prim.Native.Nat.{_+_, _≤_}
+use native.Mathlib.Nat.{mul-le-mul-left}
 use native.Mathlib.Omega.{arith}
 use borrow.Author.Needs.{needs}
 use borrow.Author.Tests.{lt-ltb, le-ltb, le-leb, lt-leb}
+use Rattle.calculus.specs.Words.{workspaceMost}
 use Rattle.records.specs.Header.{wrongLength}
 use Rattle.records.specs.Types.{formOf}
-use Rattle.records.proofs.RecordLaws.{only}
 use Rattle.records.proofs.header.wrong_length.Statement.{statement}
 use Rattle.records.proofs.header.wrong_length.Tie as tie
 
@@ -32,8 +33,8 @@ returns-3 c =
 mul-result : tie.Need-mul-result
 mul-result c =
     let w = c .before .before .before .before in
-    let few = w .words .ensures ∙ ap (λ f. formOf f .recordWords) (only (w .before .before .args .form)) in
-    rw few (search needs)
+    let most : c .before .before .count .result + 1 ≤ workspaceMost + 1 = omega arith in
+    omega (arith, mul-le-mul-left (w .words .result) most, formOf (w .before .before .args .form) .four, w .words .ensures)
 
 returns-4 : tie.Need-returns-4
 unfolding wrongLength

@@ -7,7 +7,7 @@ use lib.ListN.{length, getD}
 use Rattle.words.proofs.RoomLaws.{room-of-length}
 use Rattle.walk.specs.Scopes.{Enters}
 use Rattle.walk.proofs.MoveLaws.{moves-up}
-use Rattle.substitution.proofs.Walking.{entered-word, walking-within, walking-depth, walking-enters}
+use Rattle.substitution.proofs.Walking.{walking-within, walking-depth, walking-enters, walking-entered}
 use Rattle.substitution.proofs.MeasureLaws.{Counting, counting-start, counting-next, counting-past, counting-done}
 use Rattle.substitution.proofs.measure.measure.Statement.{statement}
 use Rattle.substitution.proofs.measure.measure.Tie as tie
@@ -49,7 +49,7 @@ visit-requires c κs =
     }
 
 -- An argument stands for the word.
-few-arguments : (c : tie.Then2 Inv-loop μ-loop) → c .before .visit .result .place < 15
+few-arguments : (c : tie.Then2 Inv-loop μ-loop) → c .before .visit .result .place < 16
 few-arguments c = omega (arith, c .if2 .taken, c .before .before .before .before .before .loop .inv .few)
 
 mul-occurs : tie.Need-mul-occurs Inv-loop μ-loop
@@ -88,7 +88,7 @@ loop-again : tie.Need-loop-again Inv-loop μ-loop
 loop-again c =
     let u = c .before .before .before .before .before in
     let v = u .visit .ensures in
-    counting-next (turn u .before .before .loop .inv) (turn u .if1 .taken) (v .place-is) (c .before .before .before .before .if2 .taken) (entered-word (word (turn u)) (v .items-are) (v .binders-are) (c .before .before .enter .ensures)) (c .before .before .enter .kept .1 .1 .1 .0)
+    counting-next (turn u .before .before .loop .inv) (turn u .if1 .taken) (v .place-is) (c .before .before .before .before .if2 .taken) (walking-entered (turn u .before .before .loop .inv .walking) (turn u .if1 .taken) (u .before .shared-slice-known2 .given (turn u .before .before .loop .i) .fits) (v .items-are) (v .binders-are) (c .before .before .enter .ensures))
 
 -- None does.
 enter-requires-2 : tie.Need-enter-requires-2 Inv-loop μ-loop
@@ -104,7 +104,7 @@ loop-again-2 : tie.Need-loop-again-2 Inv-loop μ-loop
 loop-again-2 c =
     let u = c .before .before .before .before .before in
     let v = u .visit .ensures in
-    counting-past (turn u .before .before .loop .inv) (turn u .if1 .taken) (v .place-is) (c .before .before .before .before .if2 .left) (entered-word (word (turn u)) (v .items-are) (v .binders-are) (c .before .before .enter2 .ensures)) (c .before .before .enter2 .kept .1 .1 .1 .0)
+    counting-past (turn u .before .before .loop .inv) (turn u .if1 .taken) (v .place-is) (c .before .before .before .before .if2 .left) (walking-entered (turn u .before .before .loop .inv .walking) (turn u .if1 .taken) (u .before .shared-slice-known2 .given (turn u .before .before .loop .i) .fits) (v .items-are) (v .binders-are) (c .before .before .enter2 .ensures))
 
 same-length : tie.Need-same-length Inv-loop μ-loop
 same-length c = c .before .before .loop .inv .walking .same-length

@@ -1,6 +1,7 @@
 -- `substituted_length` meets its contract, from how often each argument occurs.
 use Prim.Native.Nat.{_-_}
 use native.Mathlib.Omega.{arith}
+use Rattle.substitution.proofs.StartLaws.{positions-offsets}
 use Rattle.substitution.proofs.CountLaws.{Adding, adding-start, adding-next, adding-done, taken, rises, product}
 use Rattle.substitution.proofs.measure.substituted_length.Statement.{statement}
 use Rattle.substitution.proofs.measure.substituted_length.Tie as tie
@@ -18,7 +19,7 @@ sub-total : tie.Need-sub-total Inv-loop μ-loop
 sub-total c = omega (arith, c .before .before .before .before .pre .1 .ends)
 
 loop-holds : tie.Need-loop-holds Inv-loop μ-loop
-loop-holds c = adding-start (c .before .before .before .before .pre .0 .0) (record { offsets = c .before .starts .ensures (c .before .before .before .before .pre .0 .1) }) (c .before .before .before .before .pre .1)
+loop-holds c = adding-start (c .before .before .before .before .pre .0 .0) (positions-offsets (c .before .starts .ensures) (c .before .before .before .before .pre .0 .1)) (c .before .before .before .before .pre .1)
 
 mul-times : tie.Need-mul-times Inv-loop μ-loop
 mul-times c = omega (arith, c .before .loop .inv .needs .few)

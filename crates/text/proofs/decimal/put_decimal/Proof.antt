@@ -1,4 +1,5 @@
 -- `put_decimal` meets its contract: what it puts are the digits kept.
+use mathlib.Core.Path.{refl}
 use borrow.Author.Needs.{needs}
 use Rattle.text.proofs.DecimalLaws.{kept-part}
 use Rattle.text.proofs.decimal.put_decimal.Statement.{statement}
@@ -7,12 +8,12 @@ use Rattle.text.proofs.decimal.put_decimal.Tie as tie
 put-bytes-requires : tie.Need-put-bytes-requires
 put-bytes-requires c κs =
     let k = c .before .before .before .before in
-    rw (kept-part (k .keep-digits .ensures) (k .keep-digits .kept .1 .0)) (k .before .before .before .pre)
+    rw (kept-part (k .before .before .before .args .n) (k .keep-digits .ensures) refl) (k .before .before .before .pre)
 
 returns : tie.Need-returns
 returns c =
-    let k = c .before .before .before .before .before .before .before .keep-digits in
-    rw (kept-part (k .ensures) (k .kept .1 .0)) at (c .before .before .put-bytes .ensures)
+    let k = c .before .before .before .before .before .before .before in
+    rw (kept-part (k .before .before .before .args .n) (k .keep-digits .ensures) refl) at (c .before .before .put-bytes .ensures)
 
 pub put-decimal-spec : {M : Type 1} → statement M
 put-decimal-spec =

@@ -19,7 +19,7 @@ use Rattle.transcription.proofs.reading.read_term.Reads as read-term
 use Rattle.transcription.proofs.reading.read_term.Kinds as read-term-kinds
 use Rattle.transcription.proofs.reading.+read_chain+read_term.Lts-read_term as read-term-lts
 use Rattle.records.proofs.Record.at.Reads as at-reads
-use Rattle.transcription.proofs.reading.word.Reads as word-reads
+use Rattle.records.proofs.payload.word.Reads as word-reads
 use Rattle.records.proofs.children.chain_length.Reads as chain-length-reads
 use Rattle.transcription.proofs.reading.+read_chain+read_term.{statement}
 use Rattle.transcription.proofs.reading.+read_chain+read_term.Tie.{close}

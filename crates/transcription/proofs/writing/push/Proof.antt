@@ -1,14 +1,14 @@
 -- `push` meets its contract.
 use borrow.Author.Needs.{needs}
-use Rattle.transcription.proofs.WritingLaws.{pushed-none, pushed-some}
+use Rattle.transcription.proofs.WritingLaws.{pushed-some}
 use Rattle.transcription.proofs.writing.push.Statement.{statement}
 use Rattle.transcription.proofs.writing.push.Tie as tie
 
 returns : tie.Need-returns
-returns c = pushed-none _ _ _ (c .if1 .taken)
+returns c = rw (c .if1 .taken)
 
 returns-2 : tie.Need-returns-2
-returns-2 c = pushed-some _ _ _ (c .if1 .left) (c .before .pre .0) (c .before .pre .1)
+returns-2 c = pushed-some _ _ _ (c .if1 .left)
 
 pub push-spec : {M : Type 1} → statement M
 push-spec =

@@ -22,7 +22,7 @@ loop-holds : tie.Need-loop-holds Inv-loop μ-loop
 loop-holds c =
     let pushed = c .before .push in
     let zeros : List ℕ = replicate (workspaceMost + 1) 0 in
-    putting-start _ _ zeros _ _ (length-replicate {A = ℕ} (workspaceMost + 1) 0) (pushed .kept .0) (pushed .ensures)
+    putting-start _ _ zeros _ _ (length-replicate {A = ℕ} (workspaceMost + 1) 0) (pushed .ensures)
 
 returns : tie.Need-returns Inv-loop μ-loop
 returns c = putting-stops _ _ _ _ _ _ (c .if1 .taken) (c .before .before .loop .inv)
@@ -33,6 +33,9 @@ inside c = omega (arith, c .before .before .loop .inv .levels-most, c .if1 .left
 
 item : (c : tie.Else1 Inv-loop μ-loop) → 1 ≤ getD (c .before .before .loop .levels) (c .before .before .loop .top) 0
 item c = some-item _ _ _ _ _ _ (c .before .loop-test .taken) (inside c) (c .before .before .loop .inv)
+
+lowest : (c : tie.Else1 Inv-loop μ-loop) → 1 ≤ c .before .before .loop .top
+lowest c = omega (arith, c .before .before .loop .inv .levels-left, c .before .before .before .before .before .before .before .before .pre .0)
 
 entry-requires : tie.Need-entry-requires Inv-loop μ-loop
 entry-requires c κs = (c .before .loop-test .taken, c .before .before .before .before .before .before .before .before .pre .0)
@@ -52,14 +55,14 @@ put-requires c κs =
 slice-aggregate-descend : tie.Need-slice-aggregate-descend Inv-loop μ-loop
 slice-aggregate-descend c = sym (c .before .before .before .before .before .before .before .before .loop .inv .levels-length)
 
-shared-slice-read-t22 : tie.Need-shared-slice-read-t22 Inv-loop μ-loop
-shared-slice-read-t22 c = c .before .before .before .before .before .before .before .before .loop-test .taken
+shared-slice-read-t23 : tie.Need-shared-slice-read-t23 Inv-loop μ-loop
+shared-slice-read-t23 c = c .before .before .before .before .before .before .before .before .loop-test .taken
 
 descend-requires : tie.Need-descend-requires Inv-loop μ-loop
 descend-requires c κs =
     let turn = c .before .before .before .before .before .before .before .before in
     let p = turn .before .before .loop .inv in (
-      omega (arith, p .levels-left, turn .before .before .before .before .before .before .before .before .pre .0),
+      lowest turn,
       omega (arith, p .levels-length, inside turn),
       item turn,
     )
@@ -71,7 +74,7 @@ loop-again c =
     let turn = c .before .before .before .before .before .before .before .before .before .before in
     let put = c .before .before .before .before .before .before .before .put in
     let read = c .before .before .before .before .before .before .before .before .before .entry in
-    putting-more _ _ _ _ _ _ (turn .before .loop-test .taken) (inside turn) (turn .before .before .loop .inv) _ _ _ _ (read .ensures) (put .ensures) (down .kept .0)
+    putting-more _ _ _ _ _ _ (turn .before .loop-test .taken) (inside turn) (turn .before .before .loop .inv) _ _ _ _ (read .ensures) (put .ensures) (lowest turn)
     (rw (← w) (down .ensures))
 
 returns-2 : tie.Need-returns-2 Inv-loop μ-loop
@@ -96,7 +99,7 @@ put-records-spec =
     put-requires
     slice-aggregate-descend
     (λ c. omega arith)
-    shared-slice-read-t22
+    shared-slice-read-t23
     (λ c κs. search needs)
     descend-requires
     (λ c. omega arith)

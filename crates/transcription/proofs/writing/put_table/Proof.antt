@@ -12,8 +12,8 @@ returns : tie.Need-returns
 returns c =
     let ws = c .before .before .before .before .before .before .before .before .before .before .args .ws .now in
     c .before .before .put-records .ensures
-    ∙ ap (λ table. sets table (form1 .recordWords) (recordsWords (entries 1 (1 ∷ []) ws))) (c .before .before .before .before .before .before .put .ensures)
+    ∙ ap (λ table. sets table (form1 .recordWords) (recordsWords (entries 1 (1 ∷ []) ws))) (c .before .before .before .before .before .before .put-header .ensures)
 
 pub put-table-spec : {M : Type 1} → statement M
 put-table-spec =
-    tie.close (tie.spec (λ c. search needs) (λ c κs. search needs) (λ c κs. search needs) (λ c. search needs) returns)
+    tie.close (tie.spec (λ c κs. search needs) (λ c κs. search needs) (λ c. search needs) returns)

@@ -2,8 +2,10 @@
 use Prim.Native.Nat.{_+_, _-_}
 use mathlib.Core.Path.{_≡_}
 use native.Mathlib.Omega.{arith}
-use Rattle.walk.proofs.EnterLaws.{entered-plain, entered-back, entered-kept, entered-last}
 use borrow.Author.Needs.{needs}
+use borrow.Author.Tests.{lt-ltb, le-ltb, eq-eqb, ne-eqb}
+use lib.ListN.{length}
+use Rattle.walk.specs.Scopes.{entered}
 use Rattle.walk.proofs.scope.enter.Statement.{statement}
 use Rattle.walk.proofs.scope.enter.Tie as tie
 
@@ -35,13 +37,15 @@ same-length : tie.Need-same-length
 same-length c = search needs
 
 returns : tie.Need-returns
-returns c = entered-kept (c .before .before .pre) (c .before .if1 .taken) (c .if2 .taken)
+unfolding entered
+returns c = let a = c .before .before .args in rw (lt-ltb 0 (a .binders) (c .before .if1 .taken), lt-ltb 0 (a .at .pending - 1) (omega arith))
 
 add-t19 : tie.Need-add-t19
 add-t19 c = search needs
 
 returns-2 : tie.Need-returns-2
-returns-2 c = entered-last (c .before .before .pre) (c .before .if1 .taken) (c .if2 .left)
+unfolding entered
+returns-2 c = let a = c .before .before .args in rw (lt-ltb 0 (a .binders) (c .before .if1 .taken), le-ltb 0 (a .at .pending - 1) (omega arith))
 
 sub-left : tie.Need-sub-left
 sub-left c = search needs
@@ -50,7 +54,8 @@ add-left : tie.Need-add-left
 add-left c = search needs
 
 returns-3 : tie.Need-returns-3
-returns-3 c = entered-plain (c .before .before .pre) (omega (arith, c .before .if1 .left)) (λ z. omega (arith, z, c .if3 .taken))
+unfolding entered
+returns-3 c = let a = c .before .before .args in rw (le-ltb 0 (a .binders) (c .before .if1 .left), ne-eqb (a .items + (a .at .pending - 1)) 0 (λ z. omega (arith, z, c .if3 .taken)))
 
 mul-scope : tie.Need-mul-scope
 mul-scope c = search needs
@@ -65,13 +70,17 @@ add-t25 : tie.Need-add-t25
 add-t25 c = search needs
 
 returns-4 : tie.Need-returns-4
-returns-4 c = entered-back (c .before .before .before .before .pre) (omega (arith, c .before .before .before .if1 .left)) (omega (arith, c .before .before .if3 .left)) (c .before .if4 .taken)
+unfolding entered
+returns-4 c =
+    let a = c .before .before .before .before .args in
+    rw (le-ltb 0 (a .binders) (c .before .before .before .if1 .left), eq-eqb (a .items + (a .at .pending - 1)) 0 (omega (arith, c .before .before .if3 .left)), lt-ltb (a .at .top) (length (a .room .now)) (c .before .if4 .taken))
 
 returns-5 : tie.Need-returns-5
+unfolding entered
 returns-5 c =
-    let s = c .before .before .before in
-    let none : s .args .items + (s .args .at .pending - 1) ≡ 0 = omega (arith, c .before .if3 .left) in
-    rw none at (entered-plain (s .pre) (omega (arith, c .before .before .if1 .left)) (λ z. omega (arith, c .if4 .left, s .pre .within)))
+    let a = c .before .before .before .args in
+    let none : a .items + (a .at .pending - 1) ≡ 0 = omega (arith, c .before .if3 .left) in
+    rw (le-ltb 0 (a .binders) (c .before .before .if1 .left), none, le-ltb (a .at .top) (length (a .room .now)) (c .if4 .left))
 
 pub enter-spec : {M : Type 1} → statement M
 enter-spec =

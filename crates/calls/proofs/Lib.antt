@@ -1,3 +1,0 @@
-pub mod ShowLaws
-pub mod CallLaws
-pub mod Examples

@@ -1,3 +1,0 @@
--- What the operations of a script do and tell.
-pub mod Calls
-pub mod Examples

@@ -1,0 +1,5 @@
+-- Laws about what C sees.
+pub mod CountLaws
+pub mod PressLaws
+pub mod ShowLaws
+pub mod Examples

@@ -1,0 +1,4 @@
+-- What C sees of the unit's calls.
+pub mod Numbers
+pub mod Calls
+pub mod Examples

@@ -1,2 +1,0 @@
--- A script word by word.
-pub mod Steps

@@ -1,4 +1,0 @@
--- The lines that replaying calls prints.
-pub mod Text
-pub mod Types
-pub mod Examples

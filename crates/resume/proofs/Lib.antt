@@ -1,2 +1,0 @@
-pub mod ResumeLaws
-pub mod AgreeLaws

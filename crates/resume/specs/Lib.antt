@@ -1,2 +1,0 @@
--- What the contracts of taking up again cite beside the judgement.
-pub mod Resume

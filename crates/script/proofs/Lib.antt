@@ -1,2 +1,0 @@
-pub mod ScriptLaws
-pub mod Examples

@@ -1,3 +1,0 @@
--- What a script asks.
-pub mod Script
-pub mod Examples

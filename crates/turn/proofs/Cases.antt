@@ -1,0 +1,6 @@
+-- What the code's enums stand for, by computation.
+use mathlib.Core.Path.{refl}
+use Rattle.turn.specs.Types.{Verdict-cases}
+
+pub verdict-cases : Verdict-cases
+verdict-cases = record { verdicts = refl; early = refl; comparisons = refl; rounds = refl }
