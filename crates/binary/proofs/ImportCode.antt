@@ -7,16 +7,14 @@ use mathlib.Core.Option.{some, none, bind, Option·none-ne-some}
 use native.Mathlib.Omega.{arith}
 use borrow.Author.Tests.{le-ltb, ltb-false, not-true}
 use lib.Dec.{ltb}
-use lib.ListN.{length, take, drop, replicate}
+use lib.ListN.{length, take, drop}
 use lib.Seq.{sets, slice, sets-eq, take-append-seam}
 use Rattle.calculus.specs.Term.{Term}
 use Rattle.calculus.specs.Words.{words, size, workspaceMost}
 use Rattle.calculus.specs.Read.{anyTerm}
 use Rattle.calculus.specs.Workspace.{wrongWorkspace}
 use Rattle.calculus.specs.Refusal.{TooLong, WrongBits, NoCombinator}
-use Rattle.calculus.specs.Bringing.{refuse, returned, Brought}
-use Rattle.words.specs.Placed.{Placed}
-use Rattle.words.proofs.BringingLaws.{brought}
+use Rattle.calculus.specs.Bringing.{refuse, hold}
 use Rattle.encoding.specs.Bits.{bits, Pure, Combinator}
 use Rattle.encoding.specs.Bytes.{byteBits, unpacked}
 use Rattle.encoding.specs.Decoding.{wordsIn, decode}
@@ -103,11 +101,8 @@ module _ (bytes : List ℕ) (count : ℕ) (workspace : List ℕ) (w : wrongWorks
             sym (importing-exact bytes count workspace .no-combinator w term encodes (omega (arith, size-is))
             (λ k. false≢true (sym e ∙ tested ∙ stands-complete 0 term k)))
 
-        pub import-leaves : areCombinators (0 ∷ []) (take n after) ≡ true → (placed last : List ℕ) (end : ℕ) → Placed workspace 0 (slice 0 n after) placed end
-            → last ≡ take end placed ++ replicate (length placed - end) 0
-            → _≡_ {A = Brought} (record { answer = returned end; workspace = last }) (import bytes count workspace)
-        import-leaves e placed last end p q =
+        pub import-leaves : areCombinators (0 ∷ []) (take n after) ≡ true → hold workspace (slice 0 n after) ≡ import bytes count workspace
+        import-leaves e =
             let k : Combinator term = stands-sound 0 term (sym tested ∙ e) in
-            let are : slice 0 n after ≡ words term = held ∙ ap allClipped (sym words-are) ∙ combinator-unclipped term 0 k (omega (arith, size-is)) in
-            brought term workspace (omega (arith, size-is)) placed last end (rw are at p) q
+            ap (hold workspace) (held ∙ ap allClipped (sym words-are) ∙ combinator-unclipped term 0 k (omega (arith, size-is)))
             ∙ sym (importing-exact bytes count workspace .leaves w term encodes (omega (arith, size-is)) k .1)

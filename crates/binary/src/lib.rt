@@ -14,9 +14,8 @@ use scan::scan;
 use terms::is_term;
 use words::Word;
 use words::answer::Answer;
-use words::clear;
 use words::refusal::Refusal;
-use words::slices::copy;
+use words::workspace::hold;
 use words::workspace::wrong_workspace;
 ghost use mathlib.Core.Path.{_≡_};
 ghost use Rattle.words.specs.Types.{broughtOf};
@@ -45,9 +44,7 @@ pub fn import(bytes: &[u8], bits: usize, workspace: &mut [u32]) -> Answer
             if !is_combinator(&words[..count]) {
                 return Answer::Refused(Refusal::NoCombinator);
             }
-            let end = copy(&words, 0, count, workspace, 0);
-            clear(workspace, end);
-            Answer::Returned(end)
+            hold(&words, 0, count, workspace)
         }
     }
 }

@@ -60,11 +60,15 @@ freeAbove (some t) = not (freeFits t)
 abbrev pub refuse : (workspace : List ℕ) → Refusal → Brought
 refuse workspace why = record { answer = refused why; workspace = workspace }
 
--- The words of the term, and zeros after them. Where no check is met there is a term, so the first clause never arises: each call states it
--- (`Loading-exact`, `Reading-exact`, `Importing-exact`).
+-- Words at the start, zeros after them, and how many words they are.
+abbrev pub hold : (workspace : List ℕ) → List ℕ → Brought
+hold workspace ws = record { answer = returned (length ws); workspace = padded (length workspace) ws }
+
+-- The words of the term. Where no check is met there is a term, so the first clause never arises: each call states it (`Loading-exact`,
+-- `Reading-exact`, `Importing-exact`).
 abbrev pub place : (workspace : List ℕ) → Option Term → Brought
 place workspace none = refuse workspace NoTerm
-place workspace (some t) = record { answer = returned (size t); workspace = padded (length workspace) (words t) }
+place workspace (some t) = hold workspace (words t)
 
 abbrev pub bringUnless : Option Refusal → Option Term → (workspace : List ℕ) → Brought
 bringUnless (some why) given workspace = refuse workspace why

@@ -1,21 +1,19 @@
 -- Reading where the parser finds words, and where it finds none.
-use Prim.Native.Nat.{ℕ, _+_, _-_, _≤_, _<_}
+use Prim.Native.Nat.{ℕ, _-_, _≤_, _<_}
 use mathlib.Core.Path.{_≡_, refl, sym, ap, ap₂, _∙_}
 use mathlib.Core.Bool.{true, false, false≢true}
-use mathlib.Core.List.{List, [], _∷_, _++_, append-nil}
+use mathlib.Core.List.{List, [], _∷_, append-nil}
 use mathlib.Core.Logic.{inl, inr}
 use mathlib.Core.Option.{some, none, bind, Option·none-ne-some}
 use native.Mathlib.Omega.{arith}
-use lib.ListN.{length, take, drop, replicate, length-drop}
+use lib.ListN.{length, drop, length-drop}
 use Rattle.calculus.specs.Term.{Term}
 use Rattle.calculus.specs.Words.{words, size}
 use Rattle.calculus.specs.Accepted.{Scoped}
 use Rattle.calculus.specs.Workspace.{wrongWorkspace}
 use Rattle.calculus.specs.Refusal.{WrongFree, TooLong, WrongLine}
-use Rattle.calculus.specs.Bringing.{freeFits, refuse, Brought, returned}
+use Rattle.calculus.specs.Bringing.{freeFits, refuse, hold}
 use Rattle.calculus.proofs.WordLaws.{size-positive}
-use Rattle.words.specs.Placed.{Placed}
-use Rattle.words.proofs.BringingLaws.{brought}
 use Rattle.terms.specs.IsTerm.{isTerm}
 use Rattle.calculus.proofs.BringingLaws.{free-fits}
 use Rattle.terms.proofs.FreeNumbers.{scoped-is-term}
@@ -93,9 +91,6 @@ module _ (line workspace : List ℕ) (w : wrongWorkspace (length workspace) ≡ 
     pub read-over : isTerm (drop at out) (roomMost - at) ≡ true → length workspace < roomMost - at → refuse workspace TooLong ≡ readLine line workspace
     read-over e h = sym (reading-exact line workspace .too-long asked term spelled (scoped e) (omega (arith, size-is, h)))
 
-    pub read-left : isTerm (drop at out) (roomMost - at) ≡ true → roomMost - at ≤ length workspace → (after last : List ℕ) (end : ℕ)
-        → Placed workspace 0 (drop at out) after end → last ≡ take end after ++ replicate (length after - end) 0
-        → _≡_ {A = Brought} (record { answer = returned end; workspace = last }) (readLine line workspace)
-    read-left e h after last end p q =
-        brought term workspace (omega (arith, size-is, h)) after last end (rw (sym words-are) at p) q
-        ∙ sym (reading-exact line workspace .leaves asked term spelled (scoped e) (omega (arith, size-is, h)) .1)
+    pub read-left : isTerm (drop at out) (roomMost - at) ≡ true → roomMost - at ≤ length workspace → hold workspace (drop at out) ≡ readLine line workspace
+    read-left e h =
+        ap (hold workspace) (sym words-are) ∙ sym (reading-exact line workspace .leaves asked term spelled (scoped e) (omega (arith, size-is, h)) .1)

@@ -5,9 +5,8 @@ use parser::ROOM;
 use parser::parse;
 use terms::is_term;
 use words::answer::Answer;
-use words::clear;
 use words::refusal::Refusal;
-use words::slices::copy;
+use words::workspace::hold;
 use words::workspace::wrong_workspace;
 ghost use mathlib.Core.Path.{_≡_};
 ghost use Rattle.words.specs.Types.{broughtOf};
@@ -38,9 +37,7 @@ pub fn read_line(line: &[u8], workspace: &mut [u32]) -> Answer
             if workspace.len() < length {
                 return Answer::Refused(Refusal::TooLong);
             }
-            let end = copy(&words, at, ROOM, workspace, 0);
-            clear(workspace, end);
-            Answer::Returned(end)
+            hold(&words, at, ROOM, workspace)
         }
     }
 }

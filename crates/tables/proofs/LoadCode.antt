@@ -1,55 +1,71 @@
--- Loading where no refusal is met: what the code relies on there, and what it leaves.
-use Prim.Native.Nat.{ℕ, _-_, _≤_}
+-- Loading by what judging tells: a refusal is answered, and words that were read are those of the term that the table means.
+use Prim.Native.Nat.{ℕ, _≤_}
 use mathlib.Core.Path.{_≡_, sym, ap, _∙_}
-use mathlib.Core.List.{List, _++_}
+use mathlib.Core.Bool.{false}
+use mathlib.Core.List.{List}
 use mathlib.Core.Option.{none}
 use native.Mathlib.Omega.{arith}
-use lib.ListN.{length, take, replicate}
+use lib.ListN.{length}
+use lib.Seq.{slice}
 use borrow.Author.Tests.{ltb-false}
-use Rattle.calculus.specs.Words.{words}
-use Rattle.calculus.specs.Bringing.{returned, Brought, firstMet, NoneMet}
+use Rattle.calculus.specs.Words.{words, workspaceMost}
+use Rattle.calculus.specs.Refusal.{Refusal}
+use Rattle.calculus.specs.Workspace.{wrongWorkspace}
+use Rattle.calculus.specs.Bringing.{Answer, refused, returned, firstMet, NoneMet, refuse, hold, bringUnless}
 use Rattle.calculus.proofs.BringingLaws.{none-first}
+use Rattle.words.specs.Placed.{Copies}
+use Rattle.words.proofs.PlacedLaws.{placed-length, placed-start}
 use Rattle.records.specs.Records.{Stored, view}
-use Rattle.transcription.specs.Reading.{termWords, Readable}
-use Rattle.tables.specs.Load.{checks, loadStored}
-use Rattle.tables.specs.Theorems.{Meant}
-use Rattle.words.specs.Placed.{Placed}
 use Rattle.records.proofs.LinkRules.{linked}
+use Rattle.records.proofs.RecordLaws.{sized}
+use Rattle.transcription.specs.Reading.{termWords}
+use Rattle.tables.specs.Load.{tableChecks, checks, loadStored}
+use Rattle.tables.specs.Judging.{Judged}
+use Rattle.tables.specs.Meaning.{meaning}
+use Rattle.tables.specs.Theorems.{Meant}
+use Rattle.tables.proofs.JudgingLaws.{unless-refused, unless-returned}
 use Rattle.tables.proofs.LoadLaws.{Passes, passes, unmet-means, load-returned}
-use Rattle.records.proofs.RecordLaws.{rooted}
 use Rattle.tables.proofs.Meaning.ReadingMeaning.{means-spelled}
-use Rattle.words.proofs.BringingLaws.{brought}
 
-module _ (S : Stored) (workspace : List ℕ) (h : firstMet (checks S (length workspace)) ≡ none) where
-  unmet : NoneMet (checks S (length workspace))
-  unmet = none-first (checks S (length workspace)) h
+module _ (S : Stored) (workspace : List ℕ) (w : wrongWorkspace (length workspace) ≡ false) {before after : List ℕ} {answer : Answer}
+    (j : Judged (view S) (tableChecks S (length workspace)) before answer after) where
+  first : firstMet (checks S (length workspace)) ≡ firstMet (tableChecks S (length workspace))
+  first = rw w
 
-  passed : Passes S (length workspace)
-  passed = passes S (length workspace) unmet
+  pub judged-refuses : (why : Refusal) → answer ≡ refused why → refuse workspace why ≡ loadStored S workspace
+  unfolding loadStored
+  judged-refuses why e =
+      sym (ap (λ o. bringUnless o (meaning (view S)) workspace) (first ∙ unless-refused (firstMet (tableChecks S (length workspace))) (view S .n) why (sym e ∙ j .answers)))
 
-  meant : Meant (view S)
-  meant = unmet-means S (length workspace) unmet
+  module _ (end : ℕ) (e : answer ≡ returned end) (room : length before ≡ workspaceMost) where
+    told : (firstMet (tableChecks S (length workspace)) ≡ none) × (end ≡ view S .n)
+    told = unless-returned (firstMet (tableChecks S (length workspace))) (view S .n) end (sym e ∙ j .answers)
 
-  pub root-readable : Readable S (view S .root) × (1 ≤ view S .root)
-  root-readable =
-      let root = rooted S (passed .header-fits) in (
+    unmet : NoneMet (checks S (length workspace))
+    unmet = none-first (checks S (length workspace)) (first ∙ told .0)
+
+    passed : Passes S (length workspace)
+    passed = passes S (length workspace) unmet
+
+    short : view S .n ≤ workspaceMost
+    short = sized S (passed .length-fits) .1
+
+    -- They can be put into the workspace.
+    pub judged-fits : Copies after 0 end workspace 0
+    judged-fits =
         record {
-          walkable = record { length-fits = passed .length-fits; links-fit = passed .links-fit; link-within = root .1 };
-          values-fit = passed .values-fit;
-          children-fit = passed .children-fit;
-        },
-        root .0,
-      )
+          ordered = omega arith;
+          within = omega (arith, told .1, short, placed-length (j .reads (told .0)), room);
+          fits = omega (arith, told .1, ltb-false (length workspace) (view S .n) (passed .short-enough));
+        }
 
-  root-words : termWords (view S) (view S .root) ≡ words (meant .meant)
-  root-words = means-spelled (view S) (linked (view S) (passed .links-fit)) (meant .means)
+    meant : Meant (view S)
+    meant = unmet-means S (length workspace) unmet
 
-  pub room : length (termWords (view S) (view S .root)) ≤ length workspace
-  room = omega (arith, ap length root-words, meant .length-is, ltb-false (length workspace) (view S .n) (passed .short-enough))
+    spelled : termWords (view S) (view S .root) ≡ words (meant .meant)
+    spelled = means-spelled (view S) (linked (view S) (passed .links-fit)) (meant .means)
 
-  -- The words placed at the start, and zeros after them.
-  pub loaded : (after last : List ℕ) (end : ℕ) → Placed workspace 0 (termWords (view S) (view S .root)) after end
-      → last ≡ take end after ++ replicate (length after - end) 0 → _≡_ {A = Brought} (record { answer = returned end; workspace = last }) (loadStored S workspace)
-  loaded after last end p e =
-      brought (meant .meant) workspace (omega (arith, ap length root-words, room)) after last end (rw root-words at p) e
-      ∙ sym (load-returned S workspace unmet (meant .meant) (meant .means))
+    pub judged-loads : hold workspace (slice 0 end after) ≡ loadStored S workspace
+    judged-loads =
+        let read = placed-start (omega (arith, ap length spelled, meant .length-is, short, room)) (j .reads (told .0)) in
+        ap (hold workspace) (ap (λ n. slice 0 n after) (told .1) ∙ read ∙ spelled) ∙ sym (load-returned S workspace unmet (meant .meant) (meant .means))

@@ -3,6 +3,7 @@ pub mod Types
 pub mod Meaning
 pub mod FreeNumbers
 pub mod Load
+pub mod Judging
 pub mod Write
 pub mod PrefixOrder
 pub mod Theorems

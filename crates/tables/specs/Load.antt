@@ -14,8 +14,8 @@ use Rattle.records.specs.Links.{wrongLink}
 use Rattle.records.specs.Children.{wrongChildren}
 use Rattle.tables.specs.FreeNumbers.{wrongFree}
 
--- The refusals in the order in which loading checks them, 7, 1, 2, 8, 3, 4, 5, 6, each with whether it is met, by the table and the length C of
--- the workspace. The last four are about the records.
+-- The refusals of a table in the order in which they are checked, 1, 2, 8, 3, 4, 5, 6, each with whether it is met. The last four are about the
+-- records; refusal 8 is by the number of words that there is room for.
 abbrev pub recordChecks : Table → List (Refusal × Bool)
 recordChecks T =
     (WrongValue, wrongValue T)
@@ -24,13 +24,16 @@ recordChecks T =
     ∷ (WrongFree, wrongFree T)
     ∷ []
 
-abbrev pub checks : Stored → (C : ℕ) → List (Refusal × Bool)
-checks S C =
-    (WrongWorkspace, wrongWorkspace C)
-    ∷ (WrongLength, wrongLength S)
+abbrev pub tableChecks : Stored → (C : ℕ) → List (Refusal × Bool)
+tableChecks S C =
+    (WrongLength, wrongLength S)
     ∷ (WrongHeader, wrongHeader S)
     ∷ (TooLong, tooLong (view S) C)
     ∷ recordChecks (view S)
+
+-- Loading asks for the length C of the workspace before.
+abbrev pub checks : Stored → (C : ℕ) → List (Refusal × Bool)
+checks S C = (WrongWorkspace, wrongWorkspace C) ∷ tableChecks S C
 
 unfoldable pub loadStored : Stored → (workspace : List ℕ) → Brought
 loadStored S workspace = bring (checks S (length workspace)) (meaning (view S)) workspace

@@ -4,7 +4,7 @@ use mathlib.Core.Path.{_≡_, refl, sym, ap, _∙_}
 use mathlib.Core.Bool.{true, false}
 use native.Mathlib.Omega.{arith}
 use lib.ListN.{length, take, replicate, length-replicate}
-use lib.Seq.{length-sets, length-take-le, length-slice}
+use lib.Seq.{length-sets, length-take-le}
 use borrow.Author.Tests.{not-true, not-false}
 use Rattle.calculus.specs.Words.{workspaceMost}
 use Rattle.calculus.specs.Workspace.{wrongWorkspace}
@@ -12,7 +12,6 @@ use Rattle.calculus.proofs.WorkspaceLaws.{workspace-short}
 use Rattle.encoding.specs.Bytes.{unpacked}
 use Rattle.encoding.specs.Decoding.{wordsIn}
 use Rattle.encoding.proofs.ImportLaws.{importing-exact}
-use Rattle.words.proofs.PlacedLaws.{placed-length}
 use Rattle.binary.specs.Scan.{allClipped, Scans}
 use Rattle.binary.specs.declared.scan.Scanned.the-variants as scan
 use Rattle.binary.proofs.ImportCode.{isPadded, import-unpadded, import-none, count-within, import-long, import-free, import-leaves}
@@ -87,27 +86,22 @@ returns-4 c =
     let start = c .before .before .before .before .before .before .before .before .before .before .before .before .before .before .before .before in
     import-free (start .args .bytes .now) (start .args .bits) (start .args .workspace .now) (fits (c .before .before .before .before .before .before .before .before .before .before .before .before)) (kept (c .before .before .before .before .before .before .before .before .before .before)) (scanned (c .before .before .before .before .before) .0) (scanned (c .before .before .before .before .before) .1) _ (c .before .before .before .before .before .before .before .before .scan .last .1 .1 .0) (c .before .before .before .before .before .count .given .0 .0) refl (scanned (c .before .before .before .before .before) .2) (omega arith) (short (c .before .before .before .before .before .before .before .before .before .before .before .before)) (scanned (c .before .before .before .before .before) .3) (sym (c .before .is-combinator .ensures) ∙ not-true (c .before .is-combinator .result) (c .if4 .taken))
 
-slice-aggregate-copy : tie.Need-slice-aggregate-copy
-slice-aggregate-copy c = search needs
-
-copy-requires : tie.Need-copy-requires
-copy-requires c κs = record { ordered = omega arith; within = omega (arith, full (c .before .before .before .before .before .before .before), short (c .before .before .before .before .before .before .before .before .before .before .before .before .before .before)); fits = omega arith }
-
-clear-requires : tie.Need-clear-requires
-clear-requires c κs = let p = c .before .before .before .copy .ensures in omega (arith, p .position, placed-length p, length-slice 0 (c .before .before .before .before .before .before .before .before .before .before .before .count .given .0 .0) (c .before .before .before .before .before .before .before .before .before .before .before .before .before .before .scan .last .1 .1 .0) (omega (arith, full (c .before .before .before .before .before .before .before .before .before .before .before), short (c .before .before .before .before .before .before .before .before .before .before .before .before .before .before .before .before .before .before))))
+hold-requires : tie.Need-hold-requires
+hold-requires c κs = record { ordered = omega arith; within = omega (arith, full (c .before .before .before .before .before .before .before), short (c .before .before .before .before .before .before .before .before .before .before .before .before .before .before)); fits = omega arith }
 
 returns-5 : tie.Need-returns-5
 returns-5 c =
     let start = c .before .before .before .before .before .before .before .before .before .before .before in
     import-none (start .args .bytes .now) (start .args .bits) (start .args .workspace .now) (fits (c .before .before .before .before .before .before .before)) (rw (c .enum-told .given .1) at (c .before .before .before .scan .ensures) .0)
 
-same-length : tie.Need-same-length
-same-length c = search needs
-
 returns-6 : tie.Need-returns-6
 returns-6 c =
-    let start = c .before .before .before .before .before .before .before .before .before .before .before .before .before .before .before .before .before .before .before .before .before .before .before .before .before in
-    import-leaves (start .args .bytes .now) (start .args .bits) (start .args .workspace .now) (fits (c .before .before .before .before .before .before .before .before .before .before .before .before .before .before .before .before .before .before .before .before .before)) (kept (c .before .before .before .before .before .before .before .before .before .before .before .before .before .before .before .before .before .before .before)) (scanned (c .before .before .before .before .before .before .before .before .before .before .before .before .before .before) .0) (scanned (c .before .before .before .before .before .before .before .before .before .before .before .before .before .before) .1) _ (c .before .before .before .before .before .before .before .before .before .before .before .before .before .before .before .before .before .scan .last .1 .1 .0) (c .before .before .before .before .before .before .before .before .before .before .before .before .before .before .count .given .0 .0) refl (scanned (c .before .before .before .before .before .before .before .before .before .before .before .before .before .before) .2) (omega arith) (short (c .before .before .before .before .before .before .before .before .before .before .before .before .before .before .before .before .before .before .before .before .before)) (scanned (c .before .before .before .before .before .before .before .before .before .before .before .before .before .before) .3) (sym (c .before .before .before .before .before .before .before .before .before .before .is-combinator .ensures) ∙ not-false (c .before .before .before .before .before .before .before .before .before .before .is-combinator .result) (c .before .before .before .before .before .before .before .before .before .if4 .left)) (c .before .before .before .before .before .before .copy .last .1 .1 .1 .0) (c .before .before .clear .last .0) (c .before .before .before .before .before .before .copy .result) (c .before .before .before .before .before .before .copy .ensures) (c .before .before .clear .ensures)
+    let found = c .before .before .before .before .before .before .before .before .before .before in
+    let start = found .before .before .before .before .before .before .before .before .before .before .before in
+    let combinator = c .before .before .before .before .before .before .is-combinator in
+    c .before .before .hold .ensures
+    ∙ import-leaves (start .args .bytes .now) (start .args .bits) (start .args .workspace .now) (fits (found .before .before .before .before .before .before .before)) (kept (found .before .before .before .before .before)) (scanned found .0) (scanned found .1) _ (found .before .before .before .scan .last .1 .1 .0) (found .count .given .0 .0) refl (scanned found .2) (omega arith) (short (found .before .before .before .before .before .before .before)) (scanned found .3)
+    (sym (combinator .ensures) ∙ not-false (combinator .result) (c .before .before .before .before .before .if4 .left))
 
 pub import-spec : {M : Type 1} → statement M
 import-spec =
@@ -126,9 +120,8 @@ import-spec =
     slice-aggregate-is-combinator
     is-combinator-requires
     returns-4
-    slice-aggregate-copy
-    copy-requires
-    clear-requires
+    (λ c. search needs)
+    hold-requires
     returns-5
-    same-length
+    (λ c. search needs)
     returns-6)

@@ -6,7 +6,7 @@ use mathlib.Core.List.{List}
 use mathlib.Core.Option.{some}
 use native.Mathlib.Omega.{arith}
 use lib.ListN.{length, take, drop, length-drop}
-use lib.Seq.{take-all, length-slice}
+use lib.Seq.{take-all}
 use borrow.Author.Needs.{needs}
 use borrow.Author.Tests.{not-true, not-false}
 use Rattle.notation.specs.Grammar.{lineMost}
@@ -14,7 +14,7 @@ use Rattle.notation.specs.Reader.{lineWords}
 use Rattle.parser.specs.Scan.{roomMost}
 use Rattle.calculus.specs.Workspace.{wrongWorkspace}
 use Rattle.notation.proofs.ReadingLaws.{reading-exact}
-use Rattle.words.proofs.PlacedLaws.{placed-length}
+use Rattle.calculus.specs.Bringing.{hold}
 use Rattle.terms.specs.IsTerm.{isTerm}
 use Rattle.lines.proofs.FoundLaws.{read-long, read-none, inside, read-free, read-over, read-left}
 use Rattle.lines.proofs.read_line.Statement.{statement}
@@ -90,16 +90,10 @@ returns-3 c = let a = c .before .before .before .before .before in read-free (li
 returns-4 : tie.Need-returns-4
 returns-4 c = let a = c .before .before .before .before .before .before in read-over (line a) (workspace a) (fits a) (short a) (out a) (at a) (full a) (found a) (tested (c .before)) (omega arith)
 
-copy-requires : tie.Need-copy-requires
-copy-requires c κs =
+hold-requires : tie.Need-hold-requires
+hold-requires c κs =
     let a = c .before .before .before .before .before .before .before .before in
     record { ordered = omega (arith, within a); within = omega (arith, full a); fits = omega (arith, within a) }
-
-clear-requires : tie.Need-clear-requires
-clear-requires c κs =
-    let a = c .before .before .before .before .before .before .before .before .before .before .before .before in
-    let p = c .before .before .before .copy .ensures in
-    omega (arith, p .position, placed-length p, length-slice (at a) roomMost (out a) (omega (arith, full a)))
 
 returns-5 : tie.Need-returns-5
 returns-5 c =
@@ -108,9 +102,10 @@ returns-5 c =
 
 returns-6 : tie.Need-returns-6
 returns-6 c =
-    let a = c .before .before .before .before .before .before .before .before .before .before .before .before .before .before .before in
-    read-left (line a) (workspace a) (fits a) (short a) (out a) (at a) (full a) (found a) (tested (c .before .before .before .before .before .before .before .before .before .before)) (omega arith) _ _ _
-    (rw (take-all roomMost (out a) (omega (arith, full a))) at (c .before .before .before .before .before .before .copy .ensures)) (c .before .before .clear .ensures)
+    let a = c .before .before .before .before .before .before .before .before .before .before .before in
+    c .before .before .hold .ensures
+    ∙ ap (hold (workspace a)) (ap (drop (at a)) (take-all roomMost (out a) (omega (arith, full a))))
+    ∙ read-left (line a) (workspace a) (fits a) (short a) (out a) (at a) (full a) (found a) (tested (c .before .before .before .before .before .before)) (omega arith)
 
 pub read-line-spec : {M : Type 1} → statement M
 read-line-spec =
@@ -133,8 +128,7 @@ read-line-spec =
     returns-3
     returns-4
     (λ c. search needs)
-    copy-requires
-    clear-requires
+    hold-requires
     returns-5
     (λ c. search needs)
     returns-6)

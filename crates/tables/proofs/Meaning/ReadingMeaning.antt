@@ -70,6 +70,9 @@ module _ (S : Stored) (h : Readable S (view S .root)) (l : 1 ≤ view S .root) w
   root-words : termWords T (T .root) ≡ words (root .meant)
   root-words = means-spelled T links (root .means)
 
+  pub root-length : length (termWords T (T .root)) ≡ T .n
+  root-length = ap length root-words ∙ root .size-is
+
   pub root-short : length (termWords T (T .root)) ≤ workspaceMost
   root-short = omega (arith, ap length root-words, root .size-is, sized S (h .walkable .length-fits))
 

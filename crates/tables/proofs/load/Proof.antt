@@ -1,57 +1,55 @@
--- `load` meets its contract: a refusal that is met is answered, and otherwise the words of the term are put and clearing leaves the zeros.
+-- `load` meets its contract: a refusal is answered, and words that were read are put into the workspace.
+use Prim.Native.Nat.{ℕ}
 use mathlib.Core.Path.{_≡_, sym, ap, _∙_}
-use mathlib.Core.Option.{none}
-use native.Mathlib.Omega.{arith}
-use lib.ListN.{length}
+use mathlib.Core.Bool.{false}
+use lib.ListN.{length, length-replicate}
 use borrow.Author.Needs.{needs}
-use Rattle.calculus.specs.Bringing.{firstMet}
-use Rattle.tables.specs.Load.{checks, loadStored}
+use Rattle.calculus.specs.Words.{workspaceMost}
+use Rattle.calculus.specs.Workspace.{wrongWorkspace}
+use Rattle.words.specs.Types.{answerOf}
 use Rattle.records.specs.Records.{inForm1}
-use Rattle.tables.specs.Types.{metOf}
-use Rattle.tables.proofs.LoadCode.{root-readable, room, loaded}
-use Rattle.words.proofs.PlacedLaws.{placed-length}
+use Rattle.tables.specs.Load.{loadStored}
+use Rattle.tables.proofs.LoadCode.{judged-refuses, judged-fits, judged-loads}
 use Rattle.tables.proofs.load.Statement.{statement}
 use Rattle.tables.proofs.load.Tie as tie
 
--- No refusal is met.
-unmet : (c : tie.After-enum-told)
-    → firstMet (checks (inForm1 (c .before .before .before .before .before .args .table .now)) (length (c .before .before .before .before .before .args .workspace .now)))
-    ≡ none
-unmet c = sym (c .before .before .first-met .ensures) ∙ ap metOf (c .enum-told .given .1)
-
-put-term-requires : tie.Need-put-term-requires
-put-term-requires c κs =
-    let start = c .before .before .before .before .before .before .args in
-    let S = inForm1 (start .table .now) in
-    let none-met = unmet (c .before) in
-    (root-readable S (start .workspace .now) none-met, room S (start .workspace .now) none-met)
-
-clear-requires : tie.Need-clear-requires
-clear-requires c κs =
-    let put = c .before .before .before in
-    let start = put .before .before .before .before .before .before .before .args in
-    let p = put .put-term .ensures in
-    omega (arith, p .position, placed-length p, room (inForm1 (start .table .now)) (start .workspace .now) (unmet (put .before .before)))
+workspace-passed : (c : tie.Else1) → wrongWorkspace (length (c .before .before .before .before .args .workspace .now)) ≡ false
+workspace-passed c = sym (c .before .wrong-workspace .ensures) ∙ c .if1 .left
 
 returns : tie.Need-returns
 unfolding loadStored
-returns c = rw (← c .before .before .before .first-met .ensures, c .before .refusal .given .1)
+returns c = rw (← c .before .wrong-workspace .ensures, c .if1 .taken)
+
+judge-requires : tie.Need-judge-requires
+judge-requires c κs = length-replicate {A = ℕ} workspaceMost 0
+
+hold-requires : tie.Need-hold-requires
+hold-requires c κs =
+    let start = c .before .before .before .before .before .before .before .before .before .before .before .args in
+    judged-fits (inForm1 (start .table .now)) (start .workspace .now) (workspace-passed (c .before .before .before .before .before .before .before)) (c .before .before .before .before .before .judge .ensures) _ (ap answerOf (c .before .before .before .end .given .1)) (length-replicate {A = ℕ} workspaceMost 0)
 
 returns-2 : tie.Need-returns-2
 returns-2 c =
-    let put = c .before .before .before .before .before .before in
-    let start = put .before .before .before .before .before .before .before .args in
-    loaded (inForm1 (start .table .now)) (start .workspace .now) (unmet (put .before .before)) _ _ _ (put .put-term .ensures) (c .before .before .clear .ensures)
+    let start = c .before .before .before .before .before .before .before .before .before .args in
+    judged-refuses (inForm1 (start .table .now)) (start .workspace .now) (workspace-passed (c .before .before .before .before .before)) (c .before .before .before .judge .ensures) _ (ap answerOf (c .before .refusal .given .1))
+
+returns-3 : tie.Need-returns-3
+returns-3 c =
+    let start = c .before .before .before .before .before .before .before .before .before .before .before .before .before .before .args in
+    c .before .before .hold .ensures
+    ∙ judged-loads (inForm1 (start .table .now)) (start .workspace .now) (workspace-passed (c .before .before .before .before .before .before .before .before .before .before)) (c .before .before .before .before .before .before .before .before .judge .ensures) _ (ap answerOf (c .before .before .before .before .before .before .end .given .1)) (length-replicate {A = ℕ} workspaceMost 0)
 
 pub load-spec : {M : Type 1} → statement M
 load-spec =
     tie.close
     (tie.spec
     (λ c κs. search needs)
-    (λ c. search needs)
-    (λ c. search needs)
-    put-term-requires
-    clear-requires
     returns
+    judge-requires
     (λ c. search needs)
-    returns-2)
+    (λ c. search needs)
+    (λ c. search needs)
+    hold-requires
+    returns-2
+    (λ c. search needs)
+    returns-3)

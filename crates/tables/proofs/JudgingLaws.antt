@@ -1,0 +1,52 @@
+-- What judging comes to: the refusal that a check meets, what later checks come to, and the words read.
+use Prim.Native.Nat.{ℕ}
+use mathlib.Core.Path.{_≡_, refl, sym, ap, _∙_}
+use mathlib.Core.Bool.{Bool}
+use mathlib.Core.List.{List}
+use mathlib.Core.Option.{Option, some, none, Option·none-ne-some}
+use native.Mathlib.Omega.{arith}
+use lib.ListN.{length}
+use Rattle.calculus.specs.Refusal.{Refusal}
+use Rattle.calculus.specs.Bringing.{Answer, refused, returned, firstMet}
+use Rattle.words.specs.Placed.{Placed}
+use Rattle.words.proofs.PlacedLaws.{placed-length}
+use Rattle.words.proofs.RoomLaws.{room-of-length}
+use Rattle.records.specs.Records.{Table}
+use Rattle.transcription.specs.Reading.{termWords}
+use Rattle.tables.specs.Judging.{unless, Judged}
+
+never : _≡_ {A = ℕ} 0 1 → ⊥
+never e = omega arith
+
+-- What an answer tells of the checks.
+pub unless-refused : (met : Option Refusal) (n : ℕ) (why : Refusal) → refused why ≡ unless met n → met ≡ some why
+unless-refused (some met) n why e = let same : met ≡ why = cc in ap some same
+unless-refused none n why e = absurd (never (cc))
+
+pub unless-returned : (met : Option Refusal) (n l : ℕ) → returned l ≡ unless met n → (met ≡ none) × (l ≡ n)
+unless-returned (some met) n l e = absurd (never (cc))
+unless-returned none n l e = let same : l ≡ n = cc in (refl, same)
+
+module _ {T : Table} {checks : List (Refusal × Bool)} {before after : List ℕ} where
+  pub judged-met : (why : Refusal) → firstMet checks ≡ some why → length after ≡ length before → Judged T checks before (refused why) after
+  judged-met why e same-length =
+      record {
+        answers = sym (ap (λ o. unless o (T .n)) e);
+        reads = λ q. absurd (Option·none-ne-some why (sym q ∙ e));
+        room = room-of-length same-length;
+      }
+
+  pub judged-read : {end : ℕ} → length (termWords T (T .root)) ≡ T .n → firstMet checks ≡ none → Placed before 0 (termWords T (T .root)) after end
+      → Judged T checks before (returned end) after
+  judged-read {end} whole e p =
+      let ends : end ≡ T .n = omega (arith, p .position, whole) in
+      record {
+        answers = ap returned ends ∙ sym (ap (λ o. unless o (T .n)) e);
+        reads = λ _. rw ends at p;
+        room = room-of-length (placed-length p);
+      }
+
+  pub judged-later : {later : List (Refusal × Bool)} {answer : Answer} → firstMet checks ≡ firstMet later → Judged T later before answer after
+      → Judged T checks before answer after
+  judged-later e j =
+      record { answers = j .answers ∙ ap (λ o. unless o (T .n)) (sym e); reads = λ q. j .reads (sym e ∙ q); room = j .room }

@@ -1,0 +1,23 @@
+-- Judging a table: the answer, by refusals in their order, and the words of the term that it means, read into a room.
+use Prim.Native.Nat.{ℕ}
+use mathlib.Core.Path.{_≡_}
+use mathlib.Core.Bool.{Bool}
+use mathlib.Core.List.{List}
+use mathlib.Core.Option.{Option, some, none}
+use Rattle.calculus.specs.Refusal.{Refusal}
+use Rattle.calculus.specs.Bringing.{Answer, refused, returned, firstMet}
+use Rattle.words.specs.Placed.{Placed}
+use Rattle.words.specs.Room.{Room}
+use Rattle.records.specs.Records.{Table}
+use Rattle.transcription.specs.Reading.{termWords}
+
+abbrev pub unless : Option Refusal → (n : ℕ) → Answer
+unless (some why) n = refused why
+unless none n = returned n
+
+-- The first of these refusals that is met, and then the words left in the room are free; or the number of records, and the words of the root's term stand at the
+-- start of the room.
+pub record Judged (T : Table) (checks : List (Refusal × Bool)) (before : List ℕ) (answer : Answer) (after : List ℕ) : Type 0 where
+  pub answers : answer ≡ unless (firstMet checks) (T .n)
+  pub reads : firstMet checks ≡ none → Placed before 0 (termWords T (T .root)) after (T .n)
+  pub room : Room before after
