@@ -76,7 +76,7 @@ module _ (line workspace : List ℕ) (w : wrongWorkspace (length workspace) ≡ 
 
     tested : freeFits term ≡ isTerm (drop at out) (roomMost - at)
     tested =
-        scoped-is-term term (packable spelled) (λ a. line-accepted spelled a) [] (omega (arith, size-is, ap length (append-nil (words term))))
+        scoped-is-term term (packable spelled) (λ a. line-accepted spelled a) [] (omega (arith, size-is))
         ∙ ap₂ isTerm (append-nil (words term) ∙ words-are) size-is
 
     scoped : isTerm (drop at out) (roomMost - at) ≡ true → Scoped 0 term

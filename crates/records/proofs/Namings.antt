@@ -10,10 +10,9 @@ use lib.Dec.{leb, ltb, eqb}
 use lib.ListN.{length, getD, length-set, replicate, length-replicate}
 use lib.Seq.{getD-set-same, getD-set-other}
 use borrow.Author.Tests.{leb-true, eqb-true, eq-eqb, ne-eqb}
-use Rattle.calculus.specs.Words.{workspaceMost}
 use Rattle.records.specs.Header.{wrongLength, wrongHeader}
 use Rattle.records.specs.Records.{Record, Table, Stored, view, everyOf, sumOf}
-use Rattle.records.specs.Links.{linkFits, linksFit, naming, namings, more, counted, Countable}
+use Rattle.records.specs.Links.{linkFits, linksFit, naming, namings, more, counted, roomMost, Countable}
 use Rattle.records.proofs.Sums.{every-at, sum-most}
 use Rattle.records.proofs.RecordLaws.{sized, rooted}
 
@@ -113,7 +112,7 @@ pub record Begun (S : Stored) (root : ℕ) (zeros : List ℕ) : Type 0 where
   pub namings-are : (counts : List ℕ) → counts ≡ counted (view S) (view S .n) (more root zeros) → (j : ℕ) → getD counts j 0 ≡ namings (view S) j
 
 pub begun : (S : Stored) (root most : ℕ) → wrongLength S ≡ false → wrongHeader S ≡ false → everyOf (view S .n) (linksFit (view S)) ≡ true
-    → root ≡ view S .root → most ≡ workspaceMost + 1 → Begun S root (replicate most 0)
+    → root ≡ view S .root → most ≡ roomMost → Begun S root (replicate most 0)
 unfolding namings
 begun S root most h r fit e q =
     record {

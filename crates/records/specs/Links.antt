@@ -5,6 +5,7 @@ use mathlib.Core.Bool.{Bool, true, false, cond, not, _&&_, _||_}
 use mathlib.Core.List.{List}
 use lib.Dec.{leb, ltb, eqb}
 use lib.ListN.{length, getD, set}
+use Rattle.calculus.specs.Words.{workspaceMost}
 use Rattle.records.specs.Records.{Table, Stored, view, everyOf, sumOf}
 use Rattle.records.specs.Header.{wrongLength}
 
@@ -33,6 +34,10 @@ more l counts = set counts l (getD counts l 0 + 1)
 unfoldable pub counted : Table → (i : ℕ) (counts : List ℕ) → List ℕ
 counted T zero counts = counts
 counted T (suc i) counts = more (T .at (suc i) .next) (more (T .at (suc i) .first) (counted T i counts))
+
+-- As many counts as indices: one for each record that a table may have, and one for 0.
+abbrev pub roomMost : ℕ
+roomMost = suc workspaceMost
 
 -- The links of a table that has passed refusal 1 can be counted on, where each fits and has been counted once at most.
 pub record Countable (S : Stored) (counts : List ℕ) : Type 0 where

@@ -10,11 +10,15 @@ ghost use mathlib.Core.Path.{_≡_};
 ghost use mathlib.Core.Bool.{true, false};
 ghost use Prim.Native.Nat.{_+_, _^_, _<_};
 ghost use lib.Dec.{eqb};
-ghost use lib.ListN.{length, getD};
+ghost use lib.ListN.{length, getD, replicate};
 ghost use Rattle.records.specs.Records.{Inside, everyOf};
 ghost use Rattle.records.specs.Header.{wrongLength, wrongHeader};
-ghost use Rattle.records.specs.Links.{linkFits, linksFit, namings, wrongLink, more, counted, Countable};
+ghost use Rattle.words.specs.Room.{Room};
+ghost use Rattle.records.specs.Links.{linkFits, linksFit, namings, wrongLink, more, counted, roomMost, Countable};
 ghost use Rattle.records.specs.Types.{stored, viewed};
+
+// Room for a count for each index that a link may be, or for the words of a term.
+pub const ROOM: usize = Word::WORKSPACE_MOST + 1;
 
 // Whether a link of record i is 0 or names a later record of n.
 fn link_fits(n: usize, i: usize, link: usize) -> bool
@@ -81,22 +85,29 @@ fn all_once(counts: &[u32], n: usize) -> bool
 }
 
 // Whether every record is named by exactly one link. The ends of chains are counted at 0.
-fn named_once(table: &[u32], form: Form) -> bool
+fn named_once(table: &[u32], form: Form, counts: &mut [u32]) -> bool
     requires { ⌜ (wrongLength (stored form (now table)) ≡ false) × (wrongHeader (stored form (now table)) ≡ false) × (everyOf (viewed form (now table) .n) (linksFit (viewed form (now table))) ≡ true) ⌝ }
-    ensures { λ r. ⌜ r ≡ everyOf (viewed form (now (table .entry)) .n) (λ i. eqb (namings (viewed form (now (table .entry))) i) 1) ⌝ }
+    requires { ⌜ now counts ≡ replicate roomMost 0 ⌝ }
+    ensures { λ r. ⌜ (r ≡ everyOf (viewed form (now (table .entry)) .n) (λ i. eqb (namings (viewed form (now (table .entry))) i) 1)) × Room (now (counts .entry)) (now (counts .exit)) ⌝ }
 {
-    let mut counts = [0u32; Word::WORKSPACE_MOST + 1];
-    count_link(&mut counts, root(table));
-    count_links(table, form, &mut counts);
-    all_once(&counts, count(table))
+    count_link(counts, root(table));
+    count_links(table, form, counts);
+    all_once(counts, count(table))
 }
 
-pub fn wrong_links(table: &[u32], form: Form) -> bool
+// The links are counted in a room that is lent with zeros.
+pub fn wrong_links(table: &[u32], form: Form, room: &mut [u32]) -> bool
     requires { ⌜ (wrongLength (stored form (now table)) ≡ false) × (wrongHeader (stored form (now table)) ≡ false) ⌝ }
-    ensures { λ r. ⌜ r ≡ wrongLink (viewed form (now (table .entry))) ⌝ }
+    requires { ⌜ now room ≡ replicate roomMost 0 ⌝ }
+    ensures { λ r. ⌜ (r ≡ wrongLink (viewed form (now (table .entry)))) × Room (now (room .entry)) (now (room .exit)) ⌝ }
 {
     if !every(table, form, Question::Links) {
         return true;
     }
-    !named_once(table, form)
+    !named_once(table, form, room)
 }
+
+// Does nothing. Its contract says that the constant is the number that the definitions give its name.
+fn constants()
+    ensures { λ r. do ⌜ (← ⟦ROOM⟧ .entry) ≡ roomMost ⌝ }
+{}

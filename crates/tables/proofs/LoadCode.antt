@@ -14,8 +14,9 @@ use Rattle.calculus.specs.Workspace.{wrongWorkspace}
 use Rattle.calculus.specs.Bringing.{Answer, refused, returned, firstMet, NoneMet, refuse, hold, bringUnless}
 use Rattle.calculus.proofs.BringingLaws.{none-first}
 use Rattle.words.specs.Placed.{Copies}
-use Rattle.words.proofs.PlacedLaws.{placed-length, placed-start}
+use Rattle.words.proofs.RoomLaws.{room-length}
 use Rattle.records.specs.Records.{Stored, view}
+use Rattle.records.specs.Links.{roomMost}
 use Rattle.records.proofs.LinkRules.{linked}
 use Rattle.records.proofs.RecordLaws.{sized}
 use Rattle.transcription.specs.Reading.{termWords}
@@ -37,7 +38,7 @@ module _ (S : Stored) (workspace : List ℕ) (w : wrongWorkspace (length workspa
   judged-refuses why e =
       sym (ap (λ o. bringUnless o (meaning (view S)) workspace) (first ∙ unless-refused (firstMet (tableChecks S (length workspace))) (view S .n) why (sym e ∙ j .answers)))
 
-  module _ (end : ℕ) (e : answer ≡ returned end) (room : length before ≡ workspaceMost) where
+  module _ (end : ℕ) (e : answer ≡ returned end) (room : length before ≡ roomMost) where
     told : (firstMet (tableChecks S (length workspace)) ≡ none) × (end ≡ view S .n)
     told = unless-returned (firstMet (tableChecks S (length workspace))) (view S .n) end (sym e ∙ j .answers)
 
@@ -55,7 +56,7 @@ module _ (S : Stored) (workspace : List ℕ) (w : wrongWorkspace (length workspa
     judged-fits =
         record {
           ordered = omega arith;
-          within = omega (arith, told .1, short, placed-length (j .reads (told .0)), room);
+          within = omega (arith, told .1, short, room-length (j .room), room);
           fits = omega (arith, told .1, ltb-false (length workspace) (view S .n) (passed .short-enough));
         }
 
@@ -67,5 +68,5 @@ module _ (S : Stored) (workspace : List ℕ) (w : wrongWorkspace (length workspa
 
     pub judged-loads : hold workspace (slice 0 end after) ≡ loadStored S workspace
     judged-loads =
-        let read = placed-start (omega (arith, ap length spelled, meant .length-is, short, room)) (j .reads (told .0)) in
-        ap (hold workspace) (ap (λ n. slice 0 n after) (told .1) ∙ read ∙ spelled) ∙ sym (load-returned S workspace unmet (meant .meant) (meant .means))
+        ap (hold workspace) (ap (λ n. slice 0 n after) (told .1) ∙ j .reads (told .0) ∙ spelled)
+        ∙ sym (load-returned S workspace unmet (meant .meant) (meant .means))

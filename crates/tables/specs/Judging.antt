@@ -4,9 +4,9 @@ use mathlib.Core.Path.{_≡_}
 use mathlib.Core.Bool.{Bool}
 use mathlib.Core.List.{List}
 use mathlib.Core.Option.{Option, some, none}
+use lib.Seq.{slice}
 use Rattle.calculus.specs.Refusal.{Refusal}
 use Rattle.calculus.specs.Bringing.{Answer, refused, returned, firstMet}
-use Rattle.words.specs.Placed.{Placed}
 use Rattle.words.specs.Room.{Room}
 use Rattle.records.specs.Records.{Table}
 use Rattle.transcription.specs.Reading.{termWords}
@@ -19,5 +19,5 @@ unless none n = returned n
 -- start of the room.
 pub record Judged (T : Table) (checks : List (Refusal × Bool)) (before : List ℕ) (answer : Answer) (after : List ℕ) : Type 0 where
   pub answers : answer ≡ unless (firstMet checks) (T .n)
-  pub reads : firstMet checks ≡ none → Placed before 0 (termWords T (T .root)) after (T .n)
+  pub reads : firstMet checks ≡ none → slice 0 (T .n) after ≡ termWords T (T .root)
   pub room : Room before after

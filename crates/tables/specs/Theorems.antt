@@ -1,8 +1,8 @@
 -- What is owed about tables: each statement is a type with a name, and its proof in proofs/ has that type.
 use Prim.Native.Nat.{ℕ, _+_, _-_, _*_, _≤_}
 use mathlib.Core.Path.{_≡_}
-use mathlib.Core.Bool.{true, false}
-use mathlib.Core.List.{List, _++_}
+use mathlib.Core.Bool.{Bool, true, false}
+use mathlib.Core.List.{List, [], _∷_, _++_}
 use mathlib.Core.Logic.{_↔_}
 use mathlib.Core.Option.{some}
 use lib.ListN.{length, replicate}
@@ -10,16 +10,17 @@ use Rattle.calculus.specs.Term.{Sort, term, Exp, Term}
 use Rattle.calculus.specs.Words.{words, size}
 use Rattle.calculus.specs.Accepted.{Accepted}
 use Rattle.calculus.specs.Workspace.{wrongWorkspace}
-use Rattle.calculus.specs.Refusal.{Refusal, WrongLength, WrongWorkspace, NoTerm}
+use Rattle.calculus.specs.Refusal.{Refusal, WrongLength, WrongHeader, WrongValue, WrongLink, WrongChildren, WrongFree, WrongWorkspace, TooLong, NoTerm}
 use Rattle.calculus.specs.Theorems.{Held}
 use Rattle.calculus.specs.Bringing.{refused, returned, FirstMet, NoneMet}
 use Rattle.records.specs.Records.{Table, form1, Stored, view, inForm1, isRecord}
 use Rattle.tables.specs.Meaning.{Means, meaning}
+use Rattle.records.specs.Header.{wrongLength, wrongHeader, tooLong}
 use Rattle.records.specs.Values.{wrongValue}
 use Rattle.records.specs.Links.{wrongLink}
 use Rattle.records.specs.Children.{wrongChildren}
 use Rattle.tables.specs.FreeNumbers.{wrongFree}
-use Rattle.tables.specs.Load.{checks, loadStored, load}
+use Rattle.tables.specs.Load.{loadStored, load}
 use Rattle.tables.specs.PrefixOrder.{InPrefixOrder}
 use Rattle.tables.specs.Write.{tableOf, Written, write}
 
@@ -52,12 +53,25 @@ Meaning-sound = (T : Table) (t : Term) → meaning T ≡ some t → Means T term
 abbrev pub Meaning-complete : Type 0
 Meaning-complete = (T : Table) (t : Term) → wrongLink T ≡ false → Means T term (T .root) t → meaning T ≡ some t
 
+-- The refusals in the rules' order, 7, 1, 2, 8, 3, 4, 5, 6, each with whether it is met.
+abbrev pub inOrder : Stored → (C : ℕ) → List (Refusal × Bool)
+inOrder S C =
+    (WrongWorkspace, wrongWorkspace C)
+    ∷ (WrongLength, wrongLength S)
+    ∷ (WrongHeader, wrongHeader S)
+    ∷ (TooLong, tooLong (view S) C)
+    ∷ (WrongValue, wrongValue (view S))
+    ∷ (WrongLink, wrongLink (view S))
+    ∷ (WrongChildren, wrongChildren (view S))
+    ∷ (WrongFree, wrongFree (view S))
+    ∷ []
+
 -- Loading refuses exactly what it must, and a refusal changes nothing; otherwise the workspace holds the term that the table means, with zeros
 -- after it, and its length is returned. This holds in every form.
 pub record LoadsExactly (S : Stored) (workspace : List ℕ) : Type 0 where
-  pub refuses : (why : Refusal) → (loadStored S workspace .answer ≡ refused why) ↔ FirstMet why (checks S (length workspace))
+  pub refuses : (why : Refusal) → (loadStored S workspace .answer ≡ refused why) ↔ FirstMet why (inOrder S (length workspace))
   pub unchanged : (why : Refusal) → loadStored S workspace .answer ≡ refused why → loadStored S workspace .workspace ≡ workspace
-  pub returns : (l : ℕ) → (loadStored S workspace .answer ≡ returned l) ↔ (NoneMet (checks S (length workspace)) × (view S .n ≡ l))
+  pub returns : (l : ℕ) → (loadStored S workspace .answer ≡ returned l) ↔ (NoneMet (inOrder S (length workspace)) × (view S .n ≡ l))
   pub holds : (l : ℕ) → loadStored S workspace .answer ≡ returned l
       → (t : Term) × Means (view S) term (view S .root) t × Accepted 0 t × (size t ≡ l)
       × (loadStored S workspace .workspace ≡ words t ++ replicate (length workspace - l) 0)

@@ -1,4 +1,5 @@
-// Judging a table: refusals 1, 2, 8, 3, 4, 5 and 6 in this order, and the words of its term, read once.
+// Judging a table: refusals 1, 2, 8, 3, 4, 5 and 6 in this order, and the words of its term, read once. One room, lent with zeros, serves to count the links
+// and then for the words.
 use records::Form;
 use records::children::wrong_children;
 use records::count;
@@ -16,11 +17,11 @@ ghost use mathlib.Core.Path.{_≡_};
 ghost use mathlib.Core.Bool.{false};
 ghost use mathlib.Core.List.{[], _∷_};
 ghost use Prim.Native.Nat.{_≤_};
-ghost use lib.ListN.{length};
-ghost use Rattle.calculus.specs.Words.{workspaceMost};
+ghost use lib.ListN.{length, replicate};
 ghost use Rattle.calculus.specs.Refusal.{WrongFree};
 ghost use Rattle.words.specs.Types.{answerOf};
 ghost use Rattle.records.specs.Header.{wrongLength, wrongHeader};
+ghost use Rattle.records.specs.Links.{roomMost};
 ghost use Rattle.records.specs.Types.{stored, viewed};
 ghost use Rattle.transcription.specs.Reading.{Readable};
 ghost use Rattle.tables.specs.FreeNumbers.{wrongFree};
@@ -29,7 +30,7 @@ ghost use Rattle.tables.specs.Judging.{Judged};
 
 // The refusal that is met first, 8 by the most words that there is room for; or the number of words of the term, which stand at the start of the room then.
 pub fn judge(table: &[u32], form: Form, most: usize, room: &mut Words) -> Answer
-    requires { ⌜ length (now room) ≡ workspaceMost ⌝ }
+    requires { ⌜ now room ≡ replicate roomMost 0 ⌝ }
     ensures { λ r. ⌜ Judged (viewed form (now (table .entry))) (tableChecks (stored form (now (table .entry))) most) (now (room .entry)) (answerOf r) (now (room .exit)) ⌝ }
 {
     if wrong_length(table, form) {
@@ -47,13 +48,13 @@ pub fn judge(table: &[u32], form: Form, most: usize, room: &mut Words) -> Answer
 // The same of the refusals that are about the records.
 fn judge_records(table: &[u32], form: Form, room: &mut Words) -> Answer
     requires { ⌜ (wrongLength (stored form (now table)) ≡ false) × (wrongHeader (stored form (now table)) ≡ false) ⌝ }
-    requires { ⌜ length (now room) ≡ workspaceMost ⌝ }
+    requires { ⌜ now room ≡ replicate roomMost 0 ⌝ }
     ensures { λ r. ⌜ Judged (viewed form (now (table .entry))) (recordChecks (viewed form (now (table .entry)))) (now (room .entry)) (answerOf r) (now (room .exit)) ⌝ }
 {
     if wrong_values(table, form) {
         return Answer::Refused(Refusal::WrongValue);
     }
-    if wrong_links(table, form) {
+    if wrong_links(table, form, room) {
         return Answer::Refused(Refusal::WrongLink);
     }
     if wrong_children(table, form) {
@@ -65,7 +66,7 @@ fn judge_records(table: &[u32], form: Form, room: &mut Words) -> Answer
 // The same of refusal 6. Everything else that is asked of a term holds by the refusals before, so the words are no accepted term only by a free number.
 fn judge_free_numbers(table: &[u32], form: Form, room: &mut Words) -> Answer
     requires { ⌜ Readable (stored form (now table)) (viewed form (now table) .root) × (1 ≤ viewed form (now table) .root) ⌝ }
-    requires { ⌜ length (now room) ≡ workspaceMost ⌝ }
+    requires { ⌜ length (now room) ≡ roomMost ⌝ }
     ensures { λ r. ⌜ Judged (viewed form (now (table .entry))) ((WrongFree, wrongFree (viewed form (now (table .entry)))) ∷ []) (now (room .entry)) (answerOf r) (now (room .exit)) ⌝ }
 {
     let end = read_term(table, form, root(table), room, 0);

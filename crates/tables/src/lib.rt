@@ -3,9 +3,9 @@ pub mod judging;
 
 use judging::judge;
 use records::Form;
+use records::links::ROOM;
 use terms::is_term;
 use transcription::writing::put_table;
-use words::Word;
 use words::answer::Answer;
 use words::refusal::Refusal;
 use words::workspace::hold;
@@ -24,7 +24,7 @@ pub fn load(table: &[u32], workspace: &mut [u32]) -> Answer
     if wrong_workspace(workspace.len()) {
         return Answer::Refused(Refusal::WrongWorkspace);
     }
-    let mut words = [0u32; Word::WORKSPACE_MOST];
+    let mut words = [0u32; ROOM];
     match judge(table, Form::One, workspace.len(), &mut words) {
         Answer::Refused(refusal) => Answer::Refused(refusal),
         Answer::Returned(end) => hold(&words, 0, end, workspace),

@@ -6,7 +6,6 @@ use mathlib.Core.List.{List, _++_}
 use mathlib.Core.Logic.{ite}
 use mathlib.Core.Option.{some, Option·none-ne-some}
 use Prim.Native.Nat.{ℕ}
-use lib.ListN.{length}
 use lib.Seq.{take-append-seam}
 use Rattle.calculus.specs.Term.{Term}
 use Rattle.calculus.specs.Words.{words, size, workspaceMost}
@@ -19,9 +18,9 @@ use Rattle.calculus.proofs.WordLaws.{accepted-scoped, accepted-packable}
 use Rattle.calculus.proofs.ReadLaws.{words-injective}
 use Rattle.calculus.proofs.WorkspaceLaws.{termAt-words, held}
 use Rattle.terms.specs.IsTerm.{isTerm}
-use Rattle.terms.proofs.IsTerm.{isTerm-some, isTerm-none}
+use Rattle.terms.proofs.IsTerm.{isTerm-some, isTerm-short}
 
-module _ (t : Term) (packable : Packable t) (accepted : Scoped 0 t → Accepted 0 t) (rest : List ℕ) (short : length (words t ++ rest) ≤ workspaceMost) where
+module _ (t : Term) (packable : Packable t) (accepted : Scoped 0 t → Accepted 0 t) (rest : List ℕ) (short : size t ≤ workspaceMost) where
   found : (u : Term) → termAt (words t ++ rest) (size t) ≡ some u → Scoped 0 t
   found u q =
       let is = held (words t ++ rest) (size t) u q in
@@ -36,6 +35,6 @@ module _ (t : Term) (packable : Packable t) (accepted : Scoped 0 t → Accepted 
       go (no n) false f = refl
       go (yes a) false f =
           let some-term = termAt-words t rest (accepted a) in
-          let no-term = isTerm-none (words t ++ rest) (size t) short f in
+          let no-term = isTerm-short (words t ++ rest) (size t) short f in
           absurd (Option·none-ne-some t (sym no-term ∙ some-term))
       go (no n) true f = let u = isTerm-some (words t ++ rest) (size t) f in absurd (n (found (u .0) (u .1)))

@@ -1,13 +1,13 @@
 -- What the scan tells of `isTerm`, and what `isTerm` tells of the term in a workspace.
 use Prim.Native.Nat.{ℕ, _≤_, _<_}
 use mathlib.Core.Path.{_≡_, refl, sym}
-use mathlib.Core.Bool.{Bool, true, false, _&&_, false≢true, and-eq-true-iff}
+use mathlib.Core.Bool.{Bool, true, false, false≢true, and-eq-true-iff}
 use mathlib.Core.List.{List}
 use mathlib.Core.Option.{Option, some, none, Option·elim}
 use native.Mathlib.Omega.{arith}
 use lib.Dec.{leb}
 use lib.ListN.{length, take}
-use borrow.Author.Tests.{le-leb, lt-leb, leb-false}
+use borrow.Author.Tests.{le-leb, lt-leb, leb-true, leb-false}
 use Rattle.calculus.specs.Term.{Term}
 use Rattle.calculus.specs.Words.{workspaceMost}
 use Rattle.calculus.specs.Workspace.{termAt}
@@ -39,11 +39,18 @@ isTerm-some ws n q = go (termAt ws n) refl (and-eq-true-iff (leb n workspaceMost
     go none e r = absurd (false≢true r)
     go (some t) e r = (t, e)
 
-pub isTerm-none : (ws : List ℕ) (n : ℕ) → length ws ≤ workspaceMost → isTerm ws n ≡ false → termAt ws n ≡ none
+-- In any list, where no more words are asked for than a workspace has.
+pub isTerm-short : (ws : List ℕ) (n : ℕ) → n ≤ workspaceMost → isTerm ws n ≡ false → termAt ws n ≡ none
 unfolding isTerm Option·elim
-isTerm-none ws n h q = go (leb n workspaceMost) (termAt ws n) refl refl q
+isTerm-short ws n h q = go (termAt ws n) refl (rw (le-leb n workspaceMost h) at q)
   where
-    go : (b : Bool) (o : Option Term) → leb n workspaceMost ≡ b → termAt ws n ≡ o → (b && Option·elim o false (λ t. true)) ≡ false → termAt ws n ≡ none
-    go true none e f r = f
-    go true (some t) e f r = absurd (false≢true (sym r))
-    go false o e f r = termAt-past ws n (omega (arith, leb-false n workspaceMost e))
+    go : (o : Option Term) → termAt ws n ≡ o → Option·elim o false (λ t. true) ≡ false → termAt ws n ≡ none
+    go none e r = e
+    go (some t) e r = absurd (false≢true (sym r))
+
+pub isTerm-none : (ws : List ℕ) (n : ℕ) → length ws ≤ workspaceMost → isTerm ws n ≡ false → termAt ws n ≡ none
+isTerm-none ws n h q = go (leb n workspaceMost) refl
+  where
+    go : (b : Bool) → leb n workspaceMost ≡ b → termAt ws n ≡ none
+    go true e = isTerm-short ws n (leb-true n workspaceMost e) q
+    go false e = termAt-past ws n (omega (arith, leb-false n workspaceMost e))

@@ -2,8 +2,8 @@
 use records::Form;
 use records::Record;
 use records::children::chain_length;
+use records::links::ROOM;
 use records::payload::word;
-use words::Word;
 ghost use Prim.Native.Nat.{_+_, _≤_};
 ghost use lib.ListN.{length};
 ghost use Rattle.calculus.specs.Words.{workspaceMost};
@@ -11,9 +11,9 @@ ghost use Rattle.words.specs.Placed.{Placed};
 ghost use Rattle.records.specs.Types.{stored, viewed};
 ghost use Rattle.transcription.specs.Reading.{chainWords, termWords, Readable};
 
-// Room for the words of every term that a workspace holds. The readers are lent an array and no slice: a reference to an array is one machine word, so each
-// level of a table takes less machine stack.
-pub type Words = [u32; Word::WORKSPACE_MOST];
+// Room for the words of every term that a workspace holds, as much as the links are counted in. The readers are lent an array and no slice: a reference to an
+// array is one machine word, so each level of a table takes less machine stack.
+pub type Words = [u32; ROOM];
 
 // Writes the words of record `at` with its children from position `out` on, and returns the position after them.
 pub fn read_term(table: &[u32], form: Form, at: usize, words: &mut Words, out: usize) -> usize

@@ -1,6 +1,6 @@
 -- A room of the same length, and the first and last words of one that was set up.
 use Prim.Native.Nat.{ℕ, zero, suc, _-_, _≤_}
-use mathlib.Core.Path.{_≡_, refl, ap}
+use mathlib.Core.Path.{_≡_, refl, ap, _∙_}
 use mathlib.Core.List.{List, _∷_}
 use native.Mathlib.Omega.{arith}
 use lib.ListN.{length, take, drop, replicate}
@@ -8,6 +8,9 @@ use Rattle.words.specs.Room.{Room}
 
 pub room-of-length : {before after : List ℕ} → length after ≡ length before → Room before after
 room-of-length {after = after} e = record { others = after; left = refl; length-stays = e }
+
+pub room-length : {before after : List ℕ} → Room before after → length after ≡ length before
+room-length r = ap length (r .left) ∙ r .length-stays
 
 pub take-replicate : (a n m : ℕ) → n ≤ m → take n (replicate m a) ≡ replicate n a
 take-replicate a zero m h = refl

@@ -72,6 +72,6 @@ module _ (T : Table) (L : Linked T) (values : Valued T) (fits : Fitted T) where
   means-packable {e = e} m = accepted-packable indexLimit e (means-accepted m indexLimit (free-large m indexLimit (omega arith)))
 
   -- Its free numbers are in range exactly if its words are an accepted term.
-  pub free-is-term : {i : ℕ} {t : Term} → Means T term i t → (rest : List ℕ) → length (words t ++ rest) ≤ workspaceMost
+  pub free-is-term : {i : ℕ} {t : Term} → Means T term i t → (rest : List ℕ) → size t ≤ workspaceMost
       → freeFits t ≡ isTerm (words t ++ rest) (size t)
   free-is-term {t = t} m rest short = scoped-is-term t (means-packable m) (λ a. means-accepted m 0 a) rest short

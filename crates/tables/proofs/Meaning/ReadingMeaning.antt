@@ -11,7 +11,6 @@ use Rattle.calculus.specs.Words.{caseKind, word, words, size, workspaceMost}
 use Rattle.calculus.proofs.WordLaws.{pack-of-parts}
 use Rattle.terms.specs.IsTerm.{isTerm}
 use Rattle.words.specs.Placed.{Placed}
-use Rattle.words.proofs.PlacedLaws.{placed-length}
 use Rattle.records.specs.Records.{Table, Stored, view}
 use Rattle.tables.specs.Meaning.{Means, plain, case-of, no-term, a-term, no-branch, a-branch}
 use Rattle.records.specs.Children.{children}
@@ -77,14 +76,13 @@ module _ (S : Stored) (h : Readable S (view S .root)) (l : 1 ≤ view S .root) w
   root-short = omega (arith, ap length root-words, root .size-is, sized S (h .walkable .length-fits))
 
   -- Where its words are put, they are an accepted term exactly if its free numbers are in range.
-  pub free-in-words : (zeros ws : List ℕ) (end : ℕ) → length zeros ≡ workspaceMost → Placed zeros 0 (termWords T (T .root)) ws end
-      → wrongFree T ≡ not (isTerm ws end)
-  free-in-words zeros ws end e p =
+  pub free-in-words : (before after : List ℕ) (end : ℕ) → workspaceMost ≤ length before → Placed before 0 (termWords T (T .root)) after end
+      → wrongFree T ≡ not (isTerm after end)
+  free-in-words before after end room p =
       let t = root .meant in
+      let short = root-short in
       let ends : end ≡ size t = omega (arith, p .position, ap length root-words) in
-      let placed : ws ≡ words t ++ drop (0 + size t) zeros = p .slice ∙ rw root-words (sets-eq (words t) zeros 0 (omega (arith, ap length root-words, root-short))) in
-      let same-length : length ws ≡ length (words t ++ drop (0 + size t) zeros) = ap length placed in
-      let short : length (words t ++ drop (0 + size t) zeros) ≤ workspaceMost = omega (arith, placed-length p) in
-      let same : isTerm (words t ++ drop (0 + size t) zeros) (size t) ≡ isTerm ws end = ap₂ isTerm (sym placed) (sym ends) in
+      let placed : after ≡ words t ++ drop (0 + size t) before = p .slice ∙ rw root-words (sets-eq (words t) before 0 (omega (arith, ap length root-words, short, room))) in
+      let same : isTerm (words t ++ drop (0 + size t) before) (size t) ≡ isTerm after end = ap₂ isTerm (sym placed) (sym ends) in
       ap freeAbove (meaning-complete T t (h .walkable .links-fit) (root .means))
-      ∙ ap not (free-is-term T links values fits (root .means) (drop (0 + size t) zeros) short ∙ same)
+      ∙ ap not (free-is-term T links values fits (root .means) (drop (0 + size t) before) (omega (arith, ap length root-words, short)) ∙ same)

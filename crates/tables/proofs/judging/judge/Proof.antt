@@ -7,6 +7,7 @@ use Rattle.calculus.specs.Refusal.{WrongLength, WrongHeader, TooLong}
 use Rattle.records.specs.Types.{stored, viewed}
 use Rattle.records.specs.Header.{wrongLength, wrongHeader, tooLong}
 use Rattle.records.proofs.RecordLaws.{headed}
+use Rattle.words.proofs.RoomLaws.{room-of-length}
 use Rattle.tables.proofs.JudgingLaws.{judged-met, judged-later}
 use Rattle.tables.proofs.judging.judge.Statement.{statement}
 use Rattle.tables.proofs.judging.judge.Tie as tie
@@ -22,27 +23,27 @@ short-passed : (c : tie.Else3) → let start = c .before .before .before .before
 short-passed c = rw (← c .before .count .ensures) (le-ltb _ _ (c .if3 .left))
 
 returns : tie.Need-returns
-returns c = judged-met WrongLength (rw (← c .before .wrong-length .ensures, c .if1 .taken)) refl
+returns c = judged-met WrongLength (rw (← c .before .wrong-length .ensures, c .if1 .taken)) (room-of-length refl)
 
 wrong-header-requires : tie.Need-wrong-header-requires
 wrong-header-requires c κs = length-passed c
 
 returns-2 : tie.Need-returns-2
-returns-2 c = judged-met WrongHeader (rw (length-passed (c .before .before), ← c .before .wrong-header .ensures, c .if2 .taken)) refl
+returns-2 c = judged-met WrongHeader (rw (length-passed (c .before .before), ← c .before .wrong-header .ensures, c .if2 .taken)) (room-of-length refl)
 
 count-requires : tie.Need-count-requires
 count-requires c κs = headed _ (length-passed (c .before .before))
 
 returns-3 : tie.Need-returns-3
 returns-3 c =
-    judged-met TooLong (rw (length-passed (c .before .before .before .before), header-passed (c .before .before), ← c .before .count .ensures, lt-ltb _ _ (c .if3 .taken))) refl
+    judged-met TooLong (rw (length-passed (c .before .before .before .before), header-passed (c .before .before), ← c .before .count .ensures, lt-ltb _ _ (c .if3 .taken))) (room-of-length refl)
 
 judge-records-requires : tie.Need-judge-records-requires
 judge-records-requires c κs = ((length-passed (c .before .before .before .before .before), header-passed (c .before .before .before)), c .before .before .before .before .before .before .before .before .pre)
 
 returns-4 : tie.Need-returns-4
 returns-4 c =
-    judged-later (rw (length-passed (c .before .before .before .before .before .before), header-passed (c .before .before .before .before), short-passed (c .before .before))) (c .judge-records .ensures)
+    judged-later (rw (length-passed (c .before .before .before .before .before .before), header-passed (c .before .before .before .before), short-passed (c .before .before))) (room-of-length refl) (c .judge-records .ensures)
 
 pub judge-spec : {M : Type 1} → statement M
 judge-spec =

@@ -6,6 +6,7 @@ use borrow.Author.Needs.{needs}
 use Rattle.calculus.specs.Refusal.{WrongFree}
 use Rattle.words.specs.Placed.{Placed}
 use Rattle.words.proofs.PlacedLaws.{placed-length}
+use Rattle.words.proofs.RoomLaws.{room-of-length}
 use Rattle.records.specs.Types.{viewed}
 use Rattle.records.proofs.RecordLaws.{headed}
 use Rattle.transcription.specs.Reading.{termWords}
@@ -35,16 +36,17 @@ free : (c : tie.After-is-term)
 free c =
     let read = c .before .before .before in
     let p = read .before .before .before .before .pre in
-    free-in-words _ (p .0 .0) (p .0 .1) _ _ _ (p .1) (placed read) ∙ sym (ap not (c .is-term .ensures))
+    free-in-words _ (p .0 .0) (p .0 .1) _ _ _ (omega (arith, p .1)) (placed read) ∙ sym (ap not (c .is-term .ensures))
 
 returns : tie.Need-returns
 returns c =
     let read = c .before .before .before .before in
-    let p = read .before .before .before .before .pre .0 in
-    judged-read (root-length _ (p .0) (p .1)) (rw (free (c .before), c .if1 .taken)) (placed read)
+    let p = read .before .before .before .before .pre in
+    let whole = root-length _ (p .0 .0) (p .0 .1) in
+    judged-read whole (omega (arith, whole, root-short _ (p .0 .0) (p .0 .1), p .1)) (rw (free (c .before), c .if1 .taken)) (placed read)
 
 returns-2 : tie.Need-returns-2
-returns-2 c = judged-met WrongFree (rw (free (c .before), c .if1 .left)) (placed-length (placed (c .before .before .before .before)))
+returns-2 c = judged-met WrongFree (rw (free (c .before), c .if1 .left)) (room-of-length (placed-length (placed (c .before .before .before .before))))
 
 pub judge-free-numbers-spec : {M : Type 1} → statement M
 judge-free-numbers-spec = tie.close (tie.spec root-requires read-term-requires (λ c κs. search needs) returns returns-2)
