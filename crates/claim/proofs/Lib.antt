@@ -1,4 +1,5 @@
 pub mod Workspaces
+pub mod PressingLaws
 pub mod PressLaws
 pub mod PressesLaws
 pub mod Settled

@@ -20,6 +20,7 @@ use Rattle.claim.specs.Press.{refuse, conclude, pressTerms, press}
 use Rattle.claim.specs.Claim.{Contains, Reply, refuses, spends, replyOf, Progress, replyTo, advance, LeavesBy}
 use Rattle.calculus.proofs.RoundsLaws.{Walk, walked, walk-fits}
 use Rattle.calculus.proofs.WalkLaws.{walk-accepted}
+use Rattle.claim.proofs.PressingLaws.{press-tests}
 use Rattle.claim.proofs.Workspaces.{sized-right, sized-scratch, termAt-holds, holds-termAt, holds-padded, holds-fits}
 
 -- The memory is where the list of calls stands.
@@ -65,12 +66,11 @@ answered-tests s m c true false true true h = made (h refl)
 
 answered-here : (s : Progress) (m : Memory) (c : Call) → Stands (length (m .left)) s m
     → Answered (length (m .left)) s m c (replyTo (length (m .left)) s c) (press m c)
-unfolding press
 answered-here s m c h =
     let C = length (m .left) in
     let total-test : affordable (c .budget) (m .session .total) ≡ not (overspent (c .budget) (s .total))
     = ap (affordable (c .budget)) (h .total-is) ∙ affordable-not (c .budget) (s .total) in
-    rw (h .right-holds .length-is, total-test, termAt-holds (h .left-holds) (c .leftLength), termAt-holds (h .right-holds) (c .rightLength))
+    rw (press-tests m c, h .right-holds .length-is, total-test, termAt-holds (h .left-holds) (c .leftLength), termAt-holds (h .right-holds) (c .rightLength))
     (answered-tests s m c (sized (C ∷ C ∷ length (c .scratch) ∷ [])) (overspent (c .budget) (s .total))
     (eqb (c .leftLength) (size (s .left))) (eqb (c .rightLength) (size (s .right))) (sized-scratch C C (length (c .scratch))))
 
@@ -138,12 +138,10 @@ pub record Passed (m : Memory) (c : Call) (t u : Term) : Type 0 where
 
 pub press-passed : {m : Memory} {c : Call} {t u : Term} → Passed m c t u
     → press m c ≡ conclude (length (m .left)) (m .session) (rounds (length (m .left)) (c .budget) t u)
-unfolding press
-press-passed h = rw (h .size-passes, h .budget-passes, h .left-term, h .right-term)
+press-passed {m} {c} h = rw (press-tests m c, h .size-passes, h .budget-passes, h .left-term, h .right-term)
 
 pub passed : (m : Memory) (c : Call) {a : Shown} → press m c .answer ≡ shown a → (t : Term) × (u : Term) × Passed m c t u
-unfolding press
-passed m c {a} e = by _ _ _ _ refl refl refl refl e
+passed m c {a} e = by _ _ _ _ refl refl refl refl (rw (press-tests m c) at e)
   where
     by : (x y : Bool) (t u : Option Term) → sized (length (m .left) ∷ length (m .right) ∷ length (c .scratch) ∷ []) ≡ x
         → affordable (c .budget) (m .session .total) ≡ y → termAt (m .left) (c .leftLength) ≡ t → termAt (m .right) (c .rightLength) ≡ u

@@ -2,6 +2,7 @@
 pub mod State
 pub mod Answer
 pub mod Press
+pub mod Pressing
 pub mod Limits
 pub mod Presses
 pub mod Claim
