@@ -46,11 +46,14 @@ module _ (ws vs : List ℕ) (l r : ℕ) where
 
 pub showing-exact : Showing-exact
 unfolding show
-showing-exact ws vs l r =
+showing-exact leftAt rightAt ws vs l r =
     let by-tests = told ws vs l r _ _ _ refl refl refl in
     record {
       refused = by-tests .0;
       passed = by-tests .1;
       left-form = λ h k. passed ws vs l r h ∙ rw (lt-leb r l k);
       right-form = λ h k. passed ws vs l r h ∙ rw (le-leb r l k);
+      left-part = λ n. refl;
+      right-part = λ n. refl;
+      part-words = λ part. refl;
     }

@@ -64,14 +64,18 @@ pub record Showable (ws vs : List ℕ) (leftLength rightLength : ℕ) : Type 0 w
   pub left-term : (t : Term) × Held ws leftLength t
   pub right-term : (t : Term) × Held vs rightLength t
 
--- Words are handed back exactly if all of that is so: those of the left form where it is shorter, otherwise those of the right one.
-pub record ShowsExactly (ws vs : List ℕ) (leftLength rightLength : ℕ) : Type 0 where
+-- Words are handed back exactly if all of that is so: those of the left form where it is shorter, otherwise those of the right one. A part of either side
+-- is handed back as so many first words of that side's workspace, with the pointer to its first.
+pub record ShowsExactly (leftAt rightAt : ℕ × ℕ) (ws vs : List ℕ) (leftLength rightLength : ℕ) : Type 0 where
   pub refused : (Showable ws vs leftLength rightLength → ⊥) → show ws vs leftLength rightLength ≡ record { side = left; count = 0 }
   pub passed : 1 ≤ show ws vs leftLength rightLength .count → Showable ws vs leftLength rightLength
   pub left-form : Showable ws vs leftLength rightLength → leftLength < rightLength
       → show ws vs leftLength rightLength ≡ record { side = left; count = leftLength }
   pub right-form : Showable ws vs leftLength rightLength → rightLength ≤ leftLength
       → show ws vs leftLength rightLength ≡ record { side = right; count = rightLength }
+  pub left-part : (n : ℕ) → partOf leftAt rightAt ws vs (record { side = left; count = n }) ≡ (leftAt, take n ws)
+  pub right-part : (n : ℕ) → partOf leftAt rightAt ws vs (record { side = right; count = n }) ≡ (rightAt, take n vs)
+  pub part-words : (part : Part) → partWords ws vs part ≡ partOf leftAt rightAt ws vs part .1
 
 abbrev pub Showing-exact : Type 0
-Showing-exact = (ws vs : List ℕ) (leftLength rightLength : ℕ) → ShowsExactly ws vs leftLength rightLength
+Showing-exact = (leftAt rightAt : ℕ × ℕ) (ws vs : List ℕ) (leftLength rightLength : ℕ) → ShowsExactly leftAt rightAt ws vs leftLength rightLength
