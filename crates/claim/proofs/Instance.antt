@@ -180,10 +180,10 @@ apart =
     }
 
 pub left-holds : Contains 16 leftTerm (start .left)
-left-holds = record { accepted = omega arith; others = replicate 9 7; contents = refl; length-is = refl }
+left-holds = record { holds = record { within = omega arith; words-are = refl; accepted = omega arith }; length-is = refl }
 
 pub right-holds : Contains 16 rightTerm (start .right)
-right-holds = record { accepted = omega arith; others = replicate 15 7; contents = refl; length-is = refl }
+right-holds = record { holds = record { within = omega arith; words-are = refl; accepted = omega arith }; length-is = refl }
 
 pub claimed : Claim 16 leftTerm rightTerm start calls
 claimed = every-list-of-presses 16 leftTerm rightTerm start left-holds right-holds calls
@@ -209,10 +209,10 @@ limits =
     }
 
 contracting-holds : (C : ℕ) → length (pair C .left) ≡ C → Contains C contracting (pair C .left)
-contracting-holds C e = record { accepted = omega arith; others = replicate (C - 6) 7; contents = refl; length-is = e }
+contracting-holds C e = record { holds = record { within = omega arith; words-are = refl; accepted = omega arith }; length-is = e }
 
 other-holds : (C : ℕ) → length (pair C .right) ≡ C → Contains C other (pair C .right)
-other-holds C e = record { accepted = omega arith; others = replicate (C - 3) 7; contents = refl; length-is = e }
+other-holds C e = record { holds = record { within = omega arith; words-are = refl; accepted = omega arith }; length-is = e }
 
 pub claimed-apart : Claim 16 contracting other (pair 16) in-two
 claimed-apart = every-list-of-presses 16 contracting other (pair 16) (contracting-holds 16 refl) (other-holds 16 refl) in-two

@@ -93,7 +93,7 @@ pub holds-walk : {C s : ℕ} {t u t′ u′ : Term} {ws vs : List ℕ} → Conta
 holds-walk h k w =
     let (f, g) = walk-fits atOnce w in
     let (a, b) = walk-accepted w in
-    (holds-padded (a (h .accepted)) (f (holds-fits h)), holds-padded (b (k .accepted)) (g (holds-fits k)))
+    (holds-padded (a (h .holds .accepted)) (f (holds-fits h)), holds-padded (b (k .holds .accepted)) (g (holds-fits k)))
 
 pub stands-first : {C : ℕ} {t u : Term} (m : Memory) → Contains C t (m .left) → Contains C u (m .right)
     → Stands C (record { total = m .session .total; left = t; right = u }) m

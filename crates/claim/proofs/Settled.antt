@@ -162,7 +162,7 @@ module _ {C : ℕ} {t u : Term} {start : Memory} {spent : ℕ} {m : Memory} {a :
       let o = rounds C (h .budget) t u in
       let (f, g) = walk-accepted (walked atOnce C (h .budget) t u) in
       rw (position-is h, left-words, right-words)
-      (shown-exact o .4 (sym (verdict-is h) ∙ e) (f (lh .accepted)) (g (rh .accepted)) (settled-unequal e))
+      (shown-exact o .4 (sym (verdict-is h) ∙ e) (f (lh .holds .accepted)) (g (rh .holds .accepted)) (settled-unequal e))
 
   pub settled-no-position : (a .verdict ≡ Different → ⊥) → a .position ≡ 0
   settled-no-position other = position-is h ∙ shown-exact (rounds C (h .budget) t u) .5 (λ e. other (verdict-is h ∙ e))

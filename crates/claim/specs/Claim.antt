@@ -12,7 +12,7 @@ use lib.ListN.{length, take, replicate}
 use Rattle.calculus.specs.Term.{Term}
 use Rattle.calculus.specs.Words.{words, size}
 use Rattle.calculus.specs.Workspace.{sized}
-use Rattle.calculus.specs.Accepted.{Accepted}
+use Rattle.calculus.specs.Theorems.{Held}
 use Rattle.calculus.specs.Refusal.{Refusal, WrongWorkspace, OverBudget, NoTerm}
 use Rattle.calculus.specs.Conversion.{Reaches, Joined}
 use Rattle.calculus.specs.Comparison.{FirstDifference}
@@ -22,11 +22,9 @@ use Rattle.claim.specs.Answer.{Answer, refused, shown, Memory, Call, Pre
 use Rattle.claim.specs.Press.{press}
 use Rattle.claim.specs.Presses.{final, history, spentIn, budgetInOneGo, lastShown}
 
--- A workspace of C words holds an accepted term of at most C words; the words after it are any.
+-- A workspace of C words holds an accepted term, of at most C words therefore; the words after it are any.
 pub record Contains (C : ℕ) (t : Term) (ws : List ℕ) : Type 0 where
-  pub accepted : Accepted 0 t
-  pub others : List ℕ
-  pub contents : ws ≡ words t ++ others
+  pub holds : Held ws (size t) t
   pub length-is : length ws ≡ C
 
 -- What is said of a press from the calls alone: why it is refused, or what it spends.
