@@ -6,7 +6,7 @@
 #include <stdio.h>
 #include <string.h>
 
-enum { C = FETSGUIN_WORKSPACE_LEAST, ROOM = FETSGUIN_WORKSPACE_MOST + 2, TABLE = FETSGUIN_TABLE_MOST + 5, BYTES = FETSGUIN_LINE_MOST + 2, KEPT = 77 };
+enum { C = FETSGUIN_WORKSPACE_LEAST, ROOM = FETSGUIN_WORKSPACE_MOST + 2, TABLE = FETSGUIN_TABLE_MOST + 5, BYTES = FETSGUIN_LINE_MOST + 8, KEPT = 77 };
 
 /* Words that a test hands in or expects. */
 typedef struct {
@@ -19,9 +19,10 @@ typedef struct {
 /* All that is lent, each with words behind what a test lends of it. */
 typedef struct {
     uint32_t left[ROOM], right[ROOM], scratch[ROOM], table[TABLE], session[FETSGUIN_SESSION_WORDS], answer[FETSGUIN_ANSWER_WORDS];
-    uint8_t bytes[BYTES];
     uint64_t number;
+    uint8_t bytes[BYTES];
 } memory;
+_Static_assert(sizeof(memory) == (3 * ROOM + TABLE + FETSGUIN_SESSION_WORDS + FETSGUIN_ANSWER_WORDS) * sizeof(uint32_t) + sizeof(uint64_t) + BYTES, "no padding is compared");
 
 static memory now, before;
 static int failed;
@@ -133,6 +134,7 @@ static void press_refusals(void) {
     refuses("press 7: C 15", press_in(C - 1, 1, 1, FETSGUIN_BUDGET_MOST + 1), FETSGUIN_WRONG_WORKSPACE);
     refuses("press 7: C 2,049", press_in(FETSGUIN_WORKSPACE_MOST + 1, 1, 1, 0), FETSGUIN_WRONG_WORKSPACE);
     refuses("press 7: right longer", fetsguin_press(now.left, C, now.right, C + 1, now.scratch, C, 1, 1, 0, now.session, now.answer), FETSGUIN_WRONG_WORKSPACE);
+    refuses("press 7: right shorter", fetsguin_press(now.left, C + 1, now.right, C, now.scratch, C + 1, 1, 1, FETSGUIN_BUDGET_MOST + 1, now.session, now.answer), FETSGUIN_WRONG_WORKSPACE);
     refuses("press 7: scratch longer", fetsguin_press(now.left, C, now.right, C, now.scratch, C + 1, 1, 1, 0, now.session, now.answer), FETSGUIN_WRONG_WORKSPACE);
     refuses("press 9: budget", press_in(C, 0, 0, FETSGUIN_BUDGET_MOST + 1), FETSGUIN_OVER_BUDGET);
     refuses("press 10: left length 0", press_in(C, 0, 1, 0), FETSGUIN_NO_TERM);
@@ -207,6 +209,12 @@ static void loads(void) {
         chain[4 * i] = 1;
         chain[4 * i + 2] = i + 1;
     }
+    chain[0] = 2;
+    refuses("load 2 before 8", load((list){chain, FETSGUIN_TABLE_WORDS(C + 1)}, C), FETSGUIN_WRONG_HEADER);
+    chain[0] = 1;
+    chain[4] = 7;
+    refuses("load 8 before 3", load((list){chain, FETSGUIN_TABLE_WORDS(C + 1)}, C), FETSGUIN_TOO_LONG);
+    chain[4] = 1;
     refuses("load 8", load((list){chain, FETSGUIN_TABLE_WORDS(C + 1)}, C), FETSGUIN_TOO_LONG);
     check("load of 17 words", load((list){chain, FETSGUIN_TABLE_WORDS(C + 1)}, C + 1) == FETSGUIN_OK && now.number == C + 1);
 }
@@ -247,6 +255,7 @@ static void imports(void) {
     refuses("import 12: padding", import(LIST(33), 4, C), FETSGUIN_WRONG_BITS);
     refuses("import 12: past the bytes", import(LIST(32), UINT64_MAX, C), FETSGUIN_WRONG_BITS);
     refuses("import 8", import(LIST(0, 0, 0, 0, 248, 0), 38, C), FETSGUIN_TOO_LONG);
+    refuses("import 8 before 13", import(LIST(0, 0, 0, 0, 255, 255, 192), 51, C), FETSGUIN_TOO_LONG);
     refuses("import 13", import(LIST(128), 2, C), FETSGUIN_NO_COMBINATOR);
 }
 
