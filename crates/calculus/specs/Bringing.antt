@@ -14,7 +14,7 @@ use Rattle.calculus.specs.Decide.{scoped?}
 use Rattle.calculus.specs.Refusal.{Refusal, NoTerm}
 use Rattle.calculus.specs.Workspace.{padded}
 
--- The answer: a refusal, or what is returned, the length of the term. Writing answers alike, with the number of records.
+-- The answer: a refusal, or what is returned, the length of the term. Writing answers alike, with the number of records, and exporting with that of bits.
 pub data Answer : Type 0 where
   refused : Refusal → Answer
   returned : ℕ → Answer

@@ -1,7 +1,7 @@
 // What a call answers that brings a term in or writes one.
 use crate::refusal::Refusal;
 
-// A refusal, or the length of the term or the number of records.
+// A refusal, or a number: of a term's words, a table's records or an encoding's bits.
 pub enum Answer {
     Refused(Refusal),
     Returned(usize),

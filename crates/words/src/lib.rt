@@ -1,5 +1,5 @@
 // The word of a term: payload × 8 + kind ("Terms and words"), and where an item ends. The constants of `Word` are the only places of the code where
-// the kinds and the limits of the word rules stand as numbers.
+// the kinds and the upper limits of the word rules stand as numbers.
 use kind::Kind;
 use slices::fill;
 ghost use mathlib.Core.Path.{_≡_};
