@@ -1,4 +1,5 @@
 // What the bytes ask ("The verdict program"): budget, C, and two tables, each behind its word count.
+use records::Form;
 use text::bytes::WORD_BYTES;
 use text::bytes::word_at;
 use words::Word;
@@ -8,11 +9,8 @@ ghost use lib.ListN.{length};
 ghost use Rattle.request.specs.Request.{tableLimit, inputMost};
 ghost use Rattle.request.specs.Parse.{tableAt, Parses};
 
-// The words of a record.
-const RECORD_WORDS: usize = 4;
-
 // The most words of a table: a header, and as many records as a workspace has words.
-pub const TABLE_MOST: usize = RECORD_WORDS * (Word::WORKSPACE_MOST + 1);
+pub const TABLE_MOST: usize = Form::ONE_WORDS * (Word::WORKSPACE_MOST + 1);
 
 // The most bytes of a request: budget, C, and two tables behind their counts.
 pub const INPUT_MOST: usize = WORD_BYTES * (4 + 2 * TABLE_MOST);

@@ -22,12 +22,9 @@ comma = 44 ∷ []
 abbrev pub dash : List ℕ
 dash = 45 ∷ []
 
--- The words of a record of a table, and those of the longest list that is compared: a table one record longer than the largest.
-abbrev pub recordWords : ℕ
-recordWords = form1 .recordWords
-
+-- The words of the longest list that is compared: a table one record longer than the largest.
 abbrev pub listMost : ℕ
-listMost = recordWords * (workspaceMost + 2)
+listMost = form1 .recordWords * (workspaceMost + 2)
 
 -- A word, or a number of times and a word.
 unfoldable pub itemAt : List ℕ → (at : ℕ) → Item

@@ -3,6 +3,7 @@
 pub mod lent;
 
 use lent::holds;
+use records::Form;
 use words::Word;
 use words::slices::fill;
 ghost use mathlib.Core.Path.{_≡_};
@@ -242,11 +243,8 @@ pub struct Compared {
     pub next: usize,
 }
 
-// The words of a record of a table.
-pub const RECORD_WORDS: usize = 4;
-
 // The words of the longest list that is compared: a table one record longer than the largest.
-pub const LIST_MOST: usize = RECORD_WORDS * (Word::WORKSPACE_MOST + 2);
+pub const LIST_MOST: usize = Form::ONE_WORDS * (Word::WORKSPACE_MOST + 2);
 
 pub fn compare(text: &[u8], at: usize, words: &[u32], tail: u32) -> Compared
     ensures { λ r. ⌜ r ≡ comparedAt (now (text .entry)) at (now (words .entry)) tail ⌝ }

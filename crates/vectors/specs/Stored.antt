@@ -6,13 +6,14 @@ use lib.Dec.{eqb, leb}
 use lib.ListN.{length, take, replicate}
 use Rattle.calculus.specs.Refusal.{number}
 use Rattle.calculus.specs.Bringing.{Answer, refused, returned, Brought}
+use Rattle.records.specs.Records.{form1}
 use Rattle.tables.specs.Load.{load}
 use Rattle.tables.specs.Write.{Written, write}
 use Rattle.vector_text.specs.Text.{nowhere, after, numberAt}
 use Rattle.text.specs.Names.{refusalName}
 use Rattle.vectors.specs.Keywords.{chainKeyword, givesWord, writesWord}
 use Rattle.vector_text.specs.Compared.{areWords}
-use Rattle.vector_text.specs.Lists.{listMost, recordWords, Listed, listAt, comparedAt}
+use Rattle.vector_text.specs.Lists.{listMost, Listed, listAt, comparedAt}
 use Rattle.vectors.specs.Answers.{isReturned}
 use Rattle.vectors.specs.Pair.{junk, junkWords}
 use Rattle.vector_text.specs.declared.Compared.{Compared}
@@ -34,8 +35,8 @@ refusedLast line at (returned n) ws = false
 -- alone.
 abbrev pub chainWord : (records index place : ℕ) → ℕ
 chainWord records index place =
-    let record′ = place / recordWords in
-    let field = place % recordWords in
+    let record′ = place / form1 .recordWords in
+    let field = place % form1 .recordWords in
     cond (leb records record′) (cond (eqb field 1) index 0)
     (cond (eqb field 0) 1 (cond (eqb field 1) (cond (eqb record′ 0) records 0) (cond (eqb field 2) (record′ + 1) 0)))
 
@@ -53,7 +54,7 @@ chainAt line from ws =
     let index = numberAt line (records .next) in
     record {
       words = chain (records .value) (index .value) (length ws);
-      count = recordWords * (records .value + 1);
+      count = form1 .recordWords * (records .value + 1);
       next = index .next;
     }
 

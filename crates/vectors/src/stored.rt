@@ -10,13 +10,13 @@
 // table, `chain n index` is the table of n - 1 abstractions around a variable.
 use crate::pair::JUNK;
 use crate::pair::ROOM;
+use records::Form;
 use tables::load;
 use tables::write;
 use vector_text::Compared;
 use vector_text::LIST_MOST;
 use vector_text::List;
 use vector_text::NOWHERE;
-use vector_text::RECORD_WORDS;
 use vector_text::after;
 use vector_text::compare;
 use vector_text::lent::filled;
@@ -58,11 +58,11 @@ fn chain_word(place: usize, records: u32, index: u32) -> u32
     requires { ⌜ place ≤ listMost ⌝ }
     ensures { λ r. ⌜ r ≡ chainWord records index place ⌝ }
 {
-    let record = place / RECORD_WORDS;
+    let record = place / Form::ONE_WORDS;
     if records as usize <= record {
-        return if place % RECORD_WORDS == 1 { index } else { 0 };
+        return if place % Form::ONE_WORDS == 1 { index } else { 0 };
     }
-    match place % RECORD_WORDS {
+    match place % Form::ONE_WORDS {
         0 => 1,
         1 => if record == 0 { records } else { 0 },
         2 => record as u32 + 1,
@@ -94,7 +94,7 @@ fn read_table(line: &[u8], at: usize, table: &mut [u32]) -> List
     let index = read_number(line, records.next);
     put_chain(table, records.value, index.value);
     List {
-        count: RECORD_WORDS * (records.value as usize + 1),
+        count: Form::ONE_WORDS * (records.value as usize + 1),
         next: index.next,
     }
 }

@@ -1,17 +1,15 @@
 -- A table that meets no refusal means a term, which is accepted and has as many words as the table has records.
 use Prim.Native.Nat.{_≤_}
 use mathlib.Core.Path.{_≡_, ap, _∙_}
-use mathlib.Core.Bool.{true, false, false≢true}
-use mathlib.Core.Logic.{ite}
 use mathlib.Core.Option.{some}
 use native.Mathlib.Omega.{arith}
 use borrow.Author.Tests.{not-false}
 use Rattle.calculus.specs.Term.{term, Term}
 use Rattle.calculus.specs.Words.{size}
-use Rattle.calculus.specs.Decide.{scoped?}
 use Rattle.records.specs.Records.{Table}
 use Rattle.tables.specs.Meaning.{Means, meaning}
 use Rattle.calculus.specs.Bringing.{freeFits}
+use Rattle.calculus.proofs.BringingLaws.{free-fits}
 use Rattle.tables.specs.Theorems.{Sound-means}
 use Rattle.records.proofs.Tests.{isRecord-true}
 use Rattle.records.proofs.LinkRules.{Linked, linked}
@@ -20,10 +18,6 @@ use Rattle.tables.proofs.Meaning.Extent.{extent, extent-zero, root-exte
 use Rattle.records.proofs.Fits.{Valued, valued, Fitted, fitted}
 use Rattle.tables.proofs.Meaning.Exists.{record-means}
 use Rattle.tables.proofs.Meaning.Accepts.{means-accepted}
-
-in-scope : {A : Type 0} (d : Dec A) → ite d true false ≡ true → A
-in-scope (yes a) q = a
-in-scope (no n) q = absurd (false≢true q)
 
 -- Where the root is a record and refusals 3 to 5 are not met, the root means a term with as many words as there are records.
 pub record Root (T : Table) : Type 0 where
@@ -48,6 +42,6 @@ sound-means T sound =
     record {
       meant = t;
       means = root .means;
-      accepted = means-accepted T links values fits (root .means) 0 (in-scope (scoped? 0 t) (not-false (freeFits t) (rw computed at (sound .free-numbers))));
+      accepted = means-accepted T links values fits (root .means) 0 (free-fits t .0 (not-false (freeFits t) (rw computed at (sound .free-numbers))));
       length-is = root .size-is;
     }
