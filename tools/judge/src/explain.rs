@@ -25,6 +25,7 @@ fn sections() -> impl Iterator<Item = (&'static str, &'static str)> {
 #[cfg(test)]
 mod tests {
     use super::*;
+    use unit::limits::{MAX_ARGUMENTS, MAX_BRANCHES};
 
     #[test]
     fn every_line_of_the_program_has_a_text() {
@@ -43,6 +44,12 @@ mod tests {
                 assert_eq!(explain(&spelled).as_ref(), Some(&text));
             }
         }
+    }
+
+    #[test]
+    fn the_limits_of_parts_are_those_of_the_unit() {
+        let limits = format!("at most {MAX_ARGUMENTS}, and branches at most {MAX_BRANCHES},");
+        assert!(explain("5").is_some_and(|text| text.contains(&limits)));
     }
 
     #[test]

@@ -1,7 +1,7 @@
 //! What the program's line means for a script, and for a user where no verdict came.
 
 use crate::failure::Failure;
-use unit::limits::{MAX_BUDGET, MAX_COUNT, MAX_FREE, TAGS, WORKSPACE};
+use unit::limits::{MAX_ARGUMENTS, MAX_BRANCHES, MAX_BUDGET, MAX_FREE, TAGS, WORKSPACE};
 use unit::script::Side;
 
 /// The exit status that tells of the line, if the user asks for it.
@@ -99,8 +99,8 @@ impl Question {
                 TAGS.end()
             ),
             5 => format!(
-                "more than {MAX_COUNT} arguments or branches, or branch tags that do not rise; a default \
-                 stands first"
+                "more than {MAX_ARGUMENTS} arguments or {MAX_BRANCHES} branches, or branch tags that do not rise; \
+                 a default stands first"
             ),
             6 => {
                 let names = MAX_FREE + 1;

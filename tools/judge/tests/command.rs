@@ -564,7 +564,7 @@ fn a_refusal_names_side_and_reason() {
         ),
         (
             "5",
-            "more than 15 arguments or branches, or branch tags that do not rise; a default stands first",
+            "more than 15 arguments or 15 branches, or branch tags that do not rise; a default stands first",
         ),
         (
             "6",

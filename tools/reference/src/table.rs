@@ -4,7 +4,7 @@ use crate::press::{put, term_in};
 use crate::refusal::Refusal;
 use crate::term::{
     abs, app, branch, case, con, num, tags_rise, var, Branch, Term, LARGEST_INDEX, LARGEST_NUMERAL,
-    MOST, TAGS, WORKSPACE,
+    MOST_ARGUMENTS, MOST_BRANCHES, TAGS, WORKSPACE,
 };
 use crate::words::{kind, tag_and_bound, COUNTS};
 
@@ -127,11 +127,11 @@ impl Records {
             (kind::APPLICATION, [function, argument]) => {
                 Some(app(self.term(*function)?, self.term(*argument)?))
             }
-            (kind::CONSTRUCTOR, args) if args.len() <= MOST => {
+            (kind::CONSTRUCTOR, args) if args.len() <= MOST_ARGUMENTS => {
                 let args = args.iter().map(|arg| self.term(*arg));
                 Some(con(record.value, args.collect::<Option<_>>()?))
             }
-            (kind::CASE, [scrutinee, branches @ ..]) if branches.len() <= MOST => {
+            (kind::CASE, [scrutinee, branches @ ..]) if branches.len() <= MOST_BRANCHES => {
                 let scrutinee = self.term(*scrutinee)?;
                 let branches = branches.iter().map(|index| self.branch(*index));
                 let branches: Vec<_> = branches.collect::<Option<_>>()?;

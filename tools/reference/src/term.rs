@@ -6,8 +6,12 @@ use std::ops::RangeInclusive;
 pub const WORKSPACE: RangeInclusive<usize> = 16..=2_048;
 /// Tags of constructors, and of branches other than a default.
 pub const TAGS: RangeInclusive<u32> = 1..=255;
-/// The most arguments, branches or variables bound by a branch.
-pub const MOST: usize = 15;
+/// The most arguments of a constructor.
+pub const MOST_ARGUMENTS: usize = 15;
+/// The most variables that a branch binds.
+pub const MOST_BOUND: usize = 15;
+/// The most branches of a case, a default counted.
+pub const MOST_BRANCHES: usize = 15;
 /// The largest index in a table or a line.
 pub const LARGEST_INDEX: u32 = 32_767;
 /// The largest free number.

@@ -1,7 +1,8 @@
 //! The words of a term in prefix order, and the term of a list of words.
 
 use crate::term::{
-    abs, app, branch, case, con, num, tags_rise, var, Branch, Term, LARGEST_NUMERAL, MOST, TAGS,
+    abs, app, branch, case, con, num, tags_rise, var, Branch, Term, LARGEST_NUMERAL,
+    MOST_ARGUMENTS, MOST_BOUND, MOST_BRANCHES, TAGS,
 };
 
 /// The kind numbers of words and of table records.
@@ -95,11 +96,11 @@ impl Reader<'_> {
             (kind::ABSTRACTION, 0) => Some(abs(self.term()?)),
             (kind::APPLICATION, 0) => Some(app(self.term()?, self.term()?)),
             (kind::CONSTRUCTOR, payload) => {
-                let (tag, count) = tag_and_count(payload)?;
+                let (tag, count) = tag_and_count(payload, MOST_ARGUMENTS)?;
                 let args = (0..count).map(|_| self.term()).collect::<Option<_>>()?;
                 Some(con(tag, args))
             }
-            (kind::CASE, count) if count as usize <= MOST => {
+            (kind::CASE, count) if count as usize <= MOST_BRANCHES => {
                 let scrutinee = self.term()?;
                 let branches = (0..count)
                     .map(|_| self.branch())
@@ -122,17 +123,16 @@ impl Reader<'_> {
     }
 }
 
-/// The two numbers in a constructor's payload; the count is within its limit
-/// by the division.
-fn tag_and_count(payload: u32) -> Option<(u32, u32)> {
-    let tag = payload / COUNTS;
-    TAGS.contains(&tag).then_some((tag, payload % COUNTS))
+/// The two numbers in a payload, if both are within their limits.
+fn tag_and_count(payload: u32, most: usize) -> Option<(u32, u32)> {
+    let (tag, count) = (payload / COUNTS, payload % COUNTS);
+    (TAGS.contains(&tag) && count as usize <= most).then_some((tag, count))
 }
 
 /// The two numbers in a branch's payload; those of a default are both 0.
 pub fn tag_and_bound(payload: u32) -> Option<(u32, u32)> {
     match payload {
         0 => Some((0, 0)),
-        _ => tag_and_count(payload),
+        _ => tag_and_count(payload, MOST_BOUND),
     }
 }

@@ -11,8 +11,14 @@ pub const MAX_FREE: u32 = 255;
 /// Tags of constructors, and of branches other than a default, which has tag 0 and binds nothing.
 pub const TAGS: RangeInclusive<u32> = 1..=255;
 
-/// The most arguments, branches, or variables bound by a branch.
-pub const MAX_COUNT: u32 = 15;
+/// The most arguments of a constructor.
+pub const MAX_ARGUMENTS: u32 = 15;
+
+/// The most variables that a branch binds.
+pub const MAX_BOUND: u32 = 15;
+
+/// The most branches of a case, a default counted.
+pub const MAX_BRANCHES: u32 = 15;
 
 /// The largest index in a table.
 pub const MAX_INDEX: u32 = 32_767;

@@ -3,7 +3,7 @@
 use std::str::FromStr;
 
 use crate::draft::Draft;
-use crate::limits::{MAX_COUNT, MAX_INDEX, MAX_NUMERAL};
+use crate::limits::{MAX_BOUND, MAX_INDEX, MAX_NUMERAL};
 use crate::term::{Node, Term};
 use crate::text::{any_of, number, quoted, Cursor, TextError};
 use crate::word::COUNTS;
@@ -206,7 +206,7 @@ impl Reader<'_> {
         }
         let tag = self.number("a branch's tag", u32::MAX / COUNTS)?;
         self.expect('.', "`.` and a bound count")?;
-        Ok((tag, self.number("a bound count", MAX_COUNT)?))
+        Ok((tag, self.number("a bound count", MAX_BOUND)?))
     }
 
     fn open(&mut self, within: Within) {

@@ -51,7 +51,7 @@ impl Node {
 }
 
 /// A whole term that a table can hold: every index is at most `MAX_INDEX`, every numeral at most
-/// `MAX_NUMERAL`, every bound count at most `MAX_COUNT`, and a branch's tag × 16 + bound fits 32 bits.
+/// `MAX_NUMERAL`, every bound count at most `MAX_BOUND`, and a branch's tag × 16 + bound fits 32 bits.
 #[derive(Clone, Debug, PartialEq, Eq)]
 pub struct Term {
     /// In prefix order.

@@ -2,7 +2,7 @@
 
 use std::fmt;
 
-use crate::limits::{MAX_COUNT, MAX_INDEX, MAX_NUMERAL};
+use crate::limits::{MAX_ARGUMENTS, MAX_BOUND, MAX_INDEX, MAX_NUMERAL};
 use crate::term::{Node, Term};
 use crate::word::*;
 
@@ -21,15 +21,15 @@ impl fmt::Display for WordError {
 }
 
 impl Term {
-    /// The words of the term. A table holds more than they do: over 15 arguments of a constructor,
-    /// and tags too large for a payload.
+    /// The words of the term. A table holds more than they do: over `MAX_ARGUMENTS` arguments of
+    /// a constructor, and tags too large for a payload.
     pub fn words(&self) -> Result<Vec<u32>, WordError> {
         let word = |(position, node): (usize, &Node)| {
             word(*node).ok_or_else(|| WordError {
                 place: position + 1,
                 reason: match node {
-                    Node::Constructor { arguments, .. } if *arguments > MAX_COUNT as usize => {
-                        format!("no word holds {arguments} arguments, only up to {MAX_COUNT}")
+                    Node::Constructor { arguments, .. } if *arguments > MAX_ARGUMENTS as usize => {
+                        format!("no word holds {arguments} arguments, only up to {MAX_ARGUMENTS}")
                     }
                     _ => "its tag is too large for a word".to_string(),
                 },
@@ -67,18 +67,18 @@ fn word(node: Node) -> Option<u32> {
         Node::Abstraction | Node::Application => 0,
         Node::Constructor { tag, arguments } => {
             let arguments = u32::try_from(arguments).ok()?;
-            checked(tag, arguments)?
+            checked(tag, arguments, MAX_ARGUMENTS)?
         }
         Node::Case { branches } => u32::try_from(branches).ok()?,
-        Node::Branch { tag, bound } => checked(tag, bound)?,
+        Node::Branch { tag, bound } => checked(tag, bound, MAX_BOUND)?,
         Node::Numeral { value } => value,
     };
     payload.checked_mul(KINDS)?.checked_add(node.kind())
 }
 
 /// A tag beside a count, if there is room for both.
-fn checked(tag: u32, count: u32) -> Option<u32> {
-    if count > MAX_COUNT {
+fn checked(tag: u32, count: u32, most: u32) -> Option<u32> {
+    if count > most {
         return None;
     }
     tag.checked_mul(COUNTS)?.checked_add(count)

@@ -1,6 +1,8 @@
 //! Loading a stored table of form 1.
 
-use unit::limits::{MAX_COUNT, MAX_FREE, MAX_INDEX, MAX_NUMERAL, TAGS, WORKSPACE};
+use unit::limits::{
+    MAX_ARGUMENTS, MAX_BOUND, MAX_BRANCHES, MAX_FREE, MAX_INDEX, MAX_NUMERAL, TAGS, WORKSPACE,
+};
 use unit::word::*;
 use unit::{FORM, RECORD};
 
@@ -88,11 +90,16 @@ fn value_fits(record: Record) -> bool {
     match record.kind {
         VARIABLE => record.value <= MAX_INDEX,
         CONSTRUCTOR => TAGS.contains(&record.value),
-        BRANCH => record.value == 0 || TAGS.contains(&tag(record.value)),
+        BRANCH => record.value == 0 || is_pattern(record.value),
         ABSTRACTION | APPLICATION | CASE => record.value == 0,
         NUMERAL => record.value <= MAX_NUMERAL,
         _ => false,
     }
+}
+
+/// Whether a branch other than a default may have the value.
+fn is_pattern(value: u32) -> bool {
+    TAGS.contains(&tag(value)) && count(value) <= MAX_BOUND
 }
 
 /// Whether links lead forward and name every record once.
@@ -136,8 +143,8 @@ fn children_fit(table: &Table, record: Record) -> bool {
         VARIABLE | NUMERAL => children == 0,
         ABSTRACTION | BRANCH => children == 1,
         APPLICATION => children == 2,
-        CONSTRUCTOR => children <= MAX_COUNT,
-        _ => (1..=MAX_COUNT + 1).contains(&children),
+        CONSTRUCTOR => children <= MAX_ARGUMENTS,
+        _ => (1..=MAX_BRANCHES + 1).contains(&children),
     }
 }
 

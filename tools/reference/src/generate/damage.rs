@@ -8,7 +8,10 @@ use crate::generate::terms::{replace, subterms, term, Style};
 use crate::random::Random;
 use crate::refusal::Refusal;
 use crate::table::{LONGEST_TABLE, MOST_RECORDS, RECORD};
-use crate::term::{var, Term, LARGEST_FREE, LARGEST_INDEX, LARGEST_NUMERAL, MOST};
+use crate::term::{
+    var, Term, LARGEST_FREE, LARGEST_INDEX, LARGEST_NUMERAL, MOST_ARGUMENTS, MOST_BOUND,
+    MOST_BRANCHES,
+};
 use crate::words::{kind, word, COUNTS};
 
 /// The faults that a table can have, in the order in which loading looks for
@@ -85,7 +88,7 @@ fn planted_default(random: &mut Random, fault: Fault, most: usize) -> Node {
         let part = match fault {
             Fault::Binds => binding_tag_0(random),
             Fault::Constructor => {
-                let count = random.pick(&[0, 1, 2, MOST]);
+                let count = random.pick(&[0, 1, 2, MOST_ARGUMENTS]);
                 node(kind::CONSTRUCTOR, 0, vec![leaf(); count])
             }
             Fault::Place => misplaced_default(random),
@@ -99,8 +102,8 @@ fn planted_default(random: &mut Random, fault: Fault, most: usize) -> Node {
 
 /// A case with a branch of tag 0 that binds something.
 fn binding_tag_0(random: &mut Random) -> Node {
-    let any = random.between(1, MOST) as u32;
-    let bound = random.pick(&[1, any, MOST as u32]);
+    let any = random.between(1, MOST_BOUND) as u32;
+    let bound = random.pick(&[1, any, MOST_BOUND as u32]);
     let mut branches = vec![arm(0, bound)];
     branches.extend(random.percent(50).then(|| arm(2, bound)));
     case_with(branches)
@@ -159,7 +162,7 @@ fn faulty_forest(random: &mut Random, faults: &[Refusal], capacity: usize) -> Ve
     match random.below(15) {
         0 => vec![root, leaf()],
         1 => vec![root, arm(1, 0)],
-        2 | 3 if size > MOST + 2 => long_chain(random, size),
+        2 | 3 if size > MOST_BRANCHES + 2 => long_chain(random, size),
         _ => {
             let place = random.below(subterms(&host).len());
             let part = malformed(random);
@@ -205,7 +208,7 @@ fn case_with(children: Vec<Node>) -> Node {
 /// A part with a wrong number or kind of children or of tags; the place it
 /// is put in is right for a term.
 fn malformed(random: &mut Random) -> Node {
-    let many = random.pick(&[MOST + 1, MOST + 1, MOST + 2]);
+    let more = random.pick(&[1, 1, 2]);
     let inner = |children| node(kind::BRANCH, COUNTS, children);
     match random.below(36) {
         0 => node(kind::VARIABLE, 0, vec![leaf()]),
@@ -217,17 +220,17 @@ fn malformed(random: &mut Random) -> Node {
         6 => node(kind::APPLICATION, 0, vec![leaf(), leaf(), leaf()]),
         7 => node(kind::APPLICATION, 0, vec![arm(1, 0), leaf()]),
         8 => node(kind::APPLICATION, 0, vec![leaf(), arm(1, 0)]),
-        9 | 23 | 24 => node(kind::CONSTRUCTOR, 1, vec![leaf(); many]),
+        9 | 23 | 24 => node(kind::CONSTRUCTOR, 1, vec![leaf(); MOST_ARGUMENTS + more]),
         10 => node(kind::CONSTRUCTOR, 1, vec![leaf(), arm(1, 0), leaf()]),
         11 => node(kind::CASE, 0, Vec::new()),
         12 => node(kind::CASE, 0, arms(&[1, 2])),
         13 => case_with(vec![leaf()]),
         14 => case_with(vec![arm(1, 0), leaf()]),
-        15 | 25 | 26 => case_with((1..=many as u32).map(|tag| arm(tag, 0)).collect()),
+        15 | 25 | 26 => case_with(rising(1, MOST_BRANCHES + more)),
         16 => case_with(arms(&[3, 3])),
         17 => case_with(vec![arm(3, 0), arm(3, 1)]),
         18 => case_with(arms(&[1, 3, 2])),
-        19 => case_with(vec![arm(4, 0), arm(3, 15)]),
+        19 => case_with(vec![arm(4, 0), arm(3, MOST_BOUND as u32)]),
         20 => case_with(vec![inner(Vec::new())]),
         21 => case_with(vec![inner(vec![leaf(), leaf()])]),
         22 => case_with(vec![inner(arms(&[2]))]),
@@ -236,13 +239,15 @@ fn malformed(random: &mut Random) -> Node {
         30 => case_with(vec![node(kind::NUMERAL, COUNTS, Vec::new())]),
         31 | 32 => misplaced_default(random),
         // A default and as many others as a case has branches.
-        33 | 34 => case_with(arms(&RISING)),
+        33 | 34 => case_with(rising(0, MOST_BRANCHES + 1)),
         _ => arm(1, 0),
     }
 }
 
-/// Tags of sixteen branches, a default's first.
-const RISING: [u32; MOST + 1] = [0, 1, 2, 3, 4, 5, 6, 7, 8, 9, 10, 11, 12, 13, 14, 15];
+/// So many branches, of the tags from the first on.
+fn rising(first: u32, count: usize) -> Vec<Node> {
+    (first..).take(count).map(|tag| arm(tag, 0)).collect()
+}
 
 /// A case with a default that is not first, or with a second one.
 fn misplaced_default(random: &mut Random) -> Node {
@@ -347,7 +352,14 @@ fn break_value(random: &mut Random, words: &mut [u32]) {
     words[own + 1] = match words[own] {
         kind::VARIABLE => random.pick(&[LARGEST_INDEX + 1, LARGEST_INDEX + 2, large]),
         kind::CONSTRUCTOR => random.pick(&[0, 256, 257, large]),
-        kind::BRANCH => random.pick(&[1, 2, 15, 256 * COUNTS, 256 * COUNTS + 1, large]),
+        kind::BRANCH => random.pick(&[
+            1,
+            2,
+            MOST_BOUND as u32,
+            256 * COUNTS,
+            256 * COUNTS + 1,
+            large,
+        ]),
         kind::NUMERAL if random.percent(70) => large_numeral(random),
         kind::NUMERAL => large,
         _ => random.pick(&[1, COUNTS, large]),
@@ -461,7 +473,10 @@ pub fn changed_word(random: &mut Random, old: u32) -> u32 {
         kind::VARIABLE => random.pick(&[word + 8 * 256, u32::MAX - 7, 5 + unit, 3 + unit]),
         kind::ABSTRACTION | kind::APPLICATION => random.pick(&[word + 8, word + unit, 0, word ^ 3]),
         kind::CONSTRUCTOR => random.pick(&[tag, tag, word + 8, word + 2]),
-        kind::CASE => random.pick(&[word + 8, word + unit, 4 + 8 * 16, word + 1]),
+        kind::CASE => {
+            let many = kind::CASE + 8 * (MOST_BRANCHES as u32 + 1);
+            random.pick(&[word + 8, word + unit, many, word + 1])
+        }
         kind::NUMERAL => wrong_numeral(random),
         _ => random.pick(&[tag, tag, tag, 15 * unit + 5, 5 + unit, 0]),
     };

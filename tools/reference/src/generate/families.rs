@@ -5,7 +5,7 @@ use crate::contraction::church;
 use crate::random::Random;
 use crate::term::{
     abs, app, branch, case, con, default, num, var, Branch, Term, LARGEST_FREE, LARGEST_NUMERAL,
-    MOST, TAGS, WORKSPACE,
+    MOST_ARGUMENTS, MOST_BOUND, MOST_BRANCHES, TAGS, WORKSPACE,
 };
 
 /// A function applied to arguments one after the other.
@@ -281,7 +281,7 @@ pub fn numerals(random: &mut Random) -> (Term, Term) {
         1 | 2 | 11 => (num(n), num(other % (LARGEST_NUMERAL + 1))),
         3..=5 => numerals_applied(random, n, other),
         6 => {
-            let count = random.pick(&[2, 3, MOST]);
+            let count = random.pick(&[2, 3, MOST_ARGUMENTS]);
             let right = (0..count).map(|_| natural(random, other)).collect();
             (con(7, vec![num(n); count]), con(7, right))
         }
@@ -364,9 +364,9 @@ fn spare(random: &mut Random) -> Term {
     }
 }
 
-/// Up to fifteen terms that may be dropped.
+/// Terms that may be dropped, at most as many as a constructor has arguments.
 fn spares(random: &mut Random) -> Vec<Term> {
-    let count = random.pick(&[0, 0, 1, 2, MOST]);
+    let count = random.pick(&[0, 0, 1, 2, MOST_ARGUMENTS]);
     (0..count).map(|_| spare(random)).collect()
 }
 
@@ -375,7 +375,7 @@ fn spares(random: &mut Random) -> Vec<Term> {
 fn default_around(random: &mut Random, body: Term) -> Term {
     let any = random.between(1, *TAGS.end() as usize) as u32;
     let tag = random.pick(&[1, 2, 3, any, *TAGS.end()]);
-    let others = random.pick(&[0, 0, 1, 2, MOST - 1]);
+    let others = random.pick(&[0, 0, 1, 2, MOST_BRANCHES - 1]);
     let subject = con(tag, spares(random));
     let tags = TAGS.filter(|other| *other != tag).take(others);
     let mut arms = vec![default(body)];
@@ -394,8 +394,8 @@ pub fn stuck_default(random: &mut Random) -> (Term, Term) {
         Term::Num(_) => church(n),
         _ => var(free),
     };
-    let count = random.pick(&[0, 1, 2, MOST]);
-    let bound = (count + random.between(1, 3)) % (MOST + 1);
+    let count = random.pick(&[0, 1, 2, MOST_ARGUMENTS]);
+    let bound = (count + random.between(1, 3)) % (MOST_BOUND + 1);
     let subject = match random.below(8) {
         0 => var(free),
         1 => abs(var(0)),
@@ -418,7 +418,15 @@ pub fn stuck_default(random: &mut Random) -> (Term, Term) {
 /// place.
 pub fn deep(random: &mut Random, size: usize) -> Term {
     let way = random.below(7);
-    let (per_level, bound) = [(1, 1), (1, 0), (1, 0), (2, 0), (2, 0), (3, MOST), (2, 0)][way];
+    let (per_level, bound) = [
+        (1, 1),
+        (1, 0),
+        (1, 0),
+        (2, 0),
+        (2, 0),
+        (3, MOST_BOUND),
+        (2, 0),
+    ][way];
     let (redex, numeral) = random.pick(&[(false, false), (true, false), (false, true)]);
     let outside = size - if redex { 4 } else { 1 };
     let (levels, rest) = (outside / per_level, outside % per_level);
@@ -434,7 +442,7 @@ pub fn deep(random: &mut Random, size: usize) -> Term {
         2 => case(term, Vec::new()),
         3 => app(term, var(0)),
         4 => app(var(0), term),
-        5 => case(var(0), vec![branch(1, MOST as u32, term)]),
+        5 => case(var(0), vec![branch(1, MOST_BOUND as u32, term)]),
         _ => con(2, vec![var(0), term]),
     })
 }

@@ -6,7 +6,10 @@ use crate::generate::families::identities;
 use crate::generate::pairs::{expanded, named};
 use crate::generate::terms::{replace, subterms, term, variable, Style};
 use crate::random::Random;
-use crate::term::{abs, app, branch, case, con, default, var, Branch, Term, MOST, TAGS};
+use crate::term::{
+    abs, app, branch, case, con, default, var, Branch, Term, MOST_ARGUMENTS, MOST_BOUND,
+    MOST_BRANCHES, TAGS,
+};
 
 /// A pair of accepted terms whose normal forms most often differ, and late.
 pub fn pair(random: &mut Random) -> (Term, Term) {
@@ -80,7 +83,7 @@ fn stuck(term: &Term) -> Term {
 fn stuck_subject(branches: &[Branch]) -> Term {
     match branches {
         [first, .., last] if first.is_default() => {
-            let count = (last.bound as usize + 1) % (MOST + 1);
+            let count = (last.bound as usize + 1) % (MOST_ARGUMENTS + 1);
             con(last.tag, vec![var(0); count])
         }
         _ => var(0),
@@ -135,7 +138,7 @@ fn place(random: &mut Random, parts: &[(&Term, u32)]) -> usize {
 fn other_constructor(random: &mut Random, tag: u32, args: &[Term]) -> Term {
     let mut args = args.to_vec();
     match random.below(3) {
-        0 if args.len() < MOST => args.push(var(0)),
+        0 if args.len() < MOST_ARGUMENTS => args.push(var(0)),
         1 if !args.is_empty() => args.truncate(args.len() - 1),
         _ => return con(tag % TAGS.end() + 1, args),
     }
@@ -153,13 +156,13 @@ fn other_branches(random: &mut Random, branches: &[Branch]) -> Vec<Branch> {
     let has_default = branches.iter().any(Branch::is_default) || last.is_default();
     match random.below(9) {
         0..=2 if tag < *TAGS.end() => branches.push(branch(tag + 1, bound, last.body)),
-        3..=5 if bound < MOST as u32 && !last.is_default() => {
+        3..=5 if bound < MOST_BOUND as u32 && !last.is_default() => {
             branches.push(branch(tag, bound + 1, last.body));
         }
-        6 if tag < *TAGS.end() && branches.len() + 1 < MOST => {
+        6 if tag < *TAGS.end() && branches.len() + 1 < MOST_BRANCHES => {
             branches.extend([last, branch(tag + 1, 0, var(0))]);
         }
-        7 if !has_default && branches.len() + 1 < MOST => {
+        7 if !has_default && branches.len() + 1 < MOST_BRANCHES => {
             branches.insert(0, default(var(0)));
             branches.push(last);
         }

@@ -8,7 +8,9 @@ use crate::generate::near;
 use crate::generate::terms::{numeral, replace, size, subterms, term, variable, Style};
 use crate::press::{Verdict, LARGEST_BUDGET};
 use crate::random::Random;
-use crate::term::{abs, app, branch, case, con, default, var, Term, MOST, WORKSPACE};
+use crate::term::{
+    abs, app, branch, case, con, default, var, Term, MOST_ARGUMENTS, MOST_BOUND, WORKSPACE,
+};
 
 /// Two terms, a budget and a workspace length that holds both.
 #[derive(Clone, Debug)]
@@ -291,7 +293,7 @@ fn redex(random: &mut Random, binders: u32, style: Style) -> Term {
     let count = if beta {
         1
     } else {
-        random.pick(&[0, 1, 2, 2, 3, 4, MOST as u32])
+        random.pick(&[0, 1, 2, 2, 3, 4, MOST_ARGUMENTS as u32])
     };
     let args: Vec<Term> = (0..count)
         .map(|_| {
@@ -308,7 +310,7 @@ fn redex(random: &mut Random, binders: u32, style: Style) -> Term {
         return families::apply(abs(body), args);
     }
     // Now and then the branch binds another number, which makes it stuck.
-    let bound = (count + u32::from(random.percent(10))).min(MOST as u32);
+    let bound = (count + u32::from(random.percent(10))).min(MOST_BOUND as u32);
     case(con(2, args), vec![branch(2, bound, body)])
 }
 
@@ -318,14 +320,14 @@ fn default_redex(random: &mut Random, args: Vec<Term>, binders: u32, style: Styl
     let body = redex_body(random, binders, style);
     let count = args.len() as u32;
     let tag = random.pick(&[1, 2, 2, 2]);
-    let other = branch(1, (count + 1) % (MOST as u32 + 1), var(0));
+    let other = branch(1, (count + 1) % (MOST_BOUND as u32 + 1), var(0));
     case(con(tag, args), vec![default(body), other])
 }
 
 /// Any term, or a case of one whose branch binds several variables.
 fn redex_body(random: &mut Random, binders: u32, style: Style) -> Term {
     let size = random.between(1, 20);
-    let bound = random.pick(&[0, 0, 2, 3, MOST as u32]);
+    let bound = random.pick(&[0, 0, 2, 3, MOST_BOUND as u32]);
     if bound == 0 {
         return term(random, size, binders, style);
     }

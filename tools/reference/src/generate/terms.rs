@@ -2,8 +2,8 @@
 
 use crate::random::Random;
 use crate::term::{
-    abs, app, branch, case, con, num, var, Branch, Term, LARGEST_FREE, LARGEST_NUMERAL, MOST, TAGS,
-    WORKSPACE,
+    abs, app, branch, case, con, num, var, Branch, Term, LARGEST_FREE, LARGEST_NUMERAL,
+    MOST_ARGUMENTS, MOST_BOUND, MOST_BRANCHES, TAGS, WORKSPACE,
 };
 
 /// What a random term is rich in, each in per cent.
@@ -129,7 +129,7 @@ fn count(random: &mut Random, most: usize) -> usize {
 
 /// Strictly rising tags for `count` branches, now and then up to the largest.
 fn rising_tags(random: &mut Random, count: usize) -> Vec<u32> {
-    let widest = random.pick(&[1, 1, *TAGS.end() as usize / MOST]);
+    let widest = random.pick(&[1, 1, *TAGS.end() as usize / MOST_BRANCHES]);
     let mut last = 0;
     let mut tags: Vec<u32> = (0..count)
         .map(|_| {
@@ -167,8 +167,8 @@ fn tag_for(random: &mut Random, branch: u32, tags: &[u32]) -> u32 {
 }
 
 fn constructor(random: &mut Random, size: usize, binders: u32, style: Style) -> Term {
-    let args = count(random, MOST.min(size - 2)) + 1;
-    let sizes = split(random, size - 1, args.min(MOST));
+    let args = count(random, MOST_ARGUMENTS.min(size - 2)) + 1;
+    let sizes = split(random, size - 1, args.min(MOST_ARGUMENTS));
     let tag = tag(random);
     con(tag, terms(random, &sizes, binders, style))
 }
@@ -182,11 +182,11 @@ fn terms(random: &mut Random, sizes: &[usize], binders: u32, style: Style) -> Ve
 
 /// A case of any scrutinee; a fitting branch is there only by chance.
 fn any_case(random: &mut Random, size: usize, binders: u32, style: Style) -> Term {
-    let count = count(random, MOST.min((size - 2) / 2));
+    let count = count(random, MOST_BRANCHES.min((size - 2) / 2));
     let sizes = split(random, size - 1 - count, count + 1);
     let scrutinee = term(random, sizes[0], binders, style);
     let bounds: Vec<u32> = (0..count)
-        .map(|_| random.pick(&[0, 0, 1, 1, 2, 3, MOST as u32]))
+        .map(|_| random.pick(&[0, 0, 1, 1, 2, 3, MOST_BOUND as u32]))
         .collect();
     let tags = branch_tags(random, count, style);
     case(
@@ -229,7 +229,7 @@ fn redex(random: &mut Random, size: usize, binders: u32, style: Style, data: boo
 /// A case of a constructor with a default for it or a branch of its tag, whose
 /// bound count is now and then another, which makes the case stuck.
 fn case_redex(random: &mut Random, size: usize, binders: u32, style: Style) -> Term {
-    let args = count(random, MOST.min(size - 4));
+    let args = count(random, MOST_ARGUMENTS.min(size - 4));
     let branches = 1 + count(random, 2.min((size - 4 - args) / 2));
     let sizes = split(random, size - 2 - branches, args + branches);
     let tags = branch_tags(random, branches, style);

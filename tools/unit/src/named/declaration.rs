@@ -6,7 +6,7 @@ use super::lexer::{quoted_word, Kind, Lexer, Token};
 use super::near::is_near;
 use super::reader::Reader;
 use super::{Declared, Meaning, NameError, Names, MAX_DEFINED};
-use crate::limits::{MAX_COUNT, TAGS};
+use crate::limits::{MAX_ARGUMENTS, TAGS};
 
 /// Reads a declaration and adds it to the names.
 pub(super) fn read(names: &mut Names, line: &str, number: usize) -> Result<(), NameError> {
@@ -125,7 +125,9 @@ fn add_constructors(
         let tag_token = lexer.next()?;
         let tag = tag_token.number("a tag", *TAGS.end())?;
         expect(&mut lexer, '.')?;
-        let count = lexer.next()?.number("a count of arguments", MAX_COUNT)?;
+        let count = lexer
+            .next()?
+            .number("a count of arguments", MAX_ARGUMENTS)?;
         test_tag(names, tag_token, tag)?;
         let meaning = Meaning::Constructor {
             tag,

@@ -2,13 +2,13 @@
 
 use std::ops::Range;
 
-use unit::limits::MAX_COUNT;
+use unit::limits::MAX_ARGUMENTS;
 use unit::word::*;
 
 use super::words::{skip, Binders};
 
 /// Room for the starts of a redex's arguments and the end of the last.
-const PLACES: usize = MAX_COUNT as usize + 1;
+const PLACES: usize = MAX_ARGUMENTS as usize + 1;
 
 /// A redex by its rule.
 pub enum Redex {

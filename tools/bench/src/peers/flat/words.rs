@@ -1,6 +1,8 @@
 //! Words of a term, their extent, and the check that words are one whole term.
 
-use unit::limits::{MAX_COUNT, MAX_FREE, MAX_NUMERAL, TAGS, WORKSPACE};
+use unit::limits::{
+    MAX_ARGUMENTS, MAX_BOUND, MAX_BRANCHES, MAX_FREE, MAX_NUMERAL, TAGS, WORKSPACE,
+};
 use unit::word::*;
 
 /// The most words in a workspace.
@@ -177,9 +179,9 @@ fn in_range(word: u32) -> bool {
     match kind(word) {
         VARIABLE => true,
         ABSTRACTION | APPLICATION => payload == 0,
-        CONSTRUCTOR => TAGS.contains(&tag(payload)),
-        BRANCH => payload == 0 || TAGS.contains(&tag(payload)),
-        CASE => payload <= MAX_COUNT,
+        CONSTRUCTOR => TAGS.contains(&tag(payload)) && count(payload) <= MAX_ARGUMENTS,
+        BRANCH => payload == 0 || TAGS.contains(&tag(payload)) && count(payload) <= MAX_BOUND,
+        CASE => payload <= MAX_BRANCHES,
         NUMERAL => payload <= MAX_NUMERAL,
         _ => false,
     }
