@@ -12,152 +12,62 @@ use crate::verdict::Outcome;
 use std::collections::BTreeMap;
 use std::fmt;
 
-/// Verdicts and refusals that the verdict program can give, and the parts that
-/// numerals and defaults have in them.
-const VERDICT_KINDS: [&str; 29] = [
-    "verdict: Same",
-    "verdict: Different",
-    "verdict: Budget",
-    "verdict: Full",
-    "verdict: Refused 1",
-    "verdict: Refused 2",
-    "verdict: Refused 3",
-    "verdict: Refused 4",
-    "verdict: Refused 5",
-    "verdict: Refused 6",
-    "verdict: Refused 7",
-    "verdict: Refused 8",
-    "verdict: Refused 9",
-    "verdict: Input",
-    "verdict, load of a numeral",
-    "verdict, load refused 3 by a numeral",
-    "verdict, load refused 5 by a numeral",
-    "verdict, press contracts a numeral",
-    "verdict, press Full by a numeral",
-    "verdict, load of a default",
-    "verdict, load refused 3 by a branch of tag 0 that binds",
-    "verdict, load refused 3 by a constructor of tag 0",
-    "verdict, load refused 5 by the place of a default",
-    "verdict, press Same with a default taken",
-    "verdict, press Different with a default taken",
-    "verdict, press Budget with a default taken",
-    "verdict, press Full with a default taken",
-    "verdict, press Different with a default and another count",
-    "verdict, press Different with a default and no constructor",
+/// Verdicts and refusals that the verdict program can give.
+const VERDICT_KINDS: &[&str] = &[
+    "verdict: {Same|Different|Budget|Full|Input}",
+    "verdict: Refused {1|2|3|4|5|6|7|8|9}",
 ];
 
-/// Answers that the calls of a script can give, the parts that numerals and
+/// The parts that numerals and defaults have in the answers of either program.
+const KINDS_OF_BOTH: &[&str] = &[
+    "load of a {numeral|default}",
+    "load refused {3|5} by a numeral",
+    "load refused 3 by a {branch of tag 0 that binds|constructor of tag 0}",
+    "load refused 5 by the place of a default",
+    "press {contracts|Full by} a numeral",
+    "press {Same|Different|Budget|Full} with a default taken",
+    "press Different with a default and {another count|no constructor}",
+];
+
+/// Answers that the calls of a script can give, the other parts that numerals and
 /// defaults have in them, what decides showings, imports and exports, and the
 /// faults of lines.
-const REPLAY_KINDS: [&str; 107] = [
-    "replay: load",
-    "replay: load refused 1",
-    "replay: load refused 2",
-    "replay: load refused 3",
-    "replay: load refused 4",
-    "replay: load refused 5",
-    "replay: load refused 6",
-    "replay: load refused 7",
-    "replay: load refused 8",
-    "replay: press Same",
-    "replay: press Different",
-    "replay: press Budget",
-    "replay: press Full",
-    "replay: press refused 7",
-    "replay: press refused 9",
-    "replay: press refused 10",
-    "replay: show Left",
-    "replay: show Right",
-    "replay: show refused",
-    "replay: write",
-    "replay: write refused 1",
-    "replay: write refused 7",
-    "replay: write refused 10",
-    "replay: set session",
-    "replay: store",
-    "replay: print",
-    "replay: line",
-    "replay: line refused 6",
-    "replay: line refused 7",
-    "replay: line refused 8",
-    "replay: line refused 11",
-    "replay: import",
-    "replay: import refused 7",
-    "replay: import refused 8",
-    "replay: import refused 12",
-    "replay: import refused 13",
-    "replay: export",
-    "replay: export refused 7",
-    "replay: export refused 8",
-    "replay: export refused 10",
-    "replay: export refused 13",
-    "replay: Script",
-    "replay, load of a numeral",
-    "replay, load refused 3 by a numeral",
-    "replay, load refused 5 by a numeral",
-    "replay, press contracts a numeral",
-    "replay, press Full by a numeral",
-    "replay, press refused 10 by a numeral",
-    "replay, show of a numeral",
-    "replay, show refused by a numeral",
-    "replay, write of a numeral",
-    "replay, write refused 10 by a numeral",
-    "replay, load of a default",
-    "replay, load refused 3 by a branch of tag 0 that binds",
-    "replay, load refused 3 by a constructor of tag 0",
-    "replay, load refused 5 by the place of a default",
-    "replay, press Same with a default taken",
-    "replay, press Different with a default taken",
-    "replay, press Budget with a default taken",
-    "replay, press Full with a default taken",
-    "replay, press Different with a default and another count",
-    "replay, press Different with a default and no constructor",
-    "replay, press refused 10 by a branch of tag 0 that binds",
-    "replay, press refused 10 by a constructor of tag 0",
+const REPLAY_KINDS: &[&str] = &[
+    "replay: {load|write|line|import|export|set session|store|print|Script}",
+    "replay: load refused {1|2|3|4|5|6|7|8}",
+    "replay: press {Same|Different|Budget|Full|refused 7|refused 9|refused 10}",
+    "replay: show {Left|Right|refused}",
+    "replay: write refused {1|7|10}",
+    "replay: line refused {6|7|8|11}",
+    "replay: import refused {7|8|12|13}",
+    "replay: export refused {7|8|10|13}",
+    "replay, press refused 10 by a {numeral|branch of tag 0 that binds|constructor of tag 0}",
     "replay, press refused 10 by the place of a default",
-    "replay, show of a default",
-    "replay, write of a default",
-    "replay, show Left, shorter by one word",
-    "replay, show Left, shorter by more words",
-    "replay, show Right, shorter by one word",
-    "replay, show Right, shorter by more words",
-    "replay, show Right at equal lengths",
-    "replay, show Right of equal words",
-    "replay, show refused at equal lengths",
-    "replay, line refused 11 by its length",
-    "replay, line refused 11 by a byte",
-    "replay, line refused 11 by a number",
-    "replay, line refused 11 by a space",
-    "replay, line refused 11 by a parenthesis",
-    "replay, line refused 11 by a missing item",
-    "replay, import of C words",
-    "replay, import with bytes to spare",
-    "replay, import of a run of 64 ones or more",
-    "replay, import of a run up to a multiple of 64 bits",
-    "replay, import of what is exported",
-    "replay, import refused 12 by a count past the bytes",
-    "replay, import refused 12 by an early end",
-    "replay, import refused 12 by bits left over",
-    "replay, import refused 12 by the padding",
-    "replay, import refused 8 by one word",
-    "replay, import refused 13 by one binder",
-    "replay, import refused 7, not 12",
-    "replay, import refused 12, not 8",
-    "replay, import refused 12, not 13",
-    "replay, import refused 8, not 13",
-    "replay, export into bytes just enough",
-    "replay, export with bytes to spare",
-    "replay, export of a run of 64 ones or more",
-    "replay, export refused 8 by one byte",
-    "replay, export refused 13 by a free variable",
-    "replay, export refused 13 by a constructor",
-    "replay, export refused 13 by a case",
-    "replay, export refused 13 by a numeral",
-    "replay, export refused 7, not 10",
-    "replay, export refused 10, not 13",
-    "replay, export refused 10, not 8",
-    "replay, export refused 13, not 8",
+    "replay, {show|write} of a {numeral|default}",
+    "replay, {show refused|write refused 10} by a numeral",
+    "replay, show {Left|Right}, shorter by {one word|more words}",
+    "replay, show {Right at equal lengths|Right of equal words|refused at equal lengths}",
+    "replay, line refused 11 by {its length|a byte|a number|a space|a parenthesis|a missing item}",
+    "replay, import {of C words|with bytes to spare|of what is exported}",
+    "replay, import of a run {of 64 ones or more|up to a multiple of 64 bits}",
+    "replay, import refused 12 by {a count past the bytes|an early end|bits left over|the padding}",
+    "replay, import refused {8 by one word|13 by one binder}",
+    "replay, import refused {7, not 12|12, not 8|12, not 13|8, not 13}",
+    "replay, export {into bytes just enough|with bytes to spare|of a run of 64 ones or more}",
+    "replay, export refused {8 by one byte|7, not 10|10, not 13|10, not 8|13, not 8}",
+    "replay, export refused 13 by a {free variable|constructor|case|numeral}",
 ];
+
+/// All texts of a pattern, in which `{one|other}` stands for either.
+pub fn expanded(pattern: &str) -> Vec<String> {
+    let Some((before, rest)) = pattern.split_once('{') else {
+        return vec![pattern.to_string()];
+    };
+    let (choices, rest) = rest.split_once('}').expect("a brace is closed");
+    let ends = expanded(rest);
+    let with = |choice| ends.iter().map(move |end| format!("{before}{choice}{end}"));
+    choices.split('|').flat_map(with).collect()
+}
 
 /// Each kind of answer has to be seen once in so many cases.
 const CASES_PER_KIND: usize = 40;
@@ -254,12 +164,17 @@ impl Tally {
         };
         let mut needed = Vec::new();
         for (compared, program, kinds) in [
-            (halves.verdict, "verdict", &VERDICT_KINDS[..]),
-            (halves.replay, "replay", &REPLAY_KINDS),
+            (halves.verdict, "verdict", VERDICT_KINDS),
+            (halves.replay, "replay", REPLAY_KINDS),
         ] {
             if compared {
+                let of_both = KINDS_OF_BOTH.iter().flat_map(|kinds| expanded(kinds));
+                let of_both = of_both.map(|kind| format!("{program}, {kind}"));
+                let kinds = kinds
+                    .iter()
+                    .flat_map(|kinds| expanded(kinds))
+                    .chain(of_both);
                 let shapes = SHAPES.map(|shape| format!("{program}, {shape}"));
-                let kinds = kinds.iter().map(|kind| kind.to_string());
                 needed.extend(kinds.map(|kind| (kind, least(CASES_PER_KIND))));
                 needed.extend(shapes.map(|shape| (shape, least(CASES_PER_SHAPE))));
             }

@@ -59,20 +59,24 @@ fn the_report_counts_every_case() {
     let verdicts = report.lines().filter(|line| line.contains("verdict: "));
     let counts = verdicts.filter_map(|line| line.split_whitespace().next()?.parse::<usize>().ok());
     assert_eq!(counts.sum::<usize>(), 100);
-    assert!(report.contains("replay: press refused 10\n"));
-    assert!(report.contains("replay, press refused 10 by a numeral\n"));
-    assert!(report.contains("verdict, press Full by a numeral\n"));
-    assert!(report.contains("verdict, press Same with a default taken\n"));
-    assert!(report.contains("replay, press refused 10 by the place of a default\n"));
-    assert!(report.contains("verdict, press Different behind equal words\n"));
-    assert!(report.contains("replay, press Budget behind equal words\n"));
-    assert!(report.contains("replay, show Right at equal lengths\n"));
-    assert!(report.contains("replay: line refused 6\n"));
-    assert!(report.contains("replay, line refused 11 by a space\n"));
-    assert!(report.contains("replay: import refused 12\n"));
-    assert!(report.contains("replay: export refused 13\n"));
-    assert!(report.contains("replay, import refused 12 by the padding\n"));
-    assert!(report.contains("replay, export refused 13, not 8\n"));
+    for kind in [
+        "replay: press refused 10",
+        "replay, press refused 10 by a numeral",
+        "verdict, press Full by a numeral",
+        "verdict, press Same with a default taken",
+        "replay, press refused 10 by the place of a default",
+        "verdict, press Different behind equal words",
+        "replay, press Budget behind equal words",
+        "replay, show Right at equal lengths",
+        "replay: line refused 6",
+        "replay, line refused 11 by a space",
+        "replay: import refused 12",
+        "replay: export refused 13",
+        "replay, import refused 12 by the padding",
+        "replay, export refused 13, not 8",
+    ] {
+        assert!(report.contains(&format!(" {kind}\n")), "{kind}");
+    }
 }
 
 #[test]

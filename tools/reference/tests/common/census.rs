@@ -1,5 +1,6 @@
 //! Counts of what generated inputs reach.
 
+use reference::tally::expanded;
 use std::collections::BTreeMap;
 
 /// How often each feature was met.
@@ -19,22 +20,15 @@ impl Census {
         }
     }
 
-    /// Every feature of the list was met so often, and no other was.
-    pub fn assert_reaches(&self, least: usize, features: &[&str]) {
-        self.assert_meets(least, features);
-        let listed = |feature: &&String| features.contains(&feature.as_str());
-        let others: Vec<&String> = self.counts.keys().filter(|met| !listed(met)).collect();
-        assert!(others.is_empty(), "not listed: {others:#?}");
-    }
-
-    /// Every feature of the list was met so often.
-    pub fn assert_meets(&self, least: usize, features: &[&str]) {
-        let seen = |feature: &&str| self.counts.get(*feature).copied().unwrap_or(0);
-        let few: Vec<String> = features
-            .iter()
-            .filter(|feature| seen(feature) < least)
-            .map(|feature| format!("{feature} ({})", seen(feature)))
-            .collect();
-        assert!(few.is_empty(), "met fewer than {least} times: {few:#?}");
+    /// Every feature of the patterns was met so often, and no other was.
+    pub fn assert_reaches(&self, subject: &str, least: usize, patterns: &[&str]) {
+        let features: Vec<String> = patterns.iter().flat_map(|text| expanded(text)).collect();
+        let seen = |feature: &String| self.counts.get(feature).copied().unwrap_or(0);
+        let few = features.iter().filter(|feature| seen(feature) < least);
+        let few: Vec<_> = few.map(|feature| (feature, seen(feature))).collect();
+        assert!(few.is_empty(), "{subject}, below {least}: {few:#?}");
+        let met = self.counts.keys();
+        let others: Vec<&String> = met.filter(|met| !features.contains(met)).collect();
+        assert!(others.is_empty(), "{subject}, not listed: {others:#?}");
     }
 }

@@ -2,18 +2,31 @@
 #![allow(dead_code)]
 
 pub mod census;
-pub mod encodings;
-pub mod lines;
-pub mod presses;
 
 use reference::contraction::step;
 use reference::encoding::import;
 use reference::line::read_line;
-use reference::press::{press, Answer, Session, Verdict};
+use reference::press::{press, Answer, Session, Side, Verdict};
 use reference::refusal::Refusal;
+use reference::replay::{Machine, Operation};
 use reference::table::load;
 use reference::term::Term;
 use reference::words::{read, words};
+
+/// The rows of a table, without the lines that are empty or comments.
+pub fn rows(table: &str) -> impl Iterator<Item = &str> {
+    let rows = table.lines().map(str::trim);
+    rows.filter(|row| !row.is_empty() && !row.starts_with('#'))
+}
+
+/// Numbers as a table has them: `2,1,0`, or `-` for none.
+pub fn numbers(text: &str) -> Vec<u32> {
+    let number = |number: &str| number.trim().parse().expect("a number");
+    match text.trim() {
+        "-" => Vec::new(),
+        text => text.split(',').map(number).collect(),
+    }
+}
 
 /// The term of words that a test takes from the rules or derives.
 pub fn term(words: &[u32]) -> Term {
@@ -31,6 +44,47 @@ pub fn workspace(words: &[u32], capacity: usize) -> Vec<u32> {
     let mut all = words.to_vec();
     all.resize(capacity, 77);
     all
+}
+
+/// A machine of workspaces that start with the given words.
+pub fn machine(left: &[u32], right: &[u32], capacity: usize) -> Machine {
+    let mut machine = Machine::new(capacity as u32, capacity as u32);
+    machine.left = workspace(left, capacity);
+    machine.right = workspace(right, capacity);
+    machine
+}
+
+/// A press of two lists of words, with the machine before it.
+pub fn pressing(left: &[u32], right: &[u32], capacity: usize, budget: u32) -> (Machine, Operation) {
+    let lengths = (left.len() as u32, right.len() as u32);
+    let press = Operation::Press {
+        scratch: capacity,
+        lengths,
+        budget,
+    };
+    (machine(left, right, capacity), press)
+}
+
+/// A showing of two lists of words, with the machine before it.
+pub fn showing(left: &[u32], right: &[u32], capacity: usize) -> (Machine, Operation) {
+    let lengths = (left.len() as u32, right.len() as u32);
+    (machine(left, right, capacity), Operation::Show { lengths })
+}
+
+/// A writing of the words on the left, with the machine before it.
+pub fn writing(left: &[u32], table: usize) -> (Machine, Operation) {
+    let write = Operation::Write {
+        side: Side::Left,
+        length: left.len() as u32,
+        table,
+    };
+    (machine(left, &[], 16), write)
+}
+
+/// A load of records on the right, with the machine before it.
+pub fn loading(records: &[[u32; 4]]) -> (Machine, Operation) {
+    let (side, table) = (Side::Right, table(records));
+    (machine(&[], &[], 16), Operation::Load { side, table })
 }
 
 /// One press with a fresh session on two lists of words.

@@ -1,9 +1,7 @@
-//! Judges with one mistake each: the generated inputs have to tell every one
-//! of them from the reference. The judge without a mistake must agree.
+//! Judges of pairs.
 
-mod common;
-
-use common::flat_position;
+use crate::common::flat_position;
+use crate::Told;
 use reference::default::takes_default;
 use reference::generate::inputs::{self, Aim};
 use reference::on_large_stack;
@@ -16,9 +14,9 @@ use reference::term::{abs, app, branch, case, con, num, var, Branch, Term};
 use reference::verdict::{outcome, Outcome, Request};
 use reference::words::{read, words};
 
-#[derive(Clone, Copy, Debug, PartialEq, Eq)]
-enum Mistake {
-    Nothing,
+mistakes! {
+    Mistake;
+    MISTAKES:
     // The plausible errors that the rules shut out.
     ArgumentNotRaised,
     ArgumentsFirst,
@@ -58,47 +56,8 @@ enum Mistake {
     DefaultOnlyAlone,
     DefaultNotTaken,
     DefaultIsFree,
-    DefaultBodySkipped,
+    DefaultBodySkipped;
 }
-
-const MISTAKES: [Mistake; 36] = [
-    Mistake::ArgumentNotRaised,
-    Mistake::ArgumentsFirst,
-    Mistake::StopsAtAbstraction,
-    Mistake::BudgetAsDifferent,
-    Mistake::FirstArgumentIsIndex0,
-    Mistake::AnyCountContracts,
-    Mistake::IndicesNotLowered,
-    Mistake::LoweredByOne,
-    Mistake::BoundIndicesRaised,
-    Mistake::RaisedByOnePerBranch,
-    Mistake::BranchesNotReduced,
-    Mistake::ArgumentsNotReduced,
-    Mistake::RightmostFirst,
-    Mistake::FullBeforeBudget,
-    Mistake::FullFromC,
-    Mistake::DifferentBeforeSame,
-    Mistake::OneSideAtATime,
-    Mistake::CountedByRounds,
-    Mistake::NumeralIsNormal,
-    Mistake::NumeralWaits,
-    Mistake::NumeralIsOneMore,
-    Mistake::NumeralAppliesItsArgument,
-    Mistake::NumeralContractsWhenApplied,
-    Mistake::NumeralRises,
-    Mistake::NumeralIsFree,
-    Mistake::NumeralIsItsExpansion,
-    Mistake::NumeralAlwaysFits,
-    Mistake::DefaultForAnotherCount,
-    Mistake::DefaultPreferred,
-    Mistake::DefaultLowered,
-    Mistake::DefaultFilled,
-    Mistake::DefaultForAnySubject,
-    Mistake::DefaultOnlyAlone,
-    Mistake::DefaultNotTaken,
-    Mistake::DefaultIsFree,
-    Mistake::DefaultBodySkipped,
-];
 
 /// Steps and rounds written apart from the reference's, with room for one
 /// mistake.
@@ -465,21 +424,17 @@ fn judged() -> Vec<([Term; 2], usize, u32, Answer)> {
 }
 
 #[test]
-fn inputs_tell_every_mistake() {
-    on_large_stack(|| {
+fn inputs_tell_wrong_judges() {
+    let told = on_large_stack(|| {
+        let mut told = Told::of(MISTAKES);
         let judged = judged();
         assert!(judged.len() > 300, "{}", judged.len());
-        let differences = |mistake| {
-            let judge = Judge(mistake);
-            let differs = |(sides, capacity, budget, answer): &&([Term; 2], usize, u32, Answer)| {
-                judge.judge(sides.clone(), *capacity, *budget) != Some(*answer)
-            };
-            judged.iter().filter(differs).count()
-        };
-        assert_eq!(differences(Mistake::Nothing), 0);
-        for mistake in MISTAKES {
-            let found = differences(mistake);
-            assert!(found >= 6, "{mistake:?}: {found} of {}", judged.len());
+        for (sides, capacity, budget, answer) in judged {
+            told.look(&Some(answer), |mistake| {
+                Judge(mistake).judge(sides.clone(), capacity, budget)
+            });
         }
+        told
     });
+    told.assert_all(6);
 }

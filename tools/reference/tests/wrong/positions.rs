@@ -1,18 +1,19 @@
-//! Judges that answer or print a wrong position: the generated inputs and
-//! scripts have to tell every one of them from the reference. The judge without
-//! a mistake must agree.
+//! Judges that answer or print a wrong position.
 
-mod common;
-
-use common::flat_position;
-use common::presses::{of_inputs, of_scripts, Press};
+use crate::common::flat_position;
+use crate::Told;
+use reference::default::Role;
+use reference::generate::inputs::{self, Aim};
+use reference::generate::scripts;
 use reference::on_large_stack;
 use reference::press::{Answer, Verdict};
+use reference::replay::{run_watched, Event, Machine, Operation};
+use reference::verdict;
 
-#[derive(Clone, Copy, Debug, PartialEq, Eq)]
-enum Mistake {
-    Nothing,
-    // Another position with Different.
+mistakes! {
+    Mistake;
+    // Mistakes that the lines of both programs show.
+    OF_BOTH:
     Largest,
     OfTheTermsBefore,
     FromOne,
@@ -26,55 +27,57 @@ enum Mistake {
     OfThePayloads,
     WithoutBranches,
     InBytes,
-    InOneByte,
-    // A position with another verdict.
+    InOneByte;
+    OF_VERDICT:
+    PrintedWithEveryVerdict,
+    NotPrinted,
+    PrintedUnlessZero;
+    OF_REPLAY:
     LeftWithBudget,
     LeftWithFull,
     OfTheTermsBeforeSame,
     KeptFromTheLastPress,
-    // What the verdict program prints.
-    PrintedWithEveryVerdict,
-    NotPrinted,
-    PrintedUnlessZero,
-    // What the replaying program prints.
     MissingOnLines,
     MissingUnlessDifferent,
-    PrintedBeforeTheLengths,
+    PrintedBeforeTheLengths;
 }
 
-/// Mistakes that the lines of both programs show.
-const OF_BOTH: [Mistake; 14] = [
-    Mistake::Largest,
-    Mistake::OfTheTermsBefore,
-    Mistake::FromOne,
-    Mistake::FromTheEnd,
-    Mistake::AlwaysZero,
-    Mistake::LengthOfTheShorter,
-    Mistake::LastOfTheShorter,
-    Mistake::NotTheLastOfTheShorter,
-    Mistake::EqualLengthsOnly,
-    Mistake::OfTheKinds,
-    Mistake::OfThePayloads,
-    Mistake::WithoutBranches,
-    Mistake::InBytes,
-    Mistake::InOneByte,
-];
+/// What a press is made on and what it leaves.
+struct Press {
+    /// The words of both terms before it.
+    before: [Vec<u32>; 2],
+    /// The words of both forms at its end.
+    after: [Vec<u32>; 2],
+    answer: Answer,
+    /// What the replaying program prints about it.
+    line: String,
+}
 
-const OF_VERDICT: [Mistake; 3] = [
-    Mistake::PrintedWithEveryVerdict,
-    Mistake::NotPrinted,
-    Mistake::PrintedUnlessZero,
-];
+impl Press {
+    fn of(before: &Machine, operation: &Operation) -> Option<Self> {
+        let Operation::Press { lengths, .. } = operation else {
+            return None;
+        };
+        let (mut after, mut line) = (before.clone(), String::new());
+        let Event::Press(Ok(answer)) = after.apply(operation, &mut line) else {
+            return None;
+        };
+        Some(Press {
+            before: forms(before, *lengths),
+            after: forms(&after, (answer.left, answer.right)),
+            answer,
+            line,
+        })
+    }
+}
 
-const OF_REPLAY: [Mistake; 7] = [
-    Mistake::LeftWithBudget,
-    Mistake::LeftWithFull,
-    Mistake::OfTheTermsBeforeSame,
-    Mistake::KeptFromTheLastPress,
-    Mistake::MissingOnLines,
-    Mistake::MissingUnlessDifferent,
-    Mistake::PrintedBeforeTheLengths,
-];
+fn forms(machine: &Machine, lengths: (u32, u32)) -> [Vec<u32>; 2] {
+    let words = |workspace: &[u32], length: u32| workspace[..length as usize].to_vec();
+    [
+        words(&machine.left, lengths.0),
+        words(&machine.right, lengths.1),
+    ]
+}
 
 /// The position that a judge answers; the press before answered `last`.
 fn position(mistake: Mistake, press: &Press, last: u32) -> u32 {
@@ -164,53 +167,47 @@ fn replay_line(mistake: Mistake, press: &Press, last: u32) -> String {
     }
 }
 
-/// How often each mistake is seen.
-struct Seen {
-    mistakes: Vec<Mistake>,
-    counts: Vec<usize>,
-}
-
-impl Seen {
-    fn new(own: &[Mistake]) -> Self {
-        let mistakes = [&OF_BOTH, own].concat();
-        let counts = vec![0; mistakes.len()];
-        Seen { mistakes, counts }
-    }
-
-    fn look(&mut self, expected: &str, line: impl Fn(Mistake) -> String) {
-        assert_eq!(line(Mistake::Nothing), expected);
-        for (mistake, count) in self.mistakes.iter().zip(&mut self.counts) {
-            *count += usize::from(line(*mistake) != expected);
-        }
-    }
-
-    fn assert_all(&self, least: usize) {
-        for (mistake, count) in self.mistakes.iter().zip(&self.counts) {
-            assert!(*count >= least, "{mistake:?}: {count}");
-        }
+/// Cases of the verdict program that are made for verdicts.
+fn is_made_for_one(case: &u64) -> bool {
+    match inputs::aim(*case) {
+        Aim::Verdict(_) => true,
+        Aim::Default(role) => !matches!(role, Role::Load(_)),
+        _ => false,
     }
 }
 
 #[test]
 fn inputs_tell_wrong_positions() {
-    let seen = on_large_stack(|| {
-        let mut seen = Seen::new(&OF_VERDICT);
-        of_inputs(54, 2_500, |press, line| {
-            seen.look(&line, |mistake| verdict_line(mistake, press));
-        });
-        seen
+    let told = on_large_stack(|| {
+        let mut told = Told::of(&[OF_BOTH, OF_VERDICT].concat());
+        for case in (0..2_500).filter(is_made_for_one) {
+            let input = inputs::input(54, case);
+            verdict::watch(&input, |before, operation| {
+                if let Some(press) = Press::of(before, operation) {
+                    let line = verdict::outcome(&input).to_string();
+                    told.look(&line, |mistake| verdict_line(mistake, &press));
+                }
+            });
+        }
+        told
     });
-    seen.assert_all(10);
+    told.assert_all(10);
 }
 
 #[test]
 fn scripts_tell_wrong_positions() {
-    let seen = on_large_stack(|| {
-        let mut seen = Seen::new(&OF_REPLAY);
-        of_scripts(55, 750, |press, last| {
-            seen.look(&press.line, |mistake| replay_line(mistake, press, last));
-        });
-        seen
+    let told = on_large_stack(|| {
+        let mut told = Told::of(&[OF_BOTH, OF_REPLAY].concat());
+        for case in 0..750 {
+            let mut last = 0;
+            run_watched(&scripts::script(55, case), |before, operation| {
+                if let Some(press) = Press::of(before, operation) {
+                    told.look(&press.line, |mistake| replay_line(mistake, &press, last));
+                    last = press.answer.position;
+                }
+            });
+        }
+        told
     });
-    seen.assert_all(20);
+    told.assert_all(20);
 }

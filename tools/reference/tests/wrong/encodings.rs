@@ -1,17 +1,15 @@
-//! Importers and exporters of encodings with one mistake each: the generated
-//! scripts have to tell every one of them from the reference. Those without a
-//! mistake must agree.
+//! Importers and exporters of encodings.
 
-mod common;
-
-use common::encodings::{of_scripts, Exported, Imported};
+use crate::{first_met, workspace, Told};
 use reference::encoding;
+use reference::generate::scripts;
 use reference::on_large_stack;
+use reference::replay::{run_watched, Operation};
 use reference::words::read;
 
-#[derive(Clone, Copy, Debug, PartialEq, Eq)]
-enum Mistake {
-    Nothing,
+mistakes! {
+    Mistake;
+    MISTAKES:
     // Other bits.
     LowestBitFirst,
     KindsExchanged,
@@ -59,54 +57,8 @@ enum Mistake {
     ClearedWhenRefused,
     WrittenThoughOpen,
     WrittenThoughTooLong,
-    AnswersBits,
+    AnswersBits;
 }
-
-const MISTAKES: [Mistake; 43] = [
-    Mistake::LowestBitFirst,
-    Mistake::KindsExchanged,
-    Mistake::IndexFromOne,
-    Mistake::RunEndsAtWindow,
-    Mistake::RunOfOneWindow,
-    Mistake::RunBehindAWindowIsNew,
-    Mistake::RunInOneByte,
-    Mistake::RunInSixteenBits,
-    Mistake::WindowWithoutItsLastBit,
-    Mistake::CountNotTested,
-    Mistake::CountMayPassByOne,
-    Mistake::CountIsBelowTheBytes,
-    Mistake::CountInSixteenBits,
-    Mistake::CountTimesEight,
-    Mistake::LastZeroNotNeeded,
-    Mistake::EndIsZeros,
-    Mistake::LeftOverNotTested,
-    Mistake::LeftOverZerosAllowed,
-    Mistake::LeftOverUpToAByte,
-    Mistake::PaddingNotTested,
-    Mistake::PaddingOfLastByteOnly,
-    Mistake::PaddingOfOtherBytesOnly,
-    Mistake::PaddingFirstBitNotTested,
-    Mistake::PaddingLastBitNotTested,
-    Mistake::SpareBytesRefused,
-    Mistake::EmptyIsVariable,
-    Mistake::ClosedNotTested,
-    Mistake::FreeNumberUpTo255,
-    Mistake::ClosedByOneMore,
-    Mistake::BindersStayBehindAbstractions,
-    Mistake::FitsBelowC,
-    Mistake::FitsByOneMore,
-    Mistake::EncodingBeforeWorkspace,
-    Mistake::RoomBeforeWorkspace,
-    Mistake::ClosedBeforeWorkspace,
-    Mistake::RoomBeforeEncoding,
-    Mistake::ClosedBeforeEncoding,
-    Mistake::ClosedBeforeRoom,
-    Mistake::ZerosLeftOut,
-    Mistake::ClearedWhenRefused,
-    Mistake::WrittenThoughOpen,
-    Mistake::WrittenThoughTooLong,
-    Mistake::AnswersBits,
-];
 
 /// A reader without recursion: bits from the first to the last, with a list of
 /// the binders around each term that is still to come.
@@ -248,15 +200,19 @@ impl Reader<'_> {
 }
 
 /// The answer, with the numbers of refusals, and the workspace after it.
-fn import(mistake: Mistake, imported: &Imported) -> (Result<u32, u32>, Vec<u32>) {
+fn import(
+    mistake: Mistake,
+    bytes: &[u8],
+    count: u32,
+    workspace: &[u32],
+) -> (Result<u32, u32>, Vec<u32>) {
     let is = |other| mistake == other;
-    let Imported { bytes, count, .. } = imported;
     let lent = 8 * bytes.len() as u64;
     let count = match mistake {
-        Mistake::CountInSixteenBits => u64::from(*count % 65_536),
-        Mistake::CountTimesEight => u64::from(*count % (1 << 29)),
-        Mistake::CountNotTested => u64::from(*count).min(lent),
-        _ => u64::from(*count),
+        Mistake::CountInSixteenBits => u64::from(count % 65_536),
+        Mistake::CountTimesEight => u64::from(count % (1 << 29)),
+        Mistake::CountNotTested => u64::from(count).min(lent),
+        _ => u64::from(count),
     };
     let past = match mistake {
         Mistake::CountMayPassByOne => count > lent + 1,
@@ -281,7 +237,7 @@ fn import(mistake: Mistake, imported: &Imported) -> (Result<u32, u32>, Vec<u32>)
     };
     let spare = is(Mistake::SpareBytesRefused) && lent >= count + 8;
     let fault = past || !whole || left_over || spare || reader.breaks_padding();
-    let mut workspace = imported.workspace.clone();
+    let mut workspace = workspace.to_vec();
     let capacity = workspace.len();
     let words = &reader.words;
     let room = match mistake {
@@ -290,24 +246,18 @@ fn import(mistake: Mistake, imported: &Imported) -> (Result<u32, u32>, Vec<u32>)
         _ => words.len() > capacity,
     };
     let open = reader.open;
-    let mut found = Vec::new();
-    let mut meets = |met: bool, number: u32| {
-        if met {
-            found.push(number);
-        }
-    };
-    // The checks in the reader's order; the first that is met counts.
-    meets(is(Mistake::EncodingBeforeWorkspace) && fault, 12);
-    meets(is(Mistake::RoomBeforeWorkspace) && !fault && room, 8);
-    meets(is(Mistake::ClosedBeforeWorkspace) && !fault && open, 13);
-    meets(!(16..=2_048).contains(&capacity), 7);
-    meets(is(Mistake::RoomBeforeEncoding) && room, 8);
-    meets(is(Mistake::ClosedBeforeEncoding) && open, 13);
-    meets(fault, 12);
-    meets(is(Mistake::ClosedBeforeRoom) && open, 13);
-    meets(room, 8);
-    meets(open, 13);
-    let refused = found.first().copied();
+    let refused = first_met(&[
+        (is(Mistake::EncodingBeforeWorkspace) && fault, 12),
+        (is(Mistake::RoomBeforeWorkspace) && !fault && room, 8),
+        (is(Mistake::ClosedBeforeWorkspace) && !fault && open, 13),
+        (!(16..=2_048).contains(&capacity), 7),
+        (is(Mistake::RoomBeforeEncoding) && room, 8),
+        (is(Mistake::ClosedBeforeEncoding) && open, 13),
+        (fault, 12),
+        (is(Mistake::ClosedBeforeRoom) && open, 13),
+        (room, 8),
+        (open, 13),
+    ]);
     let written = match refused {
         None => true,
         Some(13) => is(Mistake::WrittenThoughOpen),
@@ -334,9 +284,9 @@ fn import(mistake: Mistake, imported: &Imported) -> (Result<u32, u32>, Vec<u32>)
     (refused.map_or(Ok(answer as u32), Err), workspace)
 }
 
-#[derive(Clone, Copy, Debug, PartialEq, Eq)]
-enum Slip {
-    Nothing,
+mistakes! {
+    Slip;
+    SLIPS:
     // Other bits.
     LowestBitFirst,
     KindsExchanged,
@@ -368,39 +318,8 @@ enum Slip {
     TermBeforeWorkspace,
     RoomBeforeTerm,
     EncodingBeforeTerm,
-    RoomBeforeEncoding,
+    RoomBeforeEncoding;
 }
-
-const SLIPS: [Slip; 28] = [
-    Slip::LowestBitFirst,
-    Slip::KindsExchanged,
-    Slip::IndexWithoutItsZero,
-    Slip::RunOfIndex,
-    Slip::RunUpToAWindow,
-    Slip::RunAcrossBytesIsCut,
-    Slip::RestKept,
-    Slip::RestOfLastByteKept,
-    Slip::RestIsOnes,
-    Slip::OneByteMoreNeeded,
-    Slip::RoundedDown,
-    Slip::RoomByWords,
-    Slip::BitsInSixteen,
-    Slip::AnswersBytes,
-    Slip::AnswersWords,
-    Slip::FilledThoughTooFew,
-    Slip::ClearedWhenRefused,
-    Slip::FreeNotTested,
-    Slip::FreeByOneMore,
-    Slip::ConstructorLeftOut,
-    Slip::NumeralIsItsEntry,
-    Slip::CaseLeftOut,
-    Slip::LengthNotTested,
-    Slip::AllWordsTested,
-    Slip::TermBeforeWorkspace,
-    Slip::RoomBeforeTerm,
-    Slip::EncodingBeforeTerm,
-    Slip::RoomBeforeEncoding,
-];
 
 /// The bits of words from the first to the last, and whether they are those of
 /// a closed term.
@@ -457,19 +376,19 @@ fn bits_of_words(slip: Slip, words: &[u32]) -> (Vec<bool>, bool) {
 }
 
 /// The answer, with the numbers of refusals, and the bytes after it.
-fn export(slip: Slip, exported: &Exported) -> (Result<u32, u32>, Vec<u8>) {
+fn export(slip: Slip, workspace: &[u32], length: u32, bytes: usize) -> (Result<u32, u32>, Vec<u8>) {
     let is = |other| slip == other;
-    let mut bytes = vec![7; exported.bytes];
-    let capacity = exported.workspace.len();
+    let mut bytes = vec![7; bytes];
+    let capacity = workspace.len();
     let given = match slip {
-        Slip::LengthNotTested => capacity.min(exported.length as usize),
-        _ => exported.length as usize,
+        Slip::LengthNotTested => capacity.min(length as usize),
+        _ => length as usize,
     };
-    let words = exported.workspace.get(..given);
+    let words = workspace.get(..given);
     let term = words.and_then(read);
     let tested = match is(Slip::AllWordsTested) {
-        true => &exported.workspace[..],
-        false => words.unwrap_or(&exported.workspace),
+        true => workspace,
+        false => words.unwrap_or(workspace),
     };
     let whole = words.filter(|_| term.is_some()).unwrap_or(&[]);
     let (mut bits, mut closed) = bits_of_words(slip, whole);
@@ -485,21 +404,16 @@ fn export(slip: Slip, exported: &Exported) -> (Result<u32, u32>, Vec<u8>) {
         _ => bits.len().div_ceil(8),
     };
     let few = needed > bytes.len();
-    let mut found = Vec::new();
-    let mut meets = |met: bool, number: u32| {
-        if met {
-            found.push(number);
-        }
-    };
-    meets(is(Slip::TermBeforeWorkspace) && term.is_none(), 10);
-    meets(!(16..=2_048).contains(&capacity), 7);
-    meets(is(Slip::RoomBeforeTerm) && bytes.is_empty(), 8);
-    meets(is(Slip::EncodingBeforeTerm) && has_other, 13);
-    meets(term.is_none(), 10);
-    meets(is(Slip::RoomBeforeEncoding) && few, 8);
-    meets(!closed, 13);
-    meets(few, 8);
-    let refused = found.first().copied();
+    let refused = first_met(&[
+        (is(Slip::TermBeforeWorkspace) && term.is_none(), 10),
+        (!(16..=2_048).contains(&capacity), 7),
+        (is(Slip::RoomBeforeTerm) && bytes.is_empty(), 8),
+        (is(Slip::EncodingBeforeTerm) && has_other, 13),
+        (term.is_none(), 10),
+        (is(Slip::RoomBeforeEncoding) && few, 8),
+        (!closed, 13),
+        (few, 8),
+    ]);
     let too_few = refused == Some(8) && is(Slip::FilledThoughTooFew);
     if refused.is_none() || too_few {
         let last = bytes.len().min(needed);
@@ -540,46 +454,45 @@ fn export(slip: Slip, exported: &Exported) -> (Result<u32, u32>, Vec<u8>) {
 
 #[test]
 fn scripts_tell_wrong_importers() {
-    let counts = on_large_stack(|| {
-        let mut counts = vec![0; MISTAKES.len()];
-        let look = |imported: &Imported| {
-            let Imported { bytes, count, .. } = imported;
-            let mut workspace = imported.workspace.clone();
-            let answer = encoding::import(bytes, *count, &mut workspace);
-            let expected = (answer.map_err(|refusal| refusal.number()), workspace);
-            assert_eq!(import(Mistake::Nothing, imported), expected, "{bytes:?}");
-            for (mistake, count) in MISTAKES.iter().zip(&mut counts) {
-                *count += usize::from(import(*mistake, imported) != expected);
-            }
-        };
-        of_scripts(71, 1_200, look, |_| {});
-        counts
+    let told = on_large_stack(|| {
+        let mut told = Told::of(MISTAKES);
+        for case in 0..1_200 {
+            run_watched(&scripts::script(71, case), |before, operation| {
+                if let Operation::Import { side, count, bytes } = operation {
+                    let before = workspace(before, *side);
+                    let mut after = before.to_vec();
+                    let answer = encoding::import(bytes, *count, &mut after);
+                    let expected = (answer.map_err(|refusal| refusal.number()), after);
+                    told.look(&expected, |mistake| import(mistake, bytes, *count, before));
+                }
+            });
+        }
+        told
     });
-    for (mistake, count) in MISTAKES.iter().zip(counts) {
-        assert!(count >= 6, "{mistake:?}: {count}");
-    }
+    told.assert_all(6);
 }
 
 #[test]
 fn scripts_tell_wrong_exporters() {
-    let counts = on_large_stack(|| {
-        let mut counts = vec![0; SLIPS.len()];
-        let look = |exported: &Exported| {
-            let Exported {
-                workspace, length, ..
-            } = exported;
-            let mut bytes = vec![7; exported.bytes];
-            let answer = encoding::export(workspace, *length, &mut bytes);
-            let expected = (answer.map_err(|refusal| refusal.number()), bytes);
-            assert_eq!(export(Slip::Nothing, exported), expected, "{workspace:?}");
-            for (slip, count) in SLIPS.iter().zip(&mut counts) {
-                *count += usize::from(export(*slip, exported) != expected);
-            }
-        };
-        of_scripts(72, 800, |_| {}, look);
-        counts
+    let told = on_large_stack(|| {
+        let mut told = Told::of(SLIPS);
+        for case in 0..800 {
+            run_watched(&scripts::script(72, case), |before, operation| {
+                if let Operation::Export {
+                    side,
+                    length,
+                    bytes,
+                } = operation
+                {
+                    let before = workspace(before, *side);
+                    let mut after = vec![7; *bytes];
+                    let answer = encoding::export(before, *length, &mut after);
+                    let expected = (answer.map_err(|refusal| refusal.number()), after);
+                    told.look(&expected, |slip| export(slip, before, *length, *bytes));
+                }
+            });
+        }
+        told
     });
-    for (slip, count) in SLIPS.iter().zip(counts) {
-        assert!(count >= 6, "{slip:?}: {count}");
-    }
+    told.assert_all(6);
 }

@@ -1,16 +1,14 @@
-//! Readers of lines with one mistake each: the generated scripts have to tell
-//! every one of them from the reference. The reader without a mistake must
-//! agree.
+//! Readers of lines.
 
-mod common;
-
-use common::lines::{of_scripts, Typed};
+use crate::{first_met, workspace, Told};
+use reference::generate::scripts;
 use reference::line::read_line;
 use reference::on_large_stack;
+use reference::replay::{run_watched, Operation};
 
-#[derive(Clone, Copy, Debug, PartialEq, Eq)]
-enum Mistake {
-    Nothing,
+mistakes! {
+    Mistake;
+    MISTAKES:
     // Another term.
     BodyIsOneItem,
     BodyOfAnArgumentIsOneItem,
@@ -34,6 +32,7 @@ enum Mistake {
     TabIsSpace,
     NewlineAtEnd,
     EndsAtByteZero,
+    EmptyIsIndexZero,
     SevenBits,
     LengthUpTo1025,
     LengthNotTested,
@@ -53,6 +52,7 @@ enum Mistake {
     BindersStayBehindParentheses,
     BindersInOneByte,
     FitsBelowC,
+    FitsByOneMore,
     FitsByBytes,
     // The order of the checks.
     GrammarBeforeWorkspace,
@@ -66,61 +66,8 @@ enum Mistake {
     ClearedWhenOutside,
     WrittenThoughFree,
     WrittenThoughTooLong,
-    AnswersBytes,
+    AnswersBytes;
 }
-
-const MISTAKES: [Mistake; 50] = [
-    Mistake::BodyIsOneItem,
-    Mistake::BodyOfAnArgumentIsOneItem,
-    Mistake::GroupsToTheRight,
-    Mistake::LeadingZeros,
-    Mistake::NumberInSixteenBits,
-    Mistake::NumberInThirtyTwoBits,
-    Mistake::LargestIndexIsOneMore,
-    Mistake::SpaceAtStart,
-    Mistake::SpaceAtEnd,
-    Mistake::SpacesInARow,
-    Mistake::SpaceBehindBackslash,
-    Mistake::SpaceBehindOpen,
-    Mistake::SpaceBeforeClose,
-    Mistake::NoSpaceBeforeOpen,
-    Mistake::NoSpaceBehindClose,
-    Mistake::NoSpaceBeforeBackslash,
-    Mistake::OpenToTheEnd,
-    Mistake::ClosedTooOften,
-    Mistake::TabIsSpace,
-    Mistake::NewlineAtEnd,
-    Mistake::EndsAtByteZero,
-    Mistake::SevenBits,
-    Mistake::LengthUpTo1025,
-    Mistake::LengthNotTested,
-    Mistake::LargestIndexIsOneLess,
-    Mistake::AbstractionOnlyFirst,
-    Mistake::NoParenthesesAroundAnIndex,
-    Mistake::NoParenthesesInParentheses,
-    Mistake::FewParentheses,
-    Mistake::FewAbstractions,
-    Mistake::FewItems,
-    Mistake::LengthUpTo1023,
-    Mistake::FreeNumberNotTested,
-    Mistake::FreeNumberUpTo256,
-    Mistake::FreeNumberIsIndex,
-    Mistake::BindersStayBehindParentheses,
-    Mistake::BindersInOneByte,
-    Mistake::FitsBelowC,
-    Mistake::FitsByBytes,
-    Mistake::GrammarBeforeWorkspace,
-    Mistake::FreeNumberBeforeWorkspace,
-    Mistake::RoomBeforeWorkspace,
-    Mistake::FreeNumberBeforeGrammar,
-    Mistake::RoomBeforeGrammar,
-    Mistake::RoomBeforeFreeNumber,
-    Mistake::ZerosLeftOut,
-    Mistake::ClearedWhenOutside,
-    Mistake::WrittenThoughFree,
-    Mistake::WrittenThoughTooLong,
-    Mistake::AnswersBytes,
-];
 
 /// What stays open up to the end of the line or of a parenthesis.
 #[derive(Clone, Copy, Debug, PartialEq, Eq)]
@@ -184,7 +131,8 @@ impl Reader {
             Mistake::LengthNotTested => usize::MAX,
             _ => 1_024,
         };
-        if line.is_empty() || line.len() > longest {
+        let empty = line.is_empty() && !self.is(Mistake::EmptyIsIndexZero);
+        if empty || line.len() > longest {
             return None;
         }
         let mut line = line.to_vec();
@@ -215,6 +163,7 @@ impl Reader {
                 .iter_mut()
                 .filter(|byte| **byte == b'\t')
                 .for_each(|byte| *byte = b' '),
+            Mistake::EmptyIsIndexZero if line.is_empty() => line.push(b'0'),
             Mistake::SevenBits => line.iter_mut().for_each(|byte| *byte &= 127),
             Mistake::EndsAtByteZero => {
                 let end = line.iter().position(|byte| *byte == 0);
@@ -399,37 +348,32 @@ impl Reader {
 }
 
 /// The answer, with the numbers of refusals, and the workspace after it.
-fn read(mistake: Mistake, typed: &Typed) -> (Result<u32, u32>, Vec<u32>) {
+fn read(mistake: Mistake, line: &[u8], workspace: &[u32]) -> (Result<u32, u32>, Vec<u32>) {
     let is = |other| mistake == other;
-    let mut workspace = typed.workspace.clone();
+    let mut workspace = workspace.to_vec();
     let capacity = workspace.len();
     let mut reader = Reader::new(mistake);
-    let term = reader.line(&typed.line);
+    let term = reader.line(line);
     let words = match mistake {
-        Mistake::FitsByBytes => typed.line.len(),
+        Mistake::FitsByBytes => line.len(),
         Mistake::FitsBelowC => reader.words + 1,
+        Mistake::FitsByOneMore => reader.words.saturating_sub(1),
         _ => reader.words,
     };
     let (free, room) = (reader.free_too_large, words > capacity);
-    let mut found = Vec::new();
-    let mut meets = |met: bool, number: u32| {
-        if met {
-            found.push(number);
-        }
-    };
     let read = term.is_some();
-    // The checks in the reader's order; the first that is met counts.
-    meets(is(Mistake::GrammarBeforeWorkspace) && !read, 11);
-    meets(is(Mistake::FreeNumberBeforeWorkspace) && read && free, 6);
-    meets(is(Mistake::RoomBeforeWorkspace) && read && room, 8);
-    meets(!(16..=2_048).contains(&capacity), 7);
-    meets(is(Mistake::FreeNumberBeforeGrammar) && free, 6);
-    meets(is(Mistake::RoomBeforeGrammar) && room, 8);
-    meets(!read, 11);
-    meets(is(Mistake::RoomBeforeFreeNumber) && room, 8);
-    meets(free, 6);
-    meets(room, 8);
-    let refused = found.first().copied();
+    let refused = first_met(&[
+        (is(Mistake::GrammarBeforeWorkspace) && !read, 11),
+        (is(Mistake::FreeNumberBeforeWorkspace) && read && free, 6),
+        (is(Mistake::RoomBeforeWorkspace) && read && room, 8),
+        (!(16..=2_048).contains(&capacity), 7),
+        (is(Mistake::FreeNumberBeforeGrammar) && free, 6),
+        (is(Mistake::RoomBeforeGrammar) && room, 8),
+        (!read, 11),
+        (is(Mistake::RoomBeforeFreeNumber) && room, 8),
+        (free, 6),
+        (room, 8),
+    ]);
     let term = term.unwrap_or_default();
     let written = match refused {
         None => true,
@@ -452,7 +396,7 @@ fn read(mistake: Mistake, typed: &Typed) -> (Result<u32, u32>, Vec<u32>) {
         workspace.fill(0);
     }
     let answer = match is(Mistake::AnswersBytes) {
-        true => typed.line.len(),
+        true => line.len(),
         false => term.len(),
     };
     (refused.map_or(Ok(answer as u32), Err), workspace)
@@ -460,21 +404,20 @@ fn read(mistake: Mistake, typed: &Typed) -> (Result<u32, u32>, Vec<u32>) {
 
 #[test]
 fn scripts_tell_wrong_readers() {
-    let counts = on_large_stack(|| {
-        let mut counts = vec![0; MISTAKES.len()];
-        of_scripts(61, 1_200, |typed| {
-            let mut workspace = typed.workspace.clone();
-            let answer = read_line(&typed.line, &mut workspace);
-            let expected = (answer.map_err(|refusal| refusal.number()), workspace);
-            let shown = String::from_utf8_lossy(&typed.line);
-            assert_eq!(read(Mistake::Nothing, typed), expected, "{shown:?}");
-            for (mistake, count) in MISTAKES.iter().zip(&mut counts) {
-                *count += usize::from(read(*mistake, typed) != expected);
-            }
-        });
-        counts
+    let told = on_large_stack(|| {
+        let mut told = Told::of(MISTAKES);
+        for case in 0..1_200 {
+            run_watched(&scripts::script(61, case), |before, operation| {
+                if let Operation::Line { side, line } = operation {
+                    let before = workspace(before, *side);
+                    let mut after = before.to_vec();
+                    let answer = read_line(line, &mut after);
+                    let expected = (answer.map_err(|refusal| refusal.number()), after);
+                    told.look(&expected, |mistake| read(mistake, line, before));
+                }
+            });
+        }
+        told
     });
-    for (mistake, count) in MISTAKES.iter().zip(counts) {
-        assert!(count >= 6, "{mistake:?}: {count}");
-    }
+    told.assert_all(6);
 }
