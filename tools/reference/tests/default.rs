@@ -2,24 +2,18 @@
 
 mod common;
 
-use common::{table, workspace};
 use reference::default::{of_call, Fault, Role};
-use reference::press::{Side, Verdict};
+use reference::press::Verdict;
 use reference::replay::{Machine, Operation};
 
 const VARIABLE: [u32; 4] = [0, 0, 0, 0];
 
-/// A machine of 16 words a side that holds the given ones.
-fn machine(left: &[u32], right: &[u32]) -> Machine {
-    let mut machine = Machine::new(16, 16);
-    machine.left = workspace(left, 16);
-    machine.right = workspace(right, 16);
-    machine
+fn of((before, operation): (Machine, Operation)) -> Vec<Role> {
+    of_call(&before, &operation)
 }
 
 fn loading(records: &[[u32; 4]]) -> Vec<Role> {
-    let (side, table) = (Side::Right, table(records));
-    of_call(&machine(&[], &[]), &Operation::Load { side, table })
+    of(common::loading(records))
 }
 
 /// Loads a case of a variable with branches of two values.
@@ -35,12 +29,7 @@ fn loading_case(values: [u32; 2]) -> Vec<Role> {
 }
 
 fn pressing(left: &[u32], right: &[u32], budget: u32) -> Vec<Role> {
-    let press = Operation::Press {
-        scratch: 16,
-        lengths: (left.len() as u32, right.len() as u32),
-        budget,
-    };
-    of_call(&machine(left, right), &press)
+    of(common::pressing(left, right, 16, budget))
 }
 
 #[test]
@@ -107,21 +96,10 @@ fn words_that_tag_0_alone_makes_no_term() {
 #[test]
 fn forms_with_a_default() {
     let (form, other) = ([12, 0, 5, 0], [1, 1, 1, 1, 0]);
-    let show = |left: &[u32], right: &[u32]| {
-        let lengths = (left.len() as u32, right.len() as u32);
-        of_call(&machine(left, right), &Operation::Show { lengths })
-    };
+    let show = |left: &[u32], right: &[u32]| of(common::showing(left, right, 16));
     assert_eq!(show(&form, &other), [Role::Shown]);
     assert_eq!(show(&form, &[0]), []);
-    let write = |words: &[u32], table| {
-        let (side, length) = (Side::Left, words.len() as u32);
-        let write = Operation::Write {
-            side,
-            length,
-            table,
-        };
-        of_call(&machine(words, &[]), &write)
-    };
+    let write = |words: &[u32], table| of(common::writing(words, table));
     assert_eq!(write(&form, 20), [Role::Written]);
     assert_eq!(write(&form, 19), []);
     assert_eq!(write(&other, 24), []);

@@ -4,8 +4,8 @@
 
 mod common;
 
-use common::{carried, term, workspace};
-use reference::encoding::{bits, bits_of, export, packed, term_of, Fault, FAULTS};
+use common::{carried, numbers, term, workspace};
+use reference::encoding::{bits, bits_of, export, packed, term_of, Fault};
 use reference::on_large_stack;
 use reference::refusal::Refusal;
 use reference::term::{abs, var};
@@ -140,101 +140,47 @@ fn only_three_kinds_have_bits() {
     }
 }
 
-#[test]
-fn a_count_past_the_bytes() {
-    for (bytes, count) in [
-        (&[][..], 1),
-        (&[], u32::MAX),
-        (&[32], 9),
-        (&[32], u32::MAX),
-        (&[32], 1 << 31),
-        // Ones more than the bits that \ \ 1 (1 0) fills its bytes with.
-        (&[7, 58], 17),
-        (&[7], 16),
-        // Four bits, if a count were cut to 16 bits.
-        (&[32], 65_540),
-    ] {
-        assert_faulty(bytes, count, Fault::Count);
-    }
-    // The last bit of K is in no byte; a zero would end it.
-    assert_faulty(&encoding("0000000110").0[..1], 10, Fault::Count);
-}
+/// Counts of bits and the bytes of which they are no encoding.
+const FAULTY: [(Fault, &str); 4] = [
+    // By one, by far, and by as much as would be four bits if a count were cut to 16.
+    (
+        Fault::Count,
+        "1 of -; 4294967295 of -; 9 of 32; 2147483648 of 32; 17 of 7,58; 65540 of 32",
+    ),
+    // Nothing, \ 0 cut, runs without their zero, applications without their parts.
+    (
+        Fault::End,
+        "0 of -; 0 of 0; 0 of 255; 3 of 32; 2 of 0; 8 of 0; 1 of 128; 16 of 255,255; 2 of 64; 6 of 72",
+    ),
+    // Behind \ 0 zeros or the same again, behind variable 0 a bit.
+    (
+        Fault::LeftOver,
+        "5 of 32; 8 of 32; 9 of 32,0; 16 of 32,0; 8 of 34; 8 of 33; 3 of 128; 17 of 7,58,0",
+    ),
+    // The first bit past the count, the last one, one between, in each byte.
+    (
+        Fault::Padding,
+        "4 of 40; 4 of 33; 4 of 36; 4 of 32,128; 4 of 32,1; 4 of 32,0,0,16; 16 of 7,58,128; 7 of 13",
+    ),
+];
 
 #[test]
-fn bits_that_end_early() {
-    for (bytes, count) in [
-        (&[][..], 0),
-        (&[0], 0),
-        // \ 0, cut.
-        (&[32], 3),
-        (&[0], 2),
-        (&[0], 1),
-        (&[0], 8),
-        // A run without its zero.
-        (&[128], 1),
-        (&[255], 8),
-        (&[255, 255], 16),
-        // An application without its parts, and without its argument.
-        (&[64], 2),
-        (&[72], 6),
-    ] {
-        assert_faulty(bytes, count, Fault::End);
+fn bits_that_are_no_encoding() {
+    for (fault, list) in FAULTY {
+        for faulty in list.split("; ") {
+            let (count, bytes) = faulty.split_once(" of ").expect("a count");
+            let bytes: Vec<u8> = numbers(bytes).iter().map(|byte| *byte as u8).collect();
+            assert_faulty(&bytes, numbers(count)[0], fault);
+        }
     }
     for (text, ..) in ENCODINGS {
         let (bytes, count) = encoding(&text[..text.len() - 1]);
         assert_faulty(&bytes, count, Fault::End);
-    }
-}
-
-#[test]
-fn bits_that_are_left_over() {
-    for (bytes, count) in [
-        (&[32][..], 5),
-        (&[32], 8),
-        (&[32, 0], 9),
-        (&[32, 0], 16),
-        // \ 0 twice.
-        (&[34], 8),
-        // Variable 0, then a bit.
-        (&[128], 3),
-        (&[7, 58, 0], 17),
-    ] {
-        assert_faulty(bytes, count, Fault::LeftOver);
-    }
-    for (text, ..) in ENCODINGS {
         for bit in ["0", "1"] {
             let (bytes, count) = encoding(&format!("{text}{bit}"));
             assert_faulty(&bytes, count, Fault::LeftOver);
         }
     }
-}
-
-#[test]
-fn padding_that_is_broken() {
-    for (bytes, count) in [
-        // The first bit past the count, the last one, one between.
-        (&[40][..], 4),
-        (&[33], 4),
-        (&[36], 4),
-        (&[32, 128], 4),
-        (&[32, 1], 4),
-        (&[32, 0, 0, 16], 4),
-        (&[7, 58, 128], 16),
-        (&[13], 7),
-    ] {
-        assert_faulty(bytes, count, Fault::Padding);
-    }
-    // The same bit is right where the count goes past it.
-    assert_faulty(&[33], 8, Fault::LeftOver);
-    // The bits end early all the same.
-    assert_faulty(&[255], 0, Fault::End);
-}
-
-#[test]
-fn every_fault_is_one_of_the_list() {
-    let faults = [(&[32][..], 9), (&[32], 3), (&[32], 5), (&[33], 4)];
-    let faults = faults.map(|(bytes, count)| term_of(bytes, count).expect_err("no encoding"));
-    assert_eq!(faults, FAULTS);
 }
 
 /// So many abstractions around a variable.

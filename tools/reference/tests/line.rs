@@ -4,9 +4,8 @@
 
 mod common;
 
-use common::{pressed, typed};
-use reference::line::{term_of, Fault, FAULTS};
-use reference::press::Verdict;
+use common::{numbers, typed};
+use reference::line::{term_of, Fault};
 use reference::refusal::Refusal;
 
 /// The line gives the words, with zeros after them.
@@ -31,67 +30,29 @@ fn assert_outside(line: &[u8], fault: Fault) {
 }
 
 #[test]
-fn indices() {
-    assert_gives("0", &[0]);
-    assert_gives("7", &[56]);
-    assert_gives("10", &[80]);
-    assert_gives("255", &[2_040]);
-    assert_gives("100", &[800]);
-}
-
-#[test]
-fn application_groups_to_the_left() {
-    assert_gives("0 1", &[2, 0, 8]);
-    assert_gives("0 1 2", &[2, 2, 0, 8, 16]);
-    assert_gives("0 1 2 3", &[2, 2, 2, 0, 8, 16, 24]);
-    assert_gives("0 (1 2)", &[2, 0, 2, 8, 16]);
-    assert_gives("0 (1 2) 3", &[2, 2, 0, 2, 8, 16, 24]);
-    assert_gives("(0 1) 2", &[2, 2, 0, 8, 16]);
-    assert_gives("0 (1 (2 3))", &[2, 0, 2, 8, 2, 16, 24]);
-}
-
-#[test]
-fn a_body_reaches_as_far_right_as_it_can() {
-    assert_gives("\\0", &[1, 0]);
-    // One abstraction over an application.
-    assert_gives("\\0 1", &[1, 2, 0, 8]);
-    assert_gives("(\\0) 1", &[2, 1, 0, 8]);
-    assert_gives("\\\\1", &[1, 1, 8]);
-    assert_gives("\\\\1 0", &[1, 1, 2, 8, 0]);
-    assert_gives("\\(\\1) 0", &[1, 2, 1, 8, 0]);
-    assert_gives("(\\0 1) 2", &[2, 1, 2, 0, 8, 16]);
-    assert_gives("(\\\\1) 0 1", &[2, 2, 1, 1, 8, 0, 8]);
-}
-
-#[test]
-fn an_abstraction_is_a_last_item() {
-    assert_gives("0 \\0", &[2, 0, 1, 0]);
-    // The application stands in the body.
-    assert_gives("0 \\0 1", &[2, 0, 1, 2, 0, 8]);
-    assert_gives("0 1 \\2", &[2, 2, 0, 8, 1, 16]);
-    assert_gives("0 \\1 \\2 3", &[2, 0, 1, 2, 8, 1, 2, 16, 24]);
-    assert_gives("(0 \\0) 1", &[2, 2, 0, 1, 0, 8]);
-    assert_gives("0 (\\0) 1", &[2, 2, 0, 1, 0, 8]);
-}
-
-#[test]
-fn parentheses_that_are_not_needed() {
-    assert_gives("(0)", &[0]);
-    assert_gives("((0))", &[0]);
-    assert_gives("(((\\(0))))", &[1, 0]);
-    assert_gives("(0) (1)", &[2, 0, 8]);
-    assert_gives("((0) (1)) ((2))", &[2, 2, 0, 8, 16]);
-    assert_gives("\\(0 1)", &[1, 2, 0, 8]);
-    assert_gives("(\\0 1)", &[1, 2, 0, 8]);
-}
-
-#[test]
-fn typed_terms_are_pressed() {
-    // K f0 f1 against f0: two contractions.
-    let (length, left) = typed(b"(\\\\1) 0 1", 16);
-    assert_eq!(length, Ok(7));
-    let answer = pressed(&left[..7], &[0], 16, 2).expect("both are terms");
-    assert_eq!((answer.verdict, answer.spent), (Verdict::Same, 2));
+fn lines_and_their_words() {
+    for (line, words) in [
+        ("10", "80"),
+        ("255", "2040"),
+        // Application groups to the left.
+        ("0 1 2 3", "2,2,2,0,8,16,24"),
+        ("0 (1 2) 3", "2,2,0,2,8,16,24"),
+        ("0 (1 (2 3))", "2,0,2,8,2,16,24"),
+        // A body reaches as far right as it can.
+        ("\\0 1", "1,2,0,8"),
+        ("\\(\\1) 0", "1,2,1,8,0"),
+        ("(\\0 1) 2", "2,1,2,0,8,16"),
+        ("(\\\\1) 0 1", "2,2,1,1,8,0,8"),
+        // An abstraction is a last item.
+        ("0 \\0 1", "2,0,1,2,0,8"),
+        ("0 \\1 \\2 3", "2,0,1,2,8,1,2,16,24"),
+        ("(0 \\0) 1", "2,2,0,1,0,8"),
+        // Parentheses that are not needed.
+        ("(((\\(0))))", "1,0"),
+        ("((0) (1)) ((2))", "2,2,0,8,16"),
+    ] {
+        assert_gives(line, &numbers(words));
+    }
 }
 
 #[test]
@@ -128,88 +89,51 @@ fn the_longest_lines() {
     assert_refused(nested(512, "1").as_bytes(), 16, Refusal::Line);
 }
 
-#[test]
-fn outside_by_a_space() {
-    for line in [
-        &b" "[..],
-        b" 0",
-        b"0 ",
-        b"0  1",
-        b"\\ 0",
-        b"( 0)",
-        b"(0 )",
-        b"0 1 ",
-        b"0 )",
-        b"(0 ",
-        b"0 \\ 0",
-        b" (0)",
-    ] {
-        assert_outside(line, Fault::Space);
-    }
-    // One is missing between two items.
-    for line in [
-        &b"0\\0"[..],
-        b"(0)1",
-        b"0(1)",
-        b"(0)(1)",
-        b"(0)\\0",
-        b"0 1(2)",
-    ] {
-        assert_outside(line, Fault::Space);
-    }
-}
+/// What is outside the grammar, and by what at the first place where something is.
+const OUTSIDE: [(Fault, &[&str]); 4] = [
+    // One too many, at the ends, in a row and inside, or one missing between two items.
+    (
+        Fault::Space,
+        &[
+            " ", " 0", "0 ", "0  1", "\\ 0", "( 0)", "(0 )", "0 1 ", "0 )", "(0 ", "0 \\ 0",
+            " (0)", "0\\0", "(0)1", "0(1)", "(0)(1)", "(0)\\0", "0 1(2)",
+        ],
+    ),
+    (
+        Fault::Parenthesis,
+        &["(0", "0)", "((0)", "(0))", "0 (1", "\\(0", "(0 1"],
+    ),
+    (
+        Fault::Item,
+        &[
+            "()", "\\", "(", ")", ")(", "(\\)", "\\\\", "0 ()", "0 \\", "() 0", "\\()",
+        ],
+    ),
+    (
+        Fault::Number,
+        &[
+            "00",
+            "01",
+            "007",
+            "0 01",
+            "\\00",
+            "32768",
+            "032767",
+            "65536",
+            "99999",
+            "4294967296",
+            "99999999999",
+            "18446744073709551616",
+        ],
+    ),
+];
 
 #[test]
-fn outside_by_a_parenthesis() {
-    for line in [
-        &b"(0"[..],
-        b"0)",
-        b"((0)",
-        b"(0))",
-        b"0 (1",
-        b"\\(0",
-        b"(0 1",
-    ] {
-        assert_outside(line, Fault::Parenthesis);
-    }
-}
-
-#[test]
-fn outside_by_a_missing_item() {
-    for line in [
-        &b"()"[..],
-        b"\\",
-        b"(",
-        b")",
-        b")(",
-        b"(\\)",
-        b"\\\\",
-        b"0 ()",
-        b"0 \\",
-        b"() 0",
-        b"\\()",
-    ] {
-        assert_outside(line, Fault::Item);
-    }
-}
-
-#[test]
-fn outside_by_a_number() {
-    for line in [
-        &b"00"[..],
-        b"01",
-        b"007",
-        b"0 01",
-        b"\\00",
-        b"32768",
-        b"032767",
-        b"65536",
-        b"99999",
-        b"4294967296",
-        b"99999999999",
-        b"18446744073709551616",
-    ] {
-        assert_outside(line, Fault::Number);
+fn lines_outside_the_grammar() {
+    for (fault, lines) in OUTSIDE {
+        for line in lines {
+            assert_outside(line.as_bytes(), fault);
+        }
     }
     assert_outside(&[b'1'; 1_024], Fault::Number);
     assert_outside(&[b'0'; 1_024], Fault::Number);
@@ -239,13 +163,6 @@ fn outside_by_a_byte() {
     ] {
         assert_outside(line, Fault::Byte);
     }
-}
-
-#[test]
-fn every_fault_is_one_of_the_list() {
-    let lines = [&b""[..], b"x", b"00", b" ", b"(0", b"()"];
-    let faults = lines.map(|line| term_of(line).expect_err("outside the grammar"));
-    assert_eq!(faults, FAULTS);
 }
 
 #[test]

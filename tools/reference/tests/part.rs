@@ -2,48 +2,31 @@
 
 mod common;
 
-use common::{table, workspace};
+use common::table;
 use reference::input::bytes;
 use reference::part::{of_call, of_input, Part};
-use reference::press::Side;
 use reference::replay::{Machine, Operation};
 
 const VARIABLE: [u32; 4] = [0, 0, 0, 0];
 
-/// A machine of 16 words a side that holds the given ones.
-fn machine(left: &[u32], right: &[u32]) -> Machine {
-    let mut machine = Machine::new(16, 16);
-    machine.left = workspace(left, 16);
-    machine.right = workspace(right, 16);
-    machine
+fn of((before, operation): (Machine, Operation)) -> Vec<Part> {
+    of_call(&before, &operation)
 }
 
 fn loading(records: &[[u32; 4]]) -> Vec<Part> {
-    let (side, table) = (Side::Right, table(records));
-    of_call(&machine(&[], &[]), &Operation::Load { side, table })
+    of(common::loading(records))
 }
 
 fn pressing(left: &[u32], right: &[u32], budget: u32) -> Vec<Part> {
-    let press = Operation::Press {
-        scratch: 16,
-        lengths: (left.len() as u32, right.len() as u32),
-        budget,
-    };
-    of_call(&machine(left, right), &press)
+    of(common::pressing(left, right, 16, budget))
 }
 
 fn showing(left: &[u32], right: &[u32]) -> Vec<Part> {
-    let lengths = (left.len() as u32, right.len() as u32);
-    of_call(&machine(left, right), &Operation::Show { lengths })
+    of(common::showing(left, right, 16))
 }
 
 fn writing(left: &[u32], table: usize) -> Vec<Part> {
-    let write = Operation::Write {
-        side: Side::Left,
-        length: left.len() as u32,
-        table,
-    };
-    of_call(&machine(left, &[]), &write)
+    of(common::writing(left, table))
 }
 
 #[test]

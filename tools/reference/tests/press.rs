@@ -3,7 +3,7 @@
 
 mod common;
 
-use common::{answer, different, pressed, workspace};
+use common::{answer, different, numbers, pressed, rows, workspace};
 use reference::press::Verdict::{Budget, Full, Same};
 use reference::press::{press, show, Answer, Session, Side};
 use reference::refusal::Refusal;
@@ -175,133 +175,178 @@ fn words_after_a_press() {
     assert_eq!(lent.left, [0; 16]);
 }
 
-#[test]
-fn both_sides_move_in_one_round() {
-    assert_eq!(pressed(&I_F0, &I_F1, 16, 1), answer(Budget, 0, 4, 4));
-    assert_eq!(pressed(&I_F0, &I_F1, 16, 2), different(2, 1, 1, 0));
-    // The left needs two contractions, the right one: 2 and then 1.
-    assert_eq!(pressed(&K_F0_F1, &I_F0, 16, 2), answer(Budget, 2, 4, 1));
-    assert_eq!(pressed(&K_F0_F1, &I_F0, 16, 3), answer(Same, 3, 1, 1));
-}
+/// The words of two terms, C, budget, and the answer: verdict, spent, lengths, position.
+const PRESSES: &str = r"
+    # The bench pairs of the rules.
+    2,2,1,1,8,0,8 | 0 | 16,2: Same 2 1 1 0
+    2,2,1,1,8,0,8 | 0 | 16,1: Budget 1 4 1 0
+    0 | 8 | 16,0: Different 0 1 1 0
+    2,1,2,0,0,1,2,0,0 | 2,1,2,0,0,1,2,0,0 | 16,0: Same 0 9 9 0
+    2,1,2,0,0,1,2,0,0 | 0 | 16,5: Budget 5 9 1 0
+    2,2,1,1,8,0,2,1,2,0,0,1,2,0,0 | 0 | 16,2: Same 2 1 1 0
+    1,2,8,0 | 0 | 16,0: Different 0 4 1 0
+    2,1,2,2,0,0,0,1,2,2,0,0,0 | 0 | 16,1: Full 0 13 1 0
+    2,1,2,2,0,0,0,1,2,2,0,0,0 | 0 | 16,0: Budget 0 13 1 0
+    2,1,2,2,0,0,0,1,2,2,0,0,0 | 0 | 20,1: Budget 1 20 1 0
+    2,1,2,2,0,0,0,1,2,2,0,0,0 | 0 | 19,1: Full 0 13 1 0
+    # Both sides move in one round: where the left needs two contractions and the
+    # right one, 2 are made and then 1.
+    2,1,0,0 | 2,1,0,8 | 16,1: Budget 0 4 4 0
+    2,1,0,0 | 2,1,0,8 | 16,2: Different 2 1 1 0
+    2,2,1,1,8,0,8 | 2,1,0,0 | 16,2: Budget 2 4 1 0
+    2,2,1,1,8,0,8 | 2,1,0,0 | 16,3: Same 3 1 1 0
+    # Equal terms are Same before they are normal, and others Different only once they
+    # are.
+    2,1,0,0 | 2,1,0,0 | 16,9: Same 0 4 4 0
+    8 | 8 | 16,0: Same 0 1 1 0
+    2,1,0,0 | 8 | 16,0: Budget 0 4 1 0
+    2,1,0,0 | 8 | 16,1: Different 1 1 1 0
+    # \ (\ 0) 0 against \ 0: an abstraction is no end.
+    1,2,1,0,0 | 1,0 | 16,0: Budget 0 5 2 0
+    1,2,1,0,0 | 1,0 | 16,1: Same 1 2 2 0
+    # Budget comes before Full: the next terms have 1 and 20 words. Full keeps the left
+    # term too, although its contraction would fit.
+    2,1,0,0 | 2,1,2,2,0,0,0,1,2,2,0,0,0 | 16,1: Budget 0 4 13 0
+    2,1,0,0 | 2,1,2,2,0,0,0,1,2,2,0,0,0 | 16,2: Full 0 4 13 0
+    2,1,2,2,0,0,0,1,2,2,0,0,0 | 2,1,0,0 | 16,2: Full 0 13 4 0
+    # (\ 1(0, 0)) applied to a constructor of 6 arguments becomes 1(a, a) with 1 + 7 + 7
+    # words, and of 7 arguments 17. Constructor 1 with 2, 6 and 7 arguments: 147, 179, 187.
+    2,1,147,0,0,179,0,0,0,0,0,0 | 0 | 16,1: Different 1 15 1 0
+    2,1,147,0,0,187,0,0,0,0,0,0,0 | 0 | 16,1: Full 0 13 1 0
+    2,1,147,0,0,187,0,0,0,0,0,0,0 | 0 | 17,1: Different 1 17 1 0
+    # case 3(f0) of _ -> f0 against f0 and f1, and stuck by the count, case 1() of
+    # _ -> f0, 1/1 -> f0: a default counts as any contraction.
+    12,395,0,5,0 | 0 | 16,0: Budget 0 5 1 0
+    12,395,0,5,0 | 0 | 16,1: Same 1 1 1 0
+    12,395,0,5,0 | 8 | 16,1: Different 1 1 1 0
+    20,131,5,0,141,8 | 0 | 16,9: Different 0 6 1 0
+    # Numeral 2, 22, becomes 1,1,2,8,2,8,0. Equal numerals need no contraction, even
+    # where none would fit.
+    22 | 1,1,2,8,2,8,0 | 16,0: Budget 0 1 7 0
+    22 | 1,1,2,8,2,8,0 | 16,1: Same 1 7 7 0
+    1,1,2,8,2,8,0 | 22 | 16,1: Same 1 7 7 0
+    254 | 254 | 16,0: Same 0 1 1 0
+    # Numerals 0 and 1 move together, to 1,1,0 and 1,1,2,8,0.
+    6 | 0 | 16,1: Different 1 3 1 0
+    6 | 14 | 16,1: Budget 0 1 1 0
+    6 | 14 | 16,2: Different 2 3 5 2
+    # Numeral n has 2n + 3 words: 6 has 15 and 7 17, 31 has 65; in f0 6, 2,0,54, it adds
+    # 14 to 3.
+    54 | 0 | 16,1: Different 1 15 1 0
+    62 | 0 | 16,1: Full 0 1 1 0
+    62 | 0 | 17,1: Different 1 17 1 0
+    2,0,54 | 0 | 16,0: Budget 0 3 1 0
+    2,0,54 | 0 | 16,1: Full 0 3 1 0
+    0 | 2,0,54 | 16,1: Full 0 1 3 0
+    2,0,54 | 0 | 17,1: Different 1 17 1 0
+    254 | 0 | 64,1: Full 0 1 1 0
+    254 | 0 | 65,1: Different 1 65 1 0
+    # (\ \ 1) f0 31 and case 2(f0, 31) of 2/2 -> 1: the numeral, which would not fit, is
+    # thrown away.
+    2,2,1,1,8,0,254 | 0 | 16,2: Same 2 1 1 0
+    12,275,0,254,277,8 | 0 | 16,1: Same 1 1 1 0
+    # \ \ \ \ 3 1 (2 1 0) applied to 2 and 2 against 4 and 5. Both sides move first: beta
+    # on the left, and 4 becomes 11 words. Then beta to \ \ 2 1 (2 1 0), 11 words, and for
+    # each numeral 2 in turn its own contraction, 17 words, and two by beta, 14 and 11.
+    2,2,1,1,1,1,2,2,24,8,2,2,16,8,0,22,22 | 38 | 17,1: Budget 0 17 1 0
+    2,2,1,1,1,1,2,2,24,8,2,2,16,8,0,22,22 | 38 | 17,2: Budget 2 14 11 0
+    2,2,1,1,1,1,2,2,24,8,2,2,16,8,0,22,22 | 38 | 17,3: Budget 3 11 11 0
+    2,2,1,1,1,1,2,2,24,8,2,2,16,8,0,22,22 | 38 | 17,4: Budget 4 17 11 0
+    2,2,1,1,1,1,2,2,24,8,2,2,16,8,0,22,22 | 38 | 17,8: Budget 8 14 11 0
+    2,2,1,1,1,1,2,2,24,8,2,2,16,8,0,22,22 | 38 | 17,9: Same 9 11 11 0
+    # Numeral 5 goes on with 2,8 where numeral 4 ends with 0, at word 10.
+    2,2,1,1,1,1,2,2,24,8,2,2,16,8,0,22,22 | 46 | 17,9: Different 9 11 13 10
+    # The position is that of the current forms. 1((\ 0) f0, f1) becomes 1(f0, f1), which
+    # differs from 1(f0, f2) at word 2; the first terms differ at word 1.
+    147,2,1,0,0,8 | 147,0,16 | 16,1: Different 1 3 3 2
+    # (\ 1(0, f0)) f1 and f2 differ at word 5, and become 1(f1, f0) and 1(f2, f0).
+    2,1,147,0,8,8 | 2,1,147,0,8,16 | 16,2: Different 2 3 3 1
+    # (\ 1(0, 0)) f0 against 1(f0, f0 f0): at word 0, then 1(f0, f0) and word 2.
+    2,1,147,0,0,0 | 147,0,2,0,0 | 16,1: Different 1 3 5 2
+    # There is none with the other verdicts: 1((\ 0) f0, f1), 1(f0, (\ \ 1) f0 f1),
+    # 1(f0, W W), whose next form has 22 words, and 1(f0, 7) against 1(f0, f1).
+    147,2,1,0,0,8 | 147,0,8 | 16,0: Budget 0 6 3 0
+    147,2,1,0,0,8 | 147,0,8 | 16,1: Same 1 3 3 0
+    147,0,2,2,1,1,8,0,8 | 147,0,8 | 16,1: Budget 1 6 3 0
+    147,0,2,1,2,2,0,0,0,1,2,2,0,0,0 | 147,0,8 | 16,1: Full 0 15 3 0
+    147,0,62 | 147,0,8 | 16,1: Full 0 3 3 0
+    147,0,8 | 147,0,62 | 16,0: Budget 0 3 3 0
+";
 
 #[test]
-fn equal_terms_are_same_before_they_are_normal() {
-    assert_eq!(pressed(&I_F0, &I_F0, 16, 9), answer(Same, 0, 4, 4));
-    assert_eq!(pressed(&[8], &[8], 16, 0), answer(Same, 0, 1, 1));
-}
-
-#[test]
-fn budget_comes_before_full() {
-    // The next terms have 1 and 20 words, and two contractions are needed.
-    assert_eq!(pressed(&I_F0, &W_W, 16, 1), answer(Budget, 0, 4, 13));
-    // Full keeps the left term too, although its contraction would fit.
-    assert_eq!(pressed(&I_F0, &W_W, 16, 2), answer(Full, 0, 4, 13));
-    assert_eq!(pressed(&W_W, &I_F0, 16, 2), answer(Full, 0, 13, 4));
-}
-
-#[test]
-fn a_next_term_of_exactly_c_words_fits() {
-    // (\ 1(0, 0)) applied to a constructor of 6 arguments, 12 words in all,
-    // becomes 1(a, a) with 1 + 7 + 7 = 15 words; with 7 arguments it has 17.
-    // Constructor 1 with 2, 6 and 7 arguments: 147, 179 and 187.
-    let term = |word: u32, count| [&[2, 1, 147, 0, 0, word][..], &vec![0; count]].concat();
-    assert_eq!(pressed(&term(179, 6), &[0], 16, 1), different(1, 15, 1, 0));
-    assert_eq!(pressed(&term(187, 7), &[0], 16, 1), answer(Full, 0, 13, 1));
-    assert_eq!(pressed(&term(187, 7), &[0], 17, 1), different(1, 17, 1, 0));
-}
-
-#[test]
-fn a_numeral_against_its_expansion() {
-    // Numeral 2 is 22 and becomes 1,1,2,8,2,8,0.
-    let two = [1, 1, 2, 8, 2, 8, 0];
-    assert_eq!(pressed(&[22], &two, 16, 1), answer(Same, 1, 7, 7));
-    assert_eq!(pressed(&two, &[22], 16, 1), answer(Same, 1, 7, 7));
-    assert_eq!(pressed(&[22], &two, 16, 0), answer(Budget, 0, 1, 7));
-    // Equal numerals need no contraction, even where none would fit.
-    assert_eq!(pressed(&[254], &[254], 16, 0), answer(Same, 0, 1, 1));
-}
-
-#[test]
-fn a_numeral_is_not_different_before_it_is_contracted() {
-    // 0 against f0: \ \ 0 is Different once the contraction is made.
-    assert_eq!(pressed(&[6], &[0], 16, 0), answer(Budget, 0, 1, 1));
-    assert_eq!(pressed(&[6], &[0], 16, 1), different(1, 3, 1, 0));
-    // Two numerals move together, to 1,1,0 and 1,1,2,8,0.
-    assert_eq!(pressed(&[6], &[14], 16, 1), answer(Budget, 0, 1, 1));
-    assert_eq!(pressed(&[6], &[14], 16, 2), different(2, 3, 5, 2));
-}
-
-#[test]
-fn a_numeral_grows_by_2n_plus_2_words() {
-    // Numeral 7, 62, becomes 17 words; in f0 6, 2,0,54, it is numeral 6 that
-    // adds 14 to 3.
-    for left in [&[62][..], &[2, 0, 54]] {
-        let length = left.len() as u32;
-        assert_eq!(pressed(left, &[0], 17, 1), different(1, 17, 1, 0));
-        assert_eq!(pressed(left, &[0], 16, 1), answer(Full, 0, length, 1));
-        assert_eq!(pressed(&[0], left, 16, 1), answer(Full, 0, 1, length));
-        assert_eq!(pressed(left, &[0], 16, 0), answer(Budget, 0, length, 1));
+fn presses_and_their_answers() {
+    for row in rows(PRESSES) {
+        let (call, expected) = row.split_once(": ").expect("an answer");
+        let parts: Vec<&str> = call.split(" | ").collect();
+        let (left, right) = (numbers(parts[0]), numbers(parts[1]));
+        let limits = numbers(parts[2]);
+        let answer = pressed(&left, &right, limits[0] as usize, limits[1]).expect("two terms");
+        let line = format!("{answer} {}", answer.position);
+        assert_eq!(line, expected, "{row}");
     }
-    assert_eq!(pressed(&[54], &[0], 16, 1), different(1, 15, 1, 0));
-    // The last one has 65 words.
-    assert_eq!(pressed(&[254], &[0], 65, 1), different(1, 65, 1, 0));
-    assert_eq!(pressed(&[254], &[0], 64, 1), answer(Full, 0, 1, 1));
 }
 
-#[test]
-fn a_numeral_that_is_thrown_away_is_not_contracted() {
-    // (\ \ 1) f0 31 and case 2(f0, 31) of 2/2 -> 1 in 16 words, where the
-    // numeral would not fit. Constructor 2 with two arguments is 275, its
-    // branch 277.
-    let left = [2, 2, 1, 1, 8, 0, 254];
-    assert_eq!(pressed(&left, &[0], 16, 2), answer(Same, 2, 1, 1));
-    let left = [12, 275, 0, 254, 277, 8];
-    assert_eq!(pressed(&left, &[0], 16, 1), answer(Same, 1, 1, 1));
-}
+/// Normal forms and the first word at which they differ, whichever is left.
+const APART: &str = r"
+    # At the first word alone: f0 f1 and 1(f0, f1), 1(f0) and 2(f0).
+    2,0,8 | 147,0,8 | 0
+    139,0 | 267,0 | 0
+    # At the last word of the shorter: f0 f1 and f0 f2, f0 (\ 0), f0 (f0 f0).
+    2,0,8 | 2,0,16 | 2
+    2,0,8 | 2,0,1,0 | 2
+    2,0,8 | 2,0,2,0,0 | 2
+    1,1,0 | 1,1,2,8,0 | 2
+    # Inside forms of unequal lengths: 1(f0, 1(f1, f0)) and 1(f0, 1(\ 0, f0)).
+    147,0,147,8,0 | 147,0,147,1,0,0 | 3
+    # The first of several.
+    147,0,0 | 147,8,8 | 1
+    155,0,8,16 | 155,8,8,0 | 1
+    147,1,0,0 | 147,1,8,8 | 2
+    # Payload 0 as variable, abstraction, application and case; payload 16 as variable 16
+    # and constructor 1 without arguments.
+    147,8,0 | 147,8,1,0 | 2
+    147,8,0 | 147,8,2,0,0 | 2
+    147,8,0 | 147,8,4,0 | 2
+    147,8,1,0 | 147,8,2,0,0 | 2
+    147,8,1,0 | 147,8,4,0 | 2
+    147,8,2,0,0 | 147,8,4,0 | 2
+    147,8,128 | 147,8,131 | 2
+    # Constructors by their tag, and by their arguments, equal as far as both have them.
+    1,131 | 1,259 | 1
+    1,131 | 1,32643 | 1
+    1,139,0 | 1,147,0,0 | 1
+    1,131 | 1,139,0 | 1
+    # case f0 of 1 -> f0, with another subject, tag, bound count, body and branches.
+    12,0,133,0 | 12,8,133,0 | 1
+    12,0,133,0 | 12,0,261,0 | 2
+    12,0,133,0 | 12,0,141,0 | 2
+    12,0,133,0 | 12,0,133,8 | 3
+    1,4,0 | 1,12,0,133,0 | 1
+    1,12,0,133,0 | 1,20,0,133,0,261,0 | 1
+    20,0,133,0,261,0 | 20,0,133,0,389,0 | 4
+    20,0,133,0,261,0 | 20,0,133,0,269,0 | 4
+    20,0,133,0,261,0 | 20,0,133,0,261,8 | 5
+";
 
-#[test]
-fn a_numeral_applied() {
-    // 3 f0: the numeral, then beta, to \ 1 (1 (1 0)).
-    let right = [1, 2, 8, 2, 8, 2, 8, 0];
-    assert_eq!(pressed(&[2, 30, 0], &right, 16, 2), answer(Same, 2, 8, 8));
-    assert_eq!(
-        pressed(&[2, 30, 0], &right, 16, 1),
-        answer(Budget, 1, 11, 8)
-    );
-}
-
-#[test]
-fn two_and_two_is_four() {
-    // \ \ \ \ 3 1 (2 1 0) applied to 2 and 2, 17 words, against numeral 4.
-    let sum = [1, 1, 1, 1, 2, 2, 24, 8, 2, 2, 16, 8, 0];
-    let left = [&[2, 2][..], &sum, &[22, 22]].concat();
-    // Both sides move first: beta on the left, and the right becomes 11 words.
-    assert_eq!(pressed(&left, &[38], 17, 1), answer(Budget, 0, 17, 1));
-    assert_eq!(pressed(&left, &[38], 17, 2), answer(Budget, 2, 14, 11));
-    // Then beta to \ \ 2 1 (2 1 0), 11 words, and for each numeral 2 in turn
-    // its own contraction, 17 words, and two by beta, 14 and 11 words.
-    for (spent, length) in [(3, 11), (4, 17), (5, 14), (6, 11), (7, 17), (8, 14)] {
-        let expected = answer(Budget, spent, length, 11);
-        assert_eq!(pressed(&left, &[38], 17, spent), expected);
+/// A press of two normal forms that differ first at a position.
+fn assert_apart(one: &[u32], other: &[u32], at: u32) {
+    for (left, right) in [(one, other), (other, one)] {
+        let lengths = (left.len() as u32, right.len() as u32);
+        let expected = different(0, lengths.0, lengths.1, at);
+        assert_eq!(pressed(left, right, 512, 0), expected);
     }
-    assert_eq!(pressed(&left, &[38], 17, 9), answer(Same, 9, 11, 11));
-    // Numeral 5 goes on with 2,8 where numeral 4 ends with 0, at word 10.
-    assert_eq!(pressed(&left, &[46], 17, 9), different(9, 11, 13, 10));
 }
 
 #[test]
-fn a_payload_above_31_is_no_term() {
-    for wrong in [262, 8 * 256 + 6, u32::MAX - 1] {
-        let mut lent = Lent::new(&[wrong], &[14], 16);
-        lent.assert_refused((1, 1), 9, Refusal::NotATerm);
-        let mut lent = Lent::new(&[14], &[wrong], 16);
-        lent.assert_refused((1, 1), 9, Refusal::NotATerm);
-        let (left, right) = (workspace(&[wrong], 16), workspace(&[14], 16));
-        assert_eq!(show(&left, &right, (1, 1)), None);
-        assert_eq!(show(&right, &left, (1, 1)), None);
+fn normal_forms_and_where_they_differ() {
+    for row in rows(APART) {
+        let parts: Vec<Vec<u32>> = row.split('|').map(numbers).collect();
+        assert_apart(&parts[0], &parts[1], parts[2][0]);
     }
-    let lent = workspace(&[254], 16);
-    assert_eq!(show(&lent, &lent, (1, 1)), Some((Side::Right, 1)));
+    // 1(1( .. f0)), 301 words, applied to f1 and to f2.
+    let function = [&[139; 300][..], &[0]].concat();
+    let applied = |argument| [&[2][..], &function, &[argument]].concat();
+    assert_apart(&applied(8), &applied(16), 1 + 301);
 }
 
 #[test]
@@ -322,17 +367,6 @@ fn session_is_renewed() {
     let same = lent.clone();
     assert_eq!(lent.press((1, 1), 5), answer(Same, 0, 1, 1));
     assert_eq!(lent, same);
-}
-
-#[test]
-fn fresh_session() {
-    let Session {
-        total,
-        left,
-        right,
-        verdict,
-    } = Session::fresh();
-    assert_eq!((total, left, right, verdict), (0, 0, 0, Budget));
 }
 
 #[test]
@@ -406,28 +440,5 @@ fn showing_is_refused_by_7_and_10() {
     for (capacity, passes) in [(15, false), (16, true), (2_048, true), (2_049, false)] {
         let equal = workspace(&[8], capacity);
         assert_eq!(show(&equal, &equal, (1, 1)).is_some(), passes);
-    }
-}
-
-#[test]
-fn showing_is_refused_at_equal_lengths() {
-    // By 10 on the left, on the right and on both: words that are no term, a
-    // length that is too short, too long, 0 or above C.
-    let wrong = [2, 1, 0, 7];
-    assert_eq!(shown(&wrong, &I_F0), None);
-    assert_eq!(shown(&I_F0, &wrong), None);
-    assert_eq!(shown(&wrong, &wrong), None);
-    let (four, three) = (workspace(&I_F0, 16), workspace(&[2, 0, 8], 16));
-    for length in [3, 4] {
-        assert_eq!(show(&four, &three, (length, length)), None);
-        assert_eq!(show(&three, &four, (length, length)), None);
-    }
-    for length in [0, 3, 5, 17, u32::MAX] {
-        assert_eq!(show(&four, &four, (length, length)), None, "{length}");
-    }
-    // By 7 on the left, on the right and on both.
-    for (left, right) in [(15, 16), (16, 15), (16, 17), (17, 16), (15, 15)] {
-        let lent = |capacity| workspace(&I_F0, capacity);
-        assert_eq!(show(&lent(left), &lent(right), (4, 4)), None);
     }
 }

@@ -3,7 +3,7 @@
 
 mod common;
 
-use common::table;
+use common::{numbers, rows, table};
 use reference::input::bytes;
 use reference::replay::run;
 
@@ -17,7 +17,6 @@ const K_F0_F1: [[u32; 4]; 7] = [
     [0, 0, 0, 0],
     [0, 1, 0, 0],
 ];
-const F0: [[u32; 4]; 1] = [[0, 0, 0, 0]];
 
 fn text(words: &[&[u32]]) -> String {
     run(&bytes(&words.concat())).text
@@ -73,16 +72,6 @@ fn at_first_all_is_zero_and_the_session_fresh() {
     ];
     assert_eq!(text(&[&[3, u32::MAX, 7]]), expected.concat());
     assert_eq!(text(&[&[0, 2_049]]), "");
-}
-
-#[test]
-fn a_refused_press_leaves_sevens_in_its_scratch() {
-    let printed = text(&[&[16, 16, 2, 5, 1, 1, 0, 7]]);
-    assert!(printed.starts_with("refused 7\nleft 0 "));
-    assert!(printed.ends_with("\nscratch 7 7 7 7 7\nsession 0 0 0 Budget\n"));
-    // The longest scratch is lent and refused, a longer one is not lent.
-    assert_eq!(text(&[&[16, 16, 2, 8_196, 1, 1, 0]]), "refused 7\n");
-    assert_eq!(text(&[&[16, 16, 2, 8_197, 1, 1, 0]]), "Script\n");
 }
 
 #[test]
@@ -144,51 +133,6 @@ fn the_position_ends_the_line_of_every_press() {
     assert_eq!(printed, expected.concat());
 }
 
-#[test]
-fn showing() {
-    // f1 on the left, f0 on the right: the right one at equal lengths.
-    let start: [u32; 6] = [16, 16, 6, 0, 0, 8];
-    assert_eq!(text(&[&start, &[3, 1, 1]]), "store\nshow 1 0\n");
-    // Beside \ 0 the left one is shorter.
-    let longer = [6, 1, 0, 1, 3, 1, 2];
-    assert_eq!(text(&[&start, &longer]), "store\nstore\nshow 0 8\n");
-    // Refused: the empty start of the left.
-    assert_eq!(text(&[&start, &[3, 1, 2]]), "store\nshow 0\n");
-    assert_eq!(text(&[&start, &[3, 0, 1]]), "store\nshow 0\n");
-    assert_eq!(text(&[&[16, 17, 3, 1, 1]]), "show 0\n");
-}
-
-#[test]
-fn writing_prints_the_whole_table() {
-    // An empty workspace holds f0 as its first word.
-    let start = [16, 15];
-    assert_eq!(text(&[&start, &[4, 0, 1, 8]]), "write 1 1 1 1 0 0 0 0 0\n");
-    assert_eq!(text(&[&start, &[4, 0, 1, 3]]), "refused 1 7 7 7\n");
-    assert_eq!(text(&[&start, &[4, 0, 2, 2]]), "refused 10 7 7\n");
-    assert_eq!(text(&[&start, &[4, 0, 1, 0]]), "refused 1\n");
-    assert_eq!(text(&[&start, &[4, 1, 1, 1]]), "refused 7 7\n");
-    let long = text(&[&start, &[4, 0, 1, 8_196]]);
-    assert_eq!(long, row("refused", &[1], 8_196, "7"));
-    assert_eq!(text(&[&start, &[4, 0, 1, 8_197]]), "Script\n");
-}
-
-#[test]
-fn each_side_is_loaded_by_its_own_length() {
-    let printed = text(&[&[15, 16], &load(0, &F0), &load(1, &F0)]);
-    assert_eq!(printed, "refused 7\nload 1\n");
-    assert_eq!(text(&[&[16, 16, 1, 0, 0]]), "refused 1\n");
-}
-
-#[test]
-fn verdicts_of_a_set_session() {
-    for (number, name) in ["Same", "Different", "Budget", "Full"].iter().enumerate() {
-        let printed = text(&[&[0, 0, 5, 1, 2, u32::MAX, number as u32, 7]]);
-        let end = format!("session 1 2 4294967295 {name}\n");
-        assert_eq!(printed, format!("session\nleft\nright\nscratch\n{end}"));
-    }
-    assert_eq!(text(&[&[0, 0, 5, 1, 2, 3, 4]]), "Script\n");
-}
-
 /// A line for a side.
 fn typed(side: u32, line: &[u8]) -> Vec<u32> {
     let bytes = line.iter().map(|byte| u32::from(*byte));
@@ -230,31 +174,6 @@ fn lines_bring_terms_in() {
         "session 2 1 1 Same\n",
     ];
     assert_eq!(printed, expected.concat());
-}
-
-#[test]
-fn each_side_is_typed_by_its_own_length() {
-    let printed = text(&[&[15, 16], &typed(0, b"0"), &typed(1, b"0")]);
-    assert_eq!(printed, "refused 7\nline 1\n");
-    assert_eq!(text(&[&[16, 2_049], &typed(1, b"()")]), "refused 7\n");
-}
-
-#[test]
-fn words_of_a_line_are_bytes() {
-    let start = [16, 16];
-    assert_eq!(text(&[&start, &[8, 0, 1, 255]]), "refused 11\n");
-    assert_eq!(text(&[&start, &[8, 0, 1, 256]]), "Script\n");
-    // Cut to eight bits this would be a line.
-    assert_eq!(text(&[&start, &[8, 0, 1, 256 + 48]]), "Script\n");
-    assert_eq!(text(&[&start, &[8, 0, 3, 48, 32, u32::MAX]]), "Script\n");
-    // The longest line is lent and refused, a longer one is not lent.
-    let longest = text(&[&start, &typed(0, &[b'0'; 8_196])]);
-    assert_eq!(longest, "refused 11\n");
-    let longer = text(&[&start, &typed(0, &[b'0'; 8_197])]);
-    assert_eq!(longer, "Script\n");
-    // A byte that is none comes before a wrong workspace.
-    assert_eq!(text(&[&[0, 0], &[8, 0, 1, 256]]), "Script\n");
-    assert_eq!(text(&[&[0, 0], &[8, 0, 0]]), "refused 7\n");
 }
 
 /// An encoding for a side.
@@ -306,97 +225,116 @@ fn encodings_bring_terms_in_and_carry_them_out() {
     assert_eq!(printed, expected.concat());
 }
 
+/// The words of scripts, and the lines that are printed for them.
+const SCRIPTS: &str = "
+    # Showing: f1 on the left, f0 on the right, which is shown at equal lengths; beside \\ 0
+    # the left one is shorter; refused it is the empty start of the left.
+    16,16; 6,0,0,8; 3,1,1 > store; show 1 0
+    16,16; 6,0,0,8; 6,1,0,1; 3,1,2 > store; store; show 0 8
+    16,16; 6,0,0,8; 3,1,2 > store; show 0
+    16,16; 6,0,0,8; 3,0,1 > store; show 0
+    16,17; 3,1,1 > show 0
+    # Writing prints the whole table; an empty workspace holds f0 as its first word.
+    16,15; 4,0,1,8 > write 1 1 1 1 0 0 0 0 0
+    16,15; 4,0,1,3 > refused 1 7 7 7
+    16,15; 4,0,2,2 > refused 10 7 7
+    16,15; 4,0,1,0 > refused 1
+    16,15; 4,1,1,1 > refused 7 7
+    16,15; 4,0,1,8197 > Script
+    # Exporting prints all bytes; f0 is not closed, \\ 0 is 0010.
+    16,15; 10,0,1,3 > refused 13 7 7 7
+    16,15; 10,0,1,0 > refused 13
+    16,15; 10,0,0,2 > refused 10 7 7
+    16,15; 10,1,1,1 > refused 7 7
+    16,16; 6,0,0,1; 10,0,2,3 > store; export 4 32 0 0
+    16,16; 10,0,2,8197 > Script
+    # The longest scratch is lent and refused, a longer one is not lent; 7s are in it.
+    16,16; 2,8196,1,1,0 > refused 7
+    16,16; 2,8197,1,1,0 > Script
+    1,1; 2,3,1,1,0; 7 > refused 7; left 0; right 0; scratch 7 7 7; session 0 0 0 Budget
+    # Each side is loaded, typed and imported by its own length.
+    15,16; 1,0,8,1,1,1,0,0,0,0,0; 1,1,8,1,1,1,0,0,0,0,0 > refused 7; load 1
+    16,16; 1,0,0 > refused 1
+    15,16; 8,0,1,48; 8,1,1,48 > refused 7; line 1
+    16,2049; 8,1,2,40,41 > refused 7
+    15,16; 9,0,4,1,32; 9,1,4,1,32 > refused 7; import 2
+    16,2049; 9,1,9,0 > refused 7
+    # Words of lines and encodings are bytes; cut to eight bits 304 would be a line and 288
+    # an encoding. A byte that is none comes before a wrong workspace.
+    16,16; 8,0,1,255 > refused 11
+    16,16; 8,0,1,256 > Script
+    16,16; 8,0,1,304 > Script
+    16,16; 8,0,3,48,32,4294967295 > Script
+    0,0; 8,0,1,256 > Script
+    0,0; 8,0,0 > refused 7
+    16,16; 9,0,0,0 > refused 12
+    16,16; 9,0,4294967295,0 > refused 12
+    16,16; 9,0,4,1,255 > refused 12
+    16,16; 9,0,4,1,256 > Script
+    16,16; 9,0,4,1,288 > Script
+    16,16; 9,0,4,2,32,4294967295 > Script
+    0,0; 9,0,4,1,256 > Script
+    0,0; 9,0,4,0 > refused 7
+    # Verdicts of a set session.
+    0,0; 5,1,2,4294967295,0; 7 > session; left; right; scratch; session 1 2 4294967295 Same
+    0,0; 5,1,2,3,1; 7 > session; left; right; scratch; session 1 2 3 Different
+    0,0; 5,1,2,3,2; 7 > session; left; right; scratch; session 1 2 3 Budget
+    0,0; 5,1,2,3,3; 7 > session; left; right; scratch; session 1 2 3 Full
+    0,0; 5,1,2,3,4 > Script
+    # Storing outside does nothing.
+    2,1; 6,0,1,9; 6,0,2,9; 6,1,1,9; 7 > store; store; store; left 0 9; right 0; scratch; session 0 0 0 Budget
+    # A broken operation ends the run; nothing after it is done.
+    16,16; 11; 6,0,0,8 > Script
+    16,16; 6,0,0,8; 0 > store; Script
+    16,16; 4294967295 > Script
+    16,16; 1 > Script
+    16,16; 1,2,0 > Script
+    16,16; 1,0,4,1,1,1 > Script
+    16,16; 1,0,8197 > Script
+    16,16; 2,16,1,1 > Script
+    16,16; 3,1 > Script
+    16,16; 4,2,1,8 > Script
+    16,16; 4,0,1 > Script
+    16,16; 5,1,1,1 > Script
+    16,16; 6,2,0,0 > Script
+    16,16; 6,0,0 > Script
+    16,16; 8,0 > Script
+    16,16; 8,2,1,48 > Script
+    16,16; 8,0,2,48 > Script
+    16,16; 8,0,8197 > Script
+    16,16; 9,0,4 > Script
+    16,16; 9,2,4,1,32 > Script
+    16,16; 9,0,4,2,32 > Script
+    16,16; 9,0,4,8197 > Script
+    16,16; 10,0,1 > Script
+    16,16; 10,2,1,1 > Script
+";
+
 #[test]
-fn exporting_prints_all_bytes() {
-    // An empty workspace holds f0 as its first word, which is not closed.
-    let start = [16, 15];
-    assert_eq!(text(&[&start, &[10, 0, 1, 3]]), "refused 13 7 7 7\n");
-    assert_eq!(text(&[&start, &[10, 0, 1, 0]]), "refused 13\n");
-    assert_eq!(text(&[&start, &[10, 0, 0, 2]]), "refused 10 7 7\n");
-    assert_eq!(text(&[&start, &[10, 1, 1, 1]]), "refused 7 7\n");
-    let identity = [16, 16, 6, 0, 0, 1];
-    let long = text(&[&identity, &[10, 0, 2, 8_196]]);
-    let bytes = row("export", &[4, 32], 8_195, "0");
-    assert_eq!(long, "store\n".to_string() + &bytes);
-    let longer = text(&[&identity, &[10, 0, 2, 8_197]]);
-    assert_eq!(longer, "store\nScript\n");
+fn short_scripts() {
+    for row in rows(SCRIPTS) {
+        let (script, printed) = row.split_once(" > ").expect("what is printed");
+        let words: Vec<u32> = script.split(';').flat_map(numbers).collect();
+        let printed = printed.replace("; ", "\n") + "\n";
+        assert_eq!(text(&[&words]), printed, "{row}");
+    }
 }
 
 #[test]
-fn each_side_is_carried_by_its_own_length() {
-    let printed = text(&[&[15, 16], &encoding(0, 4, &[32]), &encoding(1, 4, &[32])]);
-    assert_eq!(printed, "refused 7\nimport 2\n");
-    assert_eq!(text(&[&[16, 2_049], &encoding(1, 9, &[])]), "refused 7\n");
-}
-
-#[test]
-fn words_of_a_encoding_are_bytes() {
+fn the_longest_parts_are_lent() {
     let start = [16, 16];
-    assert_eq!(text(&[&start, &encoding(0, 0, &[])]), "refused 12\n");
-    assert_eq!(text(&[&start, &encoding(0, u32::MAX, &[])]), "refused 12\n");
-    assert_eq!(text(&[&start, &[9, 0, 4, 1, 255]]), "refused 12\n");
-    assert_eq!(text(&[&start, &[9, 0, 4, 1, 256]]), "Script\n");
-    // Cut to eight bits this would be an encoding.
-    assert_eq!(text(&[&start, &[9, 0, 4, 1, 256 + 32]]), "Script\n");
-    assert_eq!(text(&[&start, &[9, 0, 4, 2, 32, u32::MAX]]), "Script\n");
-    // The longest encoding is lent, a longer one is not.
+    assert_eq!(text(&[&start, &typed(0, &[b'0'; 8_196])]), "refused 11\n");
+    assert_eq!(text(&[&start, &typed(0, &[b'0'; 8_197])]), "Script\n");
     let zeros = |count: usize| encoding(0, 4, &[&[32][..], &vec![0; count - 1]].concat());
     assert_eq!(text(&[&start, &zeros(8_196)]), "import 2\n");
     assert_eq!(text(&[&start, &zeros(8_197)]), "Script\n");
-    // A byte that is none comes before a wrong workspace.
-    assert_eq!(text(&[&[0, 0], &[9, 0, 4, 1, 256]]), "Script\n");
-    assert_eq!(text(&[&[0, 0], &[9, 0, 4, 0]]), "refused 7\n");
-}
-
-#[test]
-fn storing_outside_does_nothing() {
-    let printed = text(&[&[2, 1, 6, 0, 1, 9, 6, 0, 2, 9, 6, 1, 1, 9, 7]]);
-    let lines = "store\nstore\nstore\nleft 0 9\nright 0\nscratch\nsession 0 0 0 Budget\n";
-    assert_eq!(printed, lines);
-}
-
-#[test]
-fn a_broken_operation_ends_the_run() {
-    // What was printed before it stays.
-    for end in [
-        &[0][..],
-        &[11],
-        &[u32::MAX],
-        &[1],
-        &[1, 2, 0],
-        &[1, 0, 4, 1, 1, 1],
-        &[1, 0, 8_197],
-        &[2, 16, 1, 1],
-        &[3, 1],
-        &[4, 2, 1, 8],
-        &[4, 0, 1],
-        &[5, 1, 1, 1],
-        &[6, 2, 0, 0],
-        &[6, 0, 0],
-        &[8],
-        &[8, 0],
-        &[8, 2, 1, 48],
-        &[8, 0, 2, 48],
-        &[8, 0, 8_197],
-        &[8, 0, 1, 256],
-        &[9],
-        &[9, 0],
-        &[9, 0, 4],
-        &[9, 2, 4, 1, 32],
-        &[9, 0, 4, 2, 32],
-        &[9, 0, 4, 8_197],
-        &[9, 0, 4, 1, 256],
-        &[10],
-        &[10, 0],
-        &[10, 0, 1],
-        &[10, 2, 1, 1],
-        &[10, 0, 1, 8_197],
-    ] {
-        let printed = text(&[&[16, 16, 6, 0, 0, 8], end]);
-        assert_eq!(printed, "store\nScript\n", "{end:?}");
-    }
-    // Nothing after it is done.
-    assert_eq!(text(&[&[16, 16, 11, 6, 0, 0, 8]]), "Script\n");
+    let written = text(&[&start, &[4, 0, 1, 8_196]]);
+    assert_eq!(written, row("refused", &[1], 8_196, "7"));
+    let exported = text(&[&start, &[6, 0, 0, 1, 10, 0, 2, 8_196]]);
+    assert_eq!(
+        exported,
+        "store\n".to_string() + &row("export", &[4, 32], 8_195, "0")
+    );
 }
 
 #[test]

@@ -2,21 +2,13 @@
 
 mod common;
 
-use common::workspace;
 use reference::replay::{Machine, Operation};
-use reference::shape::{of_call, Shape, SHAPES};
+use reference::shape::{of_call, Shape};
 
 /// What comes of a press in workspaces of `capacity` words.
 fn pressing(left: &[u32], right: &[u32], capacity: usize, budget: u32) -> Vec<Shape> {
-    let mut machine = Machine::new(capacity as u32, capacity as u32);
-    machine.left = workspace(left, capacity);
-    machine.right = workspace(right, capacity);
-    let press = Operation::Press {
-        scratch: capacity,
-        lengths: (left.len() as u32, right.len() as u32),
-        budget,
-    };
-    of_call(&machine, &press)
+    let (before, press) = common::pressing(left, right, capacity, budget);
+    of_call(&before, &press)
 }
 
 /// A press of normal forms, whichever is left.
@@ -101,20 +93,4 @@ fn other_verdicts() {
     assert_eq!(pressing(&left, &right, 16, 1_000_001), []);
     let show = Operation::Show { lengths: (1, 1) };
     assert_eq!(of_call(&Machine::new(16, 16), &show), []);
-}
-
-#[test]
-fn names() {
-    let names = [
-        "press Different behind equal words",
-        "press Different behind 100 equal words",
-        "press Different at the shorter's last word",
-        "press Different at equal lengths",
-        "press Different at unequal lengths",
-        "press Different elsewhere than before",
-        "press Different at several words",
-        "press Budget behind equal words",
-        "press Full behind equal words",
-    ];
-    assert_eq!(SHAPES.map(|shape| shape.to_string()), names);
 }

@@ -23,6 +23,21 @@ fn line(budget: u32, capacity: u32, left: &[u32], right: &[u32]) -> String {
 }
 
 #[test]
+fn worked_example_of_the_rules() {
+    // 2,2,1,1,8,0,8: record 1 applies 2 to 7, and 2 applies 3 to 6.
+    let left = table(&[
+        [2, 0, 2, 0],
+        [2, 0, 3, 7],
+        [1, 0, 4, 6],
+        [1, 0, 5, 0],
+        [0, 1, 0, 0],
+        [0, 0, 0, 0],
+        [0, 1, 0, 0],
+    ]);
+    assert_eq!(line(10, 16, &left, &table(&F0)), "Same 2 1 1\n");
+}
+
+#[test]
 fn lines_of_the_verdicts() {
     let (redex, f0, f1) = (table(&I_F0), table(&F0), table(&F1));
     assert_eq!(line(1, 16, &redex, &f0), "Same 1 1 1\n");
@@ -41,36 +56,6 @@ fn lines_of_the_verdicts() {
         ]);
     }
     assert_eq!(line(1, 16, &table(&records), &f0), "Full 0 13 1\n");
-}
-
-#[test]
-fn lines_of_numerals() {
-    let numeral = |value| table(&[[6, value, 0, 0]]);
-    // Numeral 0 becomes \ \ 0, in records 1 to 3.
-    let zero = table(&[[1, 0, 2, 0], [1, 0, 3, 0], [0, 0, 0, 0]]);
-    assert_eq!(line(1, 16, &numeral(0), &zero), "Same 1 3 3\n");
-    assert_eq!(line(0, 16, &numeral(0), &zero), "Budget 0 1 3\n");
-    // 1,1,0 against 1,1,2 and twelve more.
-    let apart = "Different 2 3 15 2\n";
-    assert_eq!(line(2, 16, &numeral(0), &numeral(6)), apart);
-    assert_eq!(line(2, 16, &numeral(0), &numeral(7)), "Full 0 1 1\n");
-    assert_eq!(line(0, 16, &numeral(31), &numeral(31)), "Same 0 1 1\n");
-    assert_eq!(line(0, 16, &numeral(31), &numeral(32)), "Refused 3\n");
-    let with_child = table(&[[6, 1, 2, 0], [0, 0, 0, 0]]);
-    assert_eq!(line(0, 16, &with_child, &zero), "Refused 5\n");
-}
-
-#[test]
-fn the_position_is_printed_with_different_only() {
-    // 1(f0, last): words 147, 0 and the last one's.
-    let pair = |last: [u32; 2]| table(&[[3, 1, 2, 0], [0, 0, 0, 3], [last[0], last[1], 0, 0]]);
-    let (f1, f2, seven) = (pair([0, 1]), pair([0, 2]), pair([6, 7]));
-    assert_eq!(line(0, 16, &f1, &f2), "Different 0 3 3 2\n");
-    assert_eq!(line(0, 16, &f1, &f1), "Same 0 3 3\n");
-    // Numeral 7 becomes 17 words, 1,1,2 and so on.
-    assert_eq!(line(0, 16, &f1, &seven), "Budget 0 3 3\n");
-    assert_eq!(line(1, 16, &f1, &seven), "Full 0 3 3\n");
-    assert_eq!(line(1, 19, &f1, &seven), "Different 1 3 19 2\n");
 }
 
 #[test]
@@ -134,14 +119,4 @@ fn left_then_right_then_press() {
     assert_eq!(line(1_000_001, 16, &f0, &no_form), "Refused 2\n");
     assert_eq!(line(1_000_001, 16, &f0, &f0), "Refused 9\n");
     assert_eq!(line(1_000_000, 16, &f0, &f0), "Same 0 1 1\n");
-}
-
-#[test]
-fn a_table_longer_than_the_workspace() {
-    // Sixteen abstractions over f0 are 17 words.
-    let mut records: Vec<[u32; 4]> = (1..17).map(|i| [1, 0, i + 1, 0]).collect();
-    records.push([0, 16, 0, 0]);
-    let (long, f0) = (table(&records), table(&F0));
-    assert_eq!(line(0, 16, &f0, &long), "Refused 8\n");
-    assert_eq!(line(0, 17, &f0, &long), "Different 0 1 17 0\n");
 }
