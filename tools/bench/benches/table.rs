@@ -7,23 +7,19 @@ use std::process::{Command, ExitCode};
 
 use bench::cases::{contracting, growing_touched, growing_untouched, normal, untouched};
 use bench::cases::{Case, Point};
-use bench::encodings::{growing_encodings, Encoding, EncodingRow};
+use bench::encodings::growing_encodings;
 use bench::keys::{self, Judges, KeyRow};
-use bench::lines::{growing_lines, Line, LineRow};
-use bench::measure::{Bench, Each, Row};
+use bench::lines::growing_lines;
+use bench::measure::{Bench, Each};
 use bench::plot::{svg, Panel};
 use bench::probe::Probe;
 use bench::report::Report;
-use bench::run::{Counter, InputFile};
 use unit::repository;
 
 const USAGE: &str = "\
-usage: cargo bench --manifest-path tools/Cargo.toml --package bench [-- OPTION...]
-  --program PATH  the unit's program: unless given, target/bin/verdict in the repository, built
-                  from its sources; the calls alone are measured only there
-  --replay PATH   the unit's program that reads lines and encodings: likewise target/bin/replay
-  --untimed       takes no times, which need an idle machine; all else is the same in every run
-Prints docs/BENCHMARKS.md and writes docs/growth.svg. A relative PATH starts from tools/bench.";
+usage: cargo bench --manifest-path tools/Cargo.toml --package bench [-- --untimed]
+  --untimed  takes no times, which need an idle machine; all else is the same in every run
+Builds the unit's programs, prints docs/BENCHMARKS.md and writes docs/growth.svg.";
 
 /// The plot, seen from the repository and from the page.
 const PLOT: &str = "docs/growth.svg";
@@ -47,15 +43,10 @@ fn main() -> ExitCode {
 }
 
 fn run() -> Result<String, String> {
-    let mut program = None;
-    let mut replay = None;
     let mut is_timed = true;
     // Cargo adds `--bench`.
-    let mut arguments = env::args_os().skip(1).filter(|text| text != "--bench");
-    while let Some(option) = arguments.next() {
+    for option in env::args_os().skip(1).filter(|text| text != "--bench") {
         match option.to_str() {
-            Some("--program") => program = arguments.next().map(PathBuf::from),
-            Some("--replay") => replay = arguments.next().map(PathBuf::from),
             Some("--untimed") => is_timed = false,
             _ => return Err(format!("cannot use {option:?}\n{USAGE}")),
         }
@@ -63,27 +54,24 @@ fn run() -> Result<String, String> {
     let here = env::current_dir().map_err(|error| error.to_string())?;
     let root = repository::find(&here).ok_or("no repository is here or above")?;
     let built = |name| repository::program(&root, name, &mut |line| eprintln!("bench: {line}"));
-    let replay = replay.map_or_else(|| built("replay"), Ok)?;
-    let (verdict, probe) = match program {
-        Some(path) => (path, None),
-        None => (built("verdict")?, Some(Probe::build(&root)?)),
-    };
-    let flat = PathBuf::from(env!("CARGO_BIN_EXE_flat"));
-    let graph = PathBuf::from(env!("CARGO_BIN_EXE_graph"));
-    let descent = PathBuf::from(env!("CARGO_BIN_EXE_descent"));
-    let bitwise = PathBuf::from(env!("CARGO_BIN_EXE_bitwise"));
-    let empty = InputFile::new("empty", &[]).map_err(|error| error.to_string())?;
+    let (verdict, replay) = (built("verdict")?, built("replay")?);
     let judges = Judges {
         judge: judge()?,
         replay: replay.clone(),
         verdict: verdict.clone(),
     };
+    let [flat, graph, descent, bitwise] = [
+        env!("CARGO_BIN_EXE_flat"),
+        env!("CARGO_BIN_EXE_graph"),
+        env!("CARGO_BIN_EXE_descent"),
+        env!("CARGO_BIN_EXE_bitwise"),
+    ]
+    .map(PathBuf::from);
     let bench = Bench {
-        counter: Counter::find(&flat, &empty),
         programs: [verdict, flat, graph],
         readers: [replay.clone(), descent],
         exchangers: [replay, bitwise],
-        probe,
+        probe: Probe::build(&root)?,
         is_timed,
     };
     report(&bench, &judges, &root)
@@ -107,47 +95,44 @@ fn judge() -> Result<PathBuf, String> {
 }
 
 fn report(bench: &Bench, judges: &Judges, root: &Path) -> Result<String, String> {
-    let plot = match bench.counter {
-        Some(_) => Some(plot(bench, root)?),
-        None => None,
+    let pairs = |cases| {
+        rows(
+            cases,
+            |case: &Case| case.name.clone(),
+            |case| bench.row(case),
+        )
     };
     let report = Report {
-        contracting: rows(bench, contracting())?,
-        untouched: rows(bench, untouched())?,
-        normal: rows(bench, normal())?,
-        lines: line_rows(bench, growing_lines())?,
-        encodings: encoding_rows(bench, growing_encodings())?,
+        contracting: pairs(contracting())?,
+        untouched: pairs(untouched())?,
+        normal: pairs(normal())?,
+        lines: rows(
+            growing_lines(),
+            |line| format!("{}, {} bytes", line.shape, line.text.len()),
+            |line| bench.line(line),
+        )?,
+        encodings: rows(
+            growing_encodings(),
+            |encoding| format!("{}, {} bits", encoding.shape, encoding.bits),
+            |encoding| bench.encoding(encoding),
+        )?,
         keys: key_rows(bench, judges)?,
-        plot,
+        plot: plot(bench, root)?,
     };
     Ok(report.markdown(bench))
 }
 
-fn rows(bench: &Bench, cases: Vec<Case>) -> Result<Vec<Row>, String> {
-    let measured = |case: &Case| {
-        eprintln!("{}", case.name);
-        let row = bench.row(case);
-        row.map_err(|reason| format!("{}: {reason}", case.name))
+/// The rows of what is measured, each named while it is.
+fn rows<T, R>(
+    measured: Vec<T>,
+    name: impl Fn(&T) -> String,
+    row: impl Fn(&T) -> Result<R, String>,
+) -> Result<Vec<R>, String> {
+    let row = |one: &T| {
+        eprintln!("{}", name(one));
+        row(one).map_err(|reason| format!("{}: {reason}", name(one)))
     };
-    cases.iter().map(measured).collect()
-}
-
-fn line_rows(bench: &Bench, lines: Vec<Line>) -> Result<Vec<LineRow>, String> {
-    let measured = |line: &Line| {
-        eprintln!("{}, {} bytes", line.shape, line.text.len());
-        let row = bench.line(line);
-        row.map_err(|reason| format!("{}: {reason}", line.shape))
-    };
-    lines.iter().map(measured).collect()
-}
-
-fn encoding_rows(bench: &Bench, encodings: Vec<Encoding>) -> Result<Vec<EncodingRow>, String> {
-    let measured = |encoding: &Encoding| {
-        eprintln!("{}, {} bits", encoding.shape, encoding.bits);
-        let row = bench.encoding(encoding);
-        row.map_err(|reason| format!("{}: {reason}", encoding.shape))
-    };
-    encodings.iter().map(measured).collect()
+    measured.iter().map(row).collect()
 }
 
 fn key_rows(bench: &Bench, judges: &Judges) -> Result<Vec<KeyRow>, String> {
@@ -186,7 +171,6 @@ fn lines(bench: &Bench, points: Vec<Point>) -> Result<Each<Vec<(f64, f64)>>, Str
         eprintln!("{}", point.case.name);
         let counts = bench.marginal(&point.case)?;
         for (line, count) in lines.iter_mut().zip(counts) {
-            let count = count.ok_or("the instructions cannot be counted")?;
             line.push((point.x as f64, count));
         }
     }

@@ -124,11 +124,11 @@ pub struct EncodingRow {
     pub bytes: usize,
     pub words: usize,
     /// Instructions of each call alone.
-    pub instructions: EachCall<Option<u64>>,
+    pub instructions: EachCall<u64>,
     /// Seconds of each call alone.
     pub times: Option<EachCall<Option<Estimate>>>,
     /// The machine stack of each call.
-    pub stack: Option<EachCall<usize>>,
+    pub stack: EachCall<usize>,
     /// The smallest stack limit that each whole program runs under; of the longest encodings only.
     pub limit_kib: EachExchanger<Option<u32>>,
 }
@@ -142,24 +142,16 @@ impl Bench {
             checked(program, &input, &lines)?;
         }
         let limit = |program: &PathBuf| stack_kib(program, &input, &lines);
-        let probe = self.probe.as_ref();
-        let counted = probe.zip(self.counter);
-        let counted =
-            counted.map(|(probe, counter)| probe.encoding_instructions(encoding, counter));
-        let timed = probe.filter(|_| self.is_timed);
+        let times = self.is_timed.then(|| self.probe.encoding_times(encoding));
         Ok(EncodingRow {
             shape: encoding.shape,
             is_longest: encoding.is_longest,
             bits: encoding.bits,
             bytes: encoding.bytes.len(),
             words: encoding.words.len(),
-            instructions: counted.transpose()?.unwrap_or_default(),
-            times: timed
-                .map(|probe| probe.encoding_times(encoding))
-                .transpose()?,
-            stack: probe
-                .map(|probe| probe.encoding_stack(encoding))
-                .transpose()?,
+            instructions: self.probe.encoding_instructions(encoding)?,
+            times: times.transpose()?,
+            stack: self.probe.encoding_stack(encoding)?,
             limit_kib: self
                 .exchangers
                 .each_ref()

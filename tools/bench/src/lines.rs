@@ -9,7 +9,7 @@ use crate::cases::C;
 use crate::measure::{checked, input_file, Bench};
 use crate::peers::script::LINE;
 use crate::probe::brought;
-use crate::run::stack_kib;
+use crate::run::{difference, stack_kib};
 
 /// The unit's program and its peer, in this order everywhere.
 pub const READERS: [&str; 2] = ["replay", "descent"];
@@ -100,9 +100,9 @@ pub struct LineRow {
     pub bytes: usize,
     pub words: usize,
     /// Instructions of reading the line alone.
-    pub instructions: EachReader<Option<u64>>,
+    pub instructions: EachReader<u64>,
     /// The machine stack of the unit's call.
-    pub stack: Option<usize>,
+    pub stack: usize,
     /// The smallest stack limit that each whole program runs under; of the longest lines only.
     pub limit_kib: EachReader<Option<u32>>,
 }
@@ -113,21 +113,21 @@ impl Bench {
         let input = input_file("line", &line.script(0))?;
         let refused = input_file("line-refused", &line.script(1))?;
         let printed = format!("line {}", line.length());
-        for program in &self.readers {
+        let mut instructions = [0; READERS.len()];
+        for (program, count) in self.readers.iter().zip(&mut instructions) {
             checked(program, &input, &printed)?;
             checked(program, &refused, "refused 7")?;
+            *count = difference(program, &input, &refused)?;
         }
         let programs = self.readers.each_ref();
         let is_longest = line.text.len() == LONGEST;
         let limit = |program: &PathBuf| stack_kib(program, &input, &printed);
-        let probe = self.probe.as_ref();
         Ok(LineRow {
             shape: line.shape,
             bytes: line.text.len(),
             words: line.length(),
-            instructions: programs
-                .map(|program| self.counter?.difference(program, &input, &refused)),
-            stack: probe.map(|probe| probe.measure_line(line)).transpose()?,
+            instructions,
+            stack: self.probe.measure_line(line)?,
             limit_kib: programs.map(|program| is_longest.then(|| limit(program))?),
         })
     }

@@ -6,8 +6,8 @@ use crate::cases::Case;
 use crate::encodings::Exchangers;
 use crate::lines::Readers;
 use crate::probe::{Probe, Stack};
-use crate::run::{lines_of, stack_kib, Counter, InputFile};
-use crate::times::{times, Times};
+use crate::run::{instructions, lines_of, stack_kib, InputFile};
+use crate::times::{times, Estimate};
 
 /// The unit's program and its peers, in this order everywhere.
 pub const NAMES: [&str; 3] = ["verdict", "flat", "graph"];
@@ -25,8 +25,7 @@ pub struct Bench {
     pub programs: Programs,
     pub readers: Readers,
     pub exchangers: Exchangers,
-    pub counter: Option<Counter>,
-    pub probe: Option<Probe>,
+    pub probe: Probe,
     /// Times are taken too.
     pub is_timed: bool,
 }
@@ -35,11 +34,12 @@ pub struct Bench {
 pub struct Row {
     pub name: String,
     pub line: String,
-    pub times: Option<Each<Times>>,
+    /// The time of the press alone, where it stands out from what other work on the machine adds.
+    pub times: Option<Each<Option<Estimate>>>,
     /// Instructions of the press alone for each contraction, or for the press if there is none.
-    pub instructions: Each<Option<f64>>,
+    pub instructions: Each<f64>,
     /// The machine stack of the unit's calls.
-    pub stack: Option<Stack>,
+    pub stack: Stack,
     /// The smallest stack limit that each whole program runs under.
     pub limit_kib: Each<Option<u32>>,
 }
@@ -49,14 +49,12 @@ impl Bench {
     pub fn row(&self, case: &Case) -> Result<Row, String> {
         let counted = Counted::new(case, &self.programs)?;
         let times = self.is_timed.then(|| times(case, &self.programs));
-        let probe = self.probe.as_ref();
-        let stack = probe.map(|probe| probe.measure(case, counted.budget, &counted.line));
         Ok(Row {
             name: case.name.clone(),
             line: case.line.clone(),
             times: times.transpose()?,
-            instructions: self.instructions(&counted),
-            stack: stack.transpose()?,
+            instructions: self.instructions(&counted)?,
+            stack: self.probe.measure(case, counted.budget, &counted.line)?,
             limit_kib: self
                 .programs
                 .each_ref()
@@ -65,17 +63,20 @@ impl Bench {
     }
 
     /// The instructions of each contraction, without what a press makes before the first.
-    pub fn marginal(&self, case: &Case) -> Result<Each<Option<f64>>, String> {
+    pub fn marginal(&self, case: &Case) -> Result<Each<f64>, String> {
         let counted = Counted {
             without: input_file("counted-none", &case.input(0))?,
             ..Counted::new(case, &self.programs)?
         };
-        Ok(self.instructions(&counted))
+        self.instructions(&counted)
     }
 
-    fn instructions(&self, counted: &Counted) -> Each<Option<f64>> {
-        let programs = self.programs.each_ref();
-        programs.map(|program| counted.instructions(program, self.counter?))
+    fn instructions(&self, counted: &Counted) -> Result<Each<f64>, String> {
+        let mut each = [0.0; NAMES.len()];
+        for (program, count) in self.programs.iter().zip(&mut each) {
+            *count = counted.instructions(program)?;
+        }
+        Ok(each)
     }
 }
 
@@ -125,10 +126,10 @@ impl Counted {
         })
     }
 
-    fn instructions(&self, program: &Path, counter: Counter) -> Option<f64> {
-        let run = counter.count(program, &self.input)?;
-        let without = counter.count(program, &self.without)?;
-        Some(each_contraction(run, without, &self.line))
+    fn instructions(&self, program: &Path) -> Result<f64, String> {
+        let run = instructions(program, &self.input)?;
+        let without = instructions(program, &self.without)?;
+        Ok(each_contraction(run, without, &self.line))
     }
 }
 

@@ -9,7 +9,7 @@ use crate::cases::{Case, C};
 use crate::encodings::{EachCall, Encoding, CALLS};
 use crate::lines::Line;
 use crate::measure::{input_file, spent};
-use crate::run::{lines_of, Counter};
+use crate::run::{difference, lines_of};
 use crate::times::{resolved, Estimate, REPETITIONS};
 
 const PROGRAM: &str = include_str!("../probe/main.rs");
@@ -26,7 +26,7 @@ pub struct Stack {
 
 /// The program that measures.
 pub struct Probe {
-    program: PathBuf,
+    pub(crate) program: PathBuf,
 }
 
 impl Probe {
@@ -53,10 +53,6 @@ impl Probe {
         rustc.arg(root.join("target/staticlib")).arg("-o");
         succeed(rustc.arg(&program).arg(source))?;
         Ok(Probe { program })
-    }
-
-    pub fn program(&self) -> &Path {
-        &self.program
     }
 
     /// Measures a case with a budget; both calls are as the unit's programs make them.
@@ -102,13 +98,9 @@ impl Probe {
     }
 
     /// The instructions of each call on an encoding: what a run with one call more has more.
-    pub fn encoding_instructions(
-        &self,
-        encoding: &Encoding,
-        counter: Counter,
-    ) -> Result<EachCall<Option<u64>>, String> {
+    pub fn encoding_instructions(&self, encoding: &Encoding) -> Result<EachCall<u64>, String> {
         let once = input_file("once", &encoding_words(encoding, Measure::Nothing, 1, ONCE))?;
-        let mut instructions = [None; CALLS.len()];
+        let mut instructions = [0; CALLS.len()];
         for (call, instructions) in instructions.iter_mut().enumerate() {
             let mut counts = ONCE;
             counts[call] += 1;
@@ -116,7 +108,7 @@ impl Probe {
                 "more",
                 &encoding_words(encoding, Measure::Nothing, 1, counts),
             )?;
-            *instructions = counter.difference(&self.program, &more, &once);
+            *instructions = difference(&self.program, &more, &once)?;
         }
         Ok(instructions)
     }

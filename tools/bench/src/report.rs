@@ -12,8 +12,7 @@ use crate::lines::{LineRow, LONGEST, READERS};
 use crate::measure::{spent, Bench, Each, Row, COUNTED, NAMES};
 use crate::numbers::{grouped, rounded};
 use crate::probe::{Stack, TIMED_BITS};
-use crate::run::Counter;
-use crate::times::{Estimate, Times};
+use crate::times::Estimate;
 
 /// Stands where nothing was measured.
 const NONE: &str = "n/a";
@@ -27,15 +26,19 @@ pub struct Report {
     /// None where no times are taken.
     pub keys: Vec<KeyRow>,
     /// The plot's path, seen from the page.
-    pub plot: Option<String>,
+    pub plot: String,
 }
 
 impl Report {
     /// What was measured with the programs.
     pub fn markdown(&self, bench: &Bench) -> String {
-        let mut parts = vec![introduction(bench.counter), self.instructions()];
-        parts.extend(self.plot.as_deref().map(growth));
-        parts.extend([self.reading(), self.exchanging()]);
+        let mut parts = vec![
+            introduction(),
+            self.instructions(),
+            growth(&self.plot),
+            self.reading(),
+            self.exchanging(),
+        ];
         let mut rows = self.groups().into_iter().flat_map(|(_, rows)| rows);
         if rows.any(|row| row.times.is_some()) {
             parts.extend([
@@ -70,7 +73,7 @@ impl Report {
             text += &format!("\n### {title}\n\n");
             text += &table(&["pair", "line"], &NAMES, rows, |row| {
                 let pair = vec![row.name.clone(), format!("`{}`", row.line)];
-                let whole = |count: Option<f64>| number(count.map(|count| count.round() as usize));
+                let whole = |count: f64| grouped(count.round() as usize);
                 (pair, row.instructions.map(whole).into())
             });
         }
@@ -185,9 +188,13 @@ impl Report {
         let calls = ["a press", "showing", "loading", "writing"];
         let titles = [&calls[..], &NAMES].concat();
         text += &table(&["pair"], &titles, rows, |row| {
-            let calls = |stack: Stack| [stack.press, stack.show, stack.load, stack.write];
-            let calls = row.stack.map(calls).map(|calls| calls.map(Some));
-            let mut cells = calls.unwrap_or_default().map(kib).to_vec();
+            let Stack {
+                press,
+                show,
+                load,
+                write,
+            } = row.stack;
+            let mut cells = [press, show, load, write].map(kib).to_vec();
             cells.extend(row.limit_kib.map(limit));
             (vec![row.name.clone()], cells)
         });
@@ -213,8 +220,7 @@ impl Report {
         let titles = [&CALLS[..], &EXCHANGERS].concat();
         let longest = self.encodings.iter().filter(|row| row.is_longest);
         text += &table(&["encoding"], &titles, longest, |row| {
-            let calls = row.stack.map(|calls| calls.map(Some)).unwrap_or_default();
-            let mut cells = calls.map(kib).to_vec();
+            let mut cells = row.stack.map(kib).to_vec();
             cells.extend(row.limit_kib.map(limit));
             (vec![row.shape.to_string()], cells)
         });
@@ -222,15 +228,7 @@ impl Report {
     }
 }
 
-fn introduction(counter: Option<Counter>) -> String {
-    let counted = match counter {
-        Some(counter) => format!(
-            "counted by `{}` over at most {} contractions",
-            counter.name(),
-            grouped(COUNTED as usize)
-        ),
-        None => format!("{NONE}, as neither valgrind nor perf counts them here"),
-    };
+fn introduction() -> String {
     format!(
         "# Benchmarks\n\n\
          - Machine: {machine}.\n\
@@ -241,7 +239,9 @@ fn introduction(counter: Option<Counter>) -> String {
          would who need not keep flat words; it makes them while it loads.\n\
          - All ran on the same inputs, with C {c}, and printed the line shown.\n\
          - Instructions of the press alone: those of a run less those of a run that loads the same \
-         tables and refuses the press, {counted}. They are the same in every run.\n",
+         tables and refuses the press, counted by `valgrind --tool=callgrind` over at most {counted} \
+         contractions. They are the same in every run.\n",
+        counted = grouped(COUNTED as usize),
         c = grouped(C as usize),
         machine = machine(),
         compiler = compiler(),
@@ -253,15 +253,13 @@ fn number(number: Option<usize>) -> String {
 }
 
 /// A number of instructions.
-fn count(count: Option<u64>) -> String {
-    number(count.map(|count| count as usize))
+fn count(count: u64) -> String {
+    grouped(count as usize)
 }
 
 /// Bytes in KiB.
-fn kib(bytes: Option<usize>) -> String {
-    bytes.map_or(NONE.to_string(), |bytes| {
-        format!("{:.1}", bytes as f64 / 1024.0)
-    })
+fn kib(bytes: usize) -> String {
+    format!("{:.1}", bytes as f64 / 1024.0)
 }
 
 /// A stack limit in KiB.
@@ -272,8 +270,8 @@ fn limit(kib: Option<u32>) -> String {
 /// Contractions a second, or microseconds where there is no contraction.
 fn row_times(row: &Row) -> Each<String> {
     let spent = f64::from(spent(&row.line));
-    let text = |times: &Times| {
-        let Some(press) = times.press else {
+    let text = |press: Option<Estimate>| {
+        let Some(press) = press else {
             return NONE.to_string();
         };
         let value = match spent > 0.0 {
@@ -282,10 +280,7 @@ fn row_times(row: &Row) -> Each<String> {
         };
         estimated(value, press)
     };
-    match &row.times {
-        Some(times) => times.each_ref().map(text),
-        None => NAMES.map(|_| NONE.to_string()),
-    }
+    row.times.unwrap_or_default().map(text)
 }
 
 /// A value that follows from a time, with the time's error.
@@ -388,30 +383,26 @@ fn compiler() -> String {
 #[cfg(test)]
 mod tests {
     use super::*;
-    use crate::times::Estimate;
+    use crate::probe::Probe;
+    use std::path::PathBuf;
 
     fn row(name: &str, line: &str, press: Option<Estimate>) -> Row {
-        let times = |run| Times { run, press };
         Row {
             name: name.to_string(),
             line: line.to_string(),
-            times: Some([times(1e-3), times(2e-3), times(3e-3)]),
-            instructions: [Some(1234.5), Some(7.4), None],
-            stack: Some(Stack {
+            times: Some([press; NAMES.len()]),
+            instructions: [1234.5, 7.4, 8.0],
+            stack: Stack {
                 press: 10_240,
                 show: 1_100,
                 load: 20_480,
                 write: 512,
-            }),
+            },
             limit_kib: [Some(136), Some(56), None],
         }
     }
 
     fn report(rows: [Row; 3]) -> String {
-        counted(rows, Some(Counter::Callgrind))
-    }
-
-    fn counted(rows: [Row; 3], counter: Option<Counter>) -> String {
         let [contracting, untouched, normal] = rows.map(|row| vec![row]);
         let report = Report {
             contracting,
@@ -423,15 +414,16 @@ mod tests {
                 pairs: 1_000,
                 times: [press(0.5), None],
             }],
-            plot: Some("growth.svg".to_string()),
+            plot: "growth.svg".to_string(),
         };
-        let path = |name| format!("/no/{name}").into();
+        let path = |name| PathBuf::from(format!("/no/{name}"));
         report.markdown(&Bench {
             programs: NAMES.map(path),
             readers: READERS.map(path),
             exchangers: EXCHANGERS.map(path),
-            counter,
-            probe: None,
+            probe: Probe {
+                program: path("probe"),
+            },
             is_timed: true,
         })
     }
@@ -443,9 +435,9 @@ mod tests {
             bits: 4_096,
             bytes: 512,
             words: 2_048,
-            instructions: [Some(12_345), Some(67_890), None, Some(7)],
+            instructions: [12_345, 67_890, 5, 7],
             times: Some([press(4.096e-6), None, press(4.096e-5), press(1.0)]),
-            stack: Some([12_288, 1_024, 512, 100]),
+            stack: [12_288, 1_024, 512, 100],
             limit_kib: [Some(124), None],
         }
     }
@@ -455,8 +447,8 @@ mod tests {
             shape,
             bytes,
             words: 1,
-            instructions: [Some(12_345), None],
-            stack: Some(2_048),
+            instructions: [12_345, 6],
+            stack: 2_048,
             limit_kib: [Some(148), None],
         }
     }
@@ -476,11 +468,11 @@ mod tests {
             row("Normal", "Different 0 1 1 0", press(2e-6)),
         ]);
         for line in [
-            "| Loop | `Budget 100 9 1` | 1,235 | 7 | n/a |",
+            "| Loop | `Budget 100 9 1` | 1,235 | 7 | 8 |",
             "| Loop | 1,000,000 ±2% | 1,000,000 ±2% | 1,000,000 ±2% |",
             "| Loop | 10.0 | 1.1 | 20.0 | 0.5 | 136 | 56 | n/a |",
             "| Long | n/a | n/a | n/a |",
-            "| Normal | `Different 0 1 1 0` | 1,235 | 7 | n/a |",
+            "| Normal | `Different 0 1 1 0` | 1,235 | 7 | 8 |",
             "| Normal | 2.00 ±2% | 2.00 ±2% | 2.00 ±2% |",
             "### Contractions: contractions a second",
             "### Normal terms, no contraction: microseconds a press",
@@ -491,13 +483,13 @@ mod tests {
              `terms::is_term`, which the first and the last call, has n/a.",
             "| line | bytes | words | replay | descent |",
             "|---|---:|---:|---:|---:|",
-            "| short | 256 | 1 | 12,345 | n/a |",
-            "| long | 1,024 | 1 | 12,345 | n/a |",
+            "| short | 256 | 1 | 12,345 | 6 |",
+            "| long | 1,024 | 1 | 12,345 | 6 |",
             "| line | reading | replay | descent |",
             "| long | 2.0 | 148 | n/a |",
             "| encoding | bits | bytes | words | import | import by bitwise | export | export by bitwise |",
-            "| few | 4,096 | 512 | 2,048 | 12,345 | 67,890 | n/a | 7 |",
-            "| many | 4,096 | 512 | 2,048 | 12,345 | 67,890 | n/a | 7 |",
+            "| few | 4,096 | 512 | 2,048 | 12,345 | 67,890 | 5 | 7 |",
+            "| many | 4,096 | 512 | 2,048 | 12,345 | 67,890 | 5 | 7 |",
             "### Encodings: bits a second",
             "### Keys: pairs a second",
             "| pairs | judge --key | a run of verdict for each |",
@@ -522,13 +514,6 @@ mod tests {
         assert_eq!(page.matches("| `replay` |").count(), 1);
         assert!(page.contains("](growth.svg)"));
         assert!(page.contains("counted by `valgrind --tool=callgrind` over at most 10,000 "));
-    }
-
-    #[test]
-    fn it_is_said_where_nothing_counts() {
-        let rows = ["One", "Two", "Three"].map(|name| row(name, "Same 2 1 1", None));
-        let page = counted(rows, None);
-        assert!(page.contains("n/a, as neither valgrind nor perf counts them here"));
     }
 
     #[test]

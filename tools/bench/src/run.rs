@@ -42,54 +42,27 @@ pub fn lines_of(program: &Path, input: &InputFile) -> Result<(String, Duration),
     Ok((lines, time))
 }
 
-/// A tool that counts the instructions of a run, those of the kernel left out.
-#[derive(Clone, Copy)]
-pub enum Counter {
-    Callgrind,
-    Perf,
+/// The instructions of a run of the program, those of the kernel left out, counted by callgrind.
+pub fn instructions(program: &Path, input: &InputFile) -> Result<u64, String> {
+    let mut valgrind = Command::new("valgrind");
+    valgrind.args(["--tool=callgrind", "--callgrind-out-file=/dev/null"]);
+    let output = input.output(valgrind.arg(program));
+    let output = output.map_err(|error| format!("valgrind: {error}"))?;
+    let report = String::from_utf8_lossy(&output.stderr);
+    let count = report.lines().find_map(counted);
+    count.ok_or_else(|| format!("valgrind counts nothing: {report}"))
 }
 
-impl Counter {
-    /// The first tool that works on this machine.
-    pub fn find(program: &Path, input: &InputFile) -> Option<Counter> {
-        let works = |counter: &Counter| counter.count(program, input).is_some();
-        [Counter::Callgrind, Counter::Perf].into_iter().find(works)
-    }
+/// What one run of the program has more than another.
+pub fn difference(program: &Path, input: &InputFile, without: &InputFile) -> Result<u64, String> {
+    let without = instructions(program, without)?;
+    let more = instructions(program, input)?.checked_sub(without);
+    more.ok_or_else(|| format!("{}: fewer instructions than without", program.display()))
+}
 
-    pub fn name(self) -> &'static str {
-        match self {
-            Counter::Callgrind => "valgrind --tool=callgrind",
-            Counter::Perf => "perf stat -e instructions:u",
-        }
-    }
-
-    pub fn count(self, program: &Path, input: &InputFile) -> Option<u64> {
-        let mut command = match self {
-            Counter::Callgrind => Command::new("valgrind"),
-            Counter::Perf => Command::new("perf"),
-        };
-        command.args(match self {
-            Counter::Callgrind => &["--tool=callgrind", "--callgrind-out-file=/dev/null"][..],
-            Counter::Perf => &["stat", "-x,", "-e", "instructions:u"][..],
-        });
-        let output = input.output(command.arg(program)).ok()?;
-        let report = String::from_utf8_lossy(&output.stderr);
-        report.lines().find_map(|line| self.counted(line))
-    }
-
-    /// What one run of the program has more than another.
-    pub fn difference(self, program: &Path, input: &InputFile, without: &InputFile) -> Option<u64> {
-        let without = self.count(program, without)?;
-        self.count(program, input)?.checked_sub(without)
-    }
-
-    /// The count, if this line of the tool's report has it.
-    fn counted(self, line: &str) -> Option<u64> {
-        match self {
-            Counter::Callgrind => line.split_once("Collected : ")?.1.trim().parse().ok(),
-            Counter::Perf => line.split_once(",,instructions")?.0.parse().ok(),
-        }
-    }
+/// The count, if this line of callgrind's report has it.
+fn counted(line: &str) -> Option<u64> {
+    line.split_once("Collected : ")?.1.trim().parse().ok()
 }
 
 /// A page: the step in which the kernel grants stack.
@@ -135,18 +108,9 @@ mod tests {
     use super::*;
 
     #[test]
-    fn counts_are_read_from_the_reports() {
-        let callgrind = Counter::Callgrind;
-        assert_eq!(
-            callgrind.counted("==12== Collected : 160871"),
-            Some(160_871)
-        );
-        assert_eq!(callgrind.counted("==12== Events    : Ir"), None);
-        let perf = Counter::Perf;
-        let line = "148921,,instructions:u,512345,100.00,,";
-        assert_eq!(perf.counted(line), Some(148_921));
-        let line = "<not supported>,,instructions:u,0,100.00,,";
-        assert_eq!(perf.counted(line), None);
+    fn the_count_is_read_from_the_report() {
+        assert_eq!(counted("==12== Collected : 160871"), Some(160_871));
+        assert_eq!(counted("==12== Events    : Ir"), None);
     }
 
     #[test]

@@ -14,14 +14,6 @@ const MAX_RUNS: usize = 100;
 /// About how long one program's runs of one case may take together.
 const TOGETHER: Duration = Duration::from_millis(900);
 
-/// Seconds that one program takes for one case.
-pub struct Times {
-    /// From the program's start to its end.
-    pub run: f64,
-    /// The press alone, if it stands out from what other work on the machine adds.
-    pub press: Option<Estimate>,
-}
-
 /// A median and its standard error.
 #[derive(Clone, Copy, Debug, PartialEq)]
 pub struct Estimate {
@@ -29,8 +21,9 @@ pub struct Estimate {
     pub error: f64,
 }
 
-/// The times of the programs, which run by turns.
-pub fn times(case: &Case, programs: &Programs) -> Result<Each<Times>, String> {
+/// The seconds of the press alone in each program, runs less runs that load the same tables and refuse
+/// the press, where they stand out from what other work on the machine adds. The programs run by turns.
+pub fn times(case: &Case, programs: &Programs) -> Result<Each<Option<Estimate>>, String> {
     let full = input_file("full", &case.input(case.budget))?;
     let refused = input_file("refused", &case.refused())?;
     let seconds = |program: &Path, presses: bool| match presses {
@@ -43,7 +36,7 @@ pub fn times(case: &Case, programs: &Programs) -> Result<Each<Times>, String> {
     }
     let runs = TOGETHER.as_secs_f64() / slowest / REPETITIONS as f64;
     let runs = (runs as usize).clamp(MIN_RUNS, MAX_RUNS);
-    let mut samples: Each<Samples> = Default::default();
+    let mut presses: Each<Vec<f64>> = Default::default();
     for _ in 0..REPETITIONS {
         let mut shortest = [[f64::INFINITY; 2]; NAMES.len()];
         for _ in 0..runs {
@@ -52,34 +45,11 @@ pub fn times(case: &Case, programs: &Programs) -> Result<Each<Times>, String> {
                 *start = start.min(seconds(program, false)?);
             }
         }
-        for (samples, [run, start]) in samples.iter_mut().zip(shortest) {
-            samples.take(run, start);
+        for (presses, [run, start]) in presses.iter_mut().zip(shortest) {
+            presses.push(run - start);
         }
     }
-    Ok(samples.map(Samples::times))
-}
-
-/// What the repetitions gave for one program.
-#[derive(Default)]
-struct Samples {
-    runs: Vec<f64>,
-    /// Runs less runs that load the same tables and refuse the press.
-    presses: Vec<f64>,
-}
-
-impl Samples {
-    /// Takes a run, and one that refuses the press.
-    fn take(&mut self, run: f64, start: f64) {
-        self.runs.push(run);
-        self.presses.push(run - start);
-    }
-
-    fn times(mut self) -> Times {
-        Times {
-            run: median(&mut self.runs),
-            press: resolved(&mut self.presses),
-        }
-    }
+    Ok(presses.map(|mut presses| resolved(&mut presses)))
 }
 
 /// The median, if it is above three of its standard errors.
@@ -136,16 +106,5 @@ mod tests {
         assert!((sure.error - error).abs() < 1e-12);
         // Two of its errors are not enough: the distances are 1 and 1, the error 1.31 and the value 3.
         assert_eq!(resolved(&mut [2.0, 4.0]), None);
-    }
-
-    #[test]
-    fn a_press_is_a_run_less_its_start() {
-        let mut samples = Samples::default();
-        for (run, start) in [(5.0, 1.0), (7.0, 3.0), (9.0, 5.0)] {
-            samples.take(run, start);
-        }
-        let times = samples.times();
-        assert_eq!(times.run, 7.0);
-        assert_eq!(times.press.map(|press| press.value), Some(4.0));
     }
 }

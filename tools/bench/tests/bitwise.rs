@@ -70,61 +70,6 @@ fn encodings_and_their_words() {
     }
 }
 
-#[test]
-fn refused_imports() {
-    let refused = |bits: &str, count, capacity, number| {
-        let answer = imported(&packed(bits), count, capacity);
-        assert_eq!(answer, (Err(number), vec![7; capacity]), "{bits} {count}");
-    };
-    // 7 before 12.
-    refused("", 0, 15, 7);
-    refused("0010", 4, 2_049, 7);
-    // Bits that end early or are left over, a one past the count, a count past the bytes.
-    for bits in ["", "0", "1", "00", "01", "0110", "00100", "001010"] {
-        refused(bits, bits.len(), 16, 12);
-    }
-    refused("00101", 4, 16, 12);
-    refused("0010000000000001", 4, 16, 12);
-    refused("0010", 9, 16, 12);
-    // 12 before 8, and 8 before 13: 16 abstractions around 0 and 16.
-    let long = "00".repeat(16);
-    refused(&format!("{long}101"), 34, 16, 12);
-    refused(&format!("{long}10"), 34, 16, 8);
-    refused(&format!("{long}{}0", "1".repeat(17)), 50, 16, 8);
-    refused(&format!("{long}{}0", "1".repeat(17)), 50, 17, 13);
-    // 0 alone, \1, (\0) 0 and 0 (\0).
-    for bits in ["10", "00110", "01001010", "01100010"] {
-        refused(bits, bits.len(), 16, 13);
-    }
-}
-
-#[test]
-fn refused_exports() {
-    let refused = |words: &[u32], length, capacity, number| {
-        let answer = exported(words, length, capacity, 0);
-        assert_eq!(answer, (Err(number), vec![]), "{words:?} {length}");
-    };
-    // 7 before 10.
-    refused(&[], 0, 15, 7);
-    refused(&[1, 0], 2, 2_049, 7);
-    // No words, more than there are, half a term, one and a half, a kind that no word has.
-    refused(&[1, 0], 0, 16, 10);
-    refused(&[1, 0], 17, 16, 10);
-    refused(&[1, 0], 1, 16, 10);
-    refused(&[1, 0, 0], 3, 16, 10);
-    refused(&[1, 15], 2, 16, 10);
-    refused(&[9, 0], 2, 16, 10);
-    // 10 before 13, and 13 before 8: free numbers 256, 255 and 0; another kind of word.
-    refused(&[1, 2_056], 2, 16, 10);
-    refused(&[1, 2_048], 2, 16, 13);
-    refused(&[1, 8], 2, 16, 13);
-    refused(&[2, 1, 0, 0], 4, 16, 13);
-    refused(&[1, 131], 2, 16, 13);
-    refused(&[1, 4, 0], 3, 16, 13);
-    refused(&[6], 1, 16, 13);
-    refused(&[1, 0], 2, 16, 8);
-}
-
 fn bytes(words: &[u32]) -> Vec<u8> {
     words.iter().flat_map(|word| word.to_le_bytes()).collect()
 }

@@ -1,5 +1,5 @@
-//! What the README and `judge --help` say of pairs and tables, against the peers, and the rows of the
-//! benchmark's page.
+//! What the README says of pairs and tables, against the peers, the fields that `judge --help` names, and
+//! the rows of the benchmark's page.
 
 use bench::cases::{contracting, normal, untouched};
 use bench::encodings::growing_encodings;
@@ -148,20 +148,6 @@ fn the_first_command() {
     let command = text.lines().next().expect("a line");
     let (_, text) = text.split_once("It prints ").expect("what it prints");
     assert_eq!(judged(command), code(text)[0]);
-}
-
-#[test]
-fn the_examples_of_the_help() {
-    let (_, text) = HELP.split_once("\nExamples\n").expect("examples");
-    let examples = text.lines().filter_map(|line| {
-        let (command, line) = line.trim().strip_prefix("judge ")?.split_once("  ")?;
-        (!command.starts_with("--")).then_some((command, line.trim()))
-    });
-    let examples: Vec<_> = examples.collect();
-    assert_eq!(examples.len(), 6);
-    for (command, line) in examples {
-        assert_eq!(judged(command), line, "{command}");
-    }
 }
 
 #[test]
