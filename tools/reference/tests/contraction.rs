@@ -10,7 +10,7 @@ use reference::generate::pairs::pair;
 use reference::generate::terms::subterms;
 use reference::on_large_stack;
 use reference::random::Random;
-use reference::term::{branch, case, con, default, var, Term};
+use reference::term::{branch, case, con, default, var, Term, MOST_ARGUMENTS};
 use reference::words::{kind, kind_of, words};
 use std::iter::successors;
 
@@ -132,11 +132,12 @@ fn terms_become_their_normal_forms() {
 }
 
 #[test]
-fn fifteen_arguments_in_order() {
-    // Argument i is f(100 + i); index j is argument 14 - j, and index 15 is f0.
-    let args: Vec<_> = (0..15).map(|i| var(100 + i)).collect();
-    for (index, free) in [(0, 114), (1, 113), (14, 100), (15, 0)] {
-        let redex = case(con(255, args.clone()), vec![branch(255, 15, var(index))]);
+fn the_most_arguments_in_order() {
+    // Argument i is f(100 + i); the last one is index 0, and the index past all is f0.
+    let most = MOST_ARGUMENTS as u32;
+    let args: Vec<_> = (0..most).map(|i| var(100 + i)).collect();
+    for (index, free) in [(0, 99 + most), (1, 98 + most), (most - 1, 100), (most, 0)] {
+        let redex = case(con(255, args.clone()), vec![branch(255, most, var(index))]);
         assert_eq!(step(&redex), Some(var(free)));
     }
 }

@@ -7,6 +7,7 @@ mod common;
 use common::{loaded, numbers, rows, table, workspace};
 use reference::refusal::Refusal;
 use reference::table::write;
+use reference::term::{MOST_ARGUMENTS, MOST_BOUND, MOST_BRANCHES};
 
 /// The number by which loading into so many words is refused, which changes nothing; or
 /// the length of the term, behind which zeros stand.
@@ -55,8 +56,6 @@ const TABLES: &str = "
     ok: 3,255,0,0
     ok: 4,0,2,0; 0,0,0,3; 5,0,4,0; 0,0,0,0
     ok: 4,0,2,0; 0,0,0,3; 5,16,4,0; 0,0,0,0
-    # Tag 255 binding 15 is 255 x 16 + 15.
-    ok: 4,0,2,0; 0,0,0,3; 5,4095,4,0; 0,0,0,0
     ok: 6,31,0,0
     # To the own record, back, and past the last record.
     4: 1,0,1,0; 0,0,0,0
@@ -109,7 +108,7 @@ const TABLES: &str = "
     5: 4,0,2,0; 5,0,3,0; 0,0,0,0
     5: 4,0,2,0; 0,0,0,3; 5,0,0,0
     5: 4,0,2,0; 0,0,0,3; 5,0,4,0; 0,0,0,5; 0,0,0,0
-    # An index under no binder, one, none in a constructor, 15 in a branch, none in its
+    # An index under no binder, one, none in a constructor, 9 in a branch, none in its
     # scrutinee and in a default, and 3 in a branch and an abstraction.
     ok: 0,255,0,0
     6: 0,256,0,0
@@ -117,10 +116,10 @@ const TABLES: &str = "
     6: 1,0,2,0; 0,257,0,0
     ok: 3,9,2,0; 0,0,0,3; 0,255,0,0
     6: 3,9,2,0; 0,0,0,3; 0,256,0,0
-    ok: 4,0,2,0; 0,0,0,3; 5,31,4,0; 0,270,0,0
-    6: 4,0,2,0; 0,0,0,3; 5,31,4,0; 0,271,0,0
-    ok: 4,0,2,0; 0,255,0,3; 5,31,4,0; 0,0,0,0
-    6: 4,0,2,0; 0,256,0,3; 5,31,4,0; 0,0,0,0
+    ok: 4,0,2,0; 0,0,0,3; 5,25,4,0; 0,264,0,0
+    6: 4,0,2,0; 0,0,0,3; 5,25,4,0; 0,265,0,0
+    ok: 4,0,2,0; 0,255,0,3; 5,25,4,0; 0,0,0,0
+    6: 4,0,2,0; 0,256,0,3; 5,25,4,0; 0,0,0,0
     ok: 4,0,2,0; 0,0,0,3; 5,0,4,0; 0,255,0,0
     6: 4,0,2,0; 0,0,0,3; 5,0,4,0; 0,256,0,0
     ok: 4,0,2,0; 0,0,0,3; 5,18,4,0; 1,0,5,0; 0,258,0,0
@@ -266,12 +265,13 @@ fn parent(kind: u32, value: u32, count: u32) -> Vec<u32> {
 
 #[test]
 fn refusal_5_by_the_number_of_children() {
+    let most = MOST_ARGUMENTS as u32;
     // Kind, value and the numbers of variables that may be its children.
     for (kind, value, right) in [
         (0, 0, 0..=0),
         (1, 0, 1..=1),
         (2, 0, 2..=2),
-        (3, 1, 0..=15),
+        (3, 1, 0..=most),
         (4, 0, 1..=1),
         (6, 3, 0..=0),
     ] {
@@ -281,9 +281,10 @@ fn refusal_5_by_the_number_of_children() {
             assert_eq!(answer, expected, "kind {kind} with {count} children");
         }
     }
-    // Sixteen arguments, the last of which leads back.
-    let mut both = parent(3, 1, 16);
-    both[4 * 17 + 3] = 2;
+    // One argument too many, which leads back.
+    let mut both = parent(3, 1, most + 1);
+    let last = both.len() - 1;
+    both[last] = 2;
     assert_eq!(load(&both, 17), Err(4));
 }
 
@@ -304,11 +305,11 @@ fn case_with(values: &[u32]) -> Vec<u32> {
 const BRANCHES: &str = "
     # Tags 1, 2 and 1, 255 rise; equal and falling ones don't, whatever is bound.
     ok: 16,32
-    ok: 31,4080
+    ok: 25,4080
     5: 16,16
     5: 16,17
     5: 32,16
-    5: 32,31
+    5: 32,25
     5: 33,32
     5: 16,48,32
     # A default stands first, and only once.
@@ -337,13 +338,19 @@ fn refusal_5_by_the_branches() {
         let expected = expected.parse().map_or(Ok(length), Err);
         assert_eq!(load(&case_with(&values), 16), expected, "{row}");
     }
-    // From tag 0, a default's, and from tag 1: fifteen are the most.
+    // From tag 0, a default's, and from tag 1.
+    let most = MOST_BRANCHES as u32;
     for first in [0, 1] {
-        for (count, expected) in [(0, Ok(2)), (1, Ok(4)), (15, Ok(32)), (16, Err(5))] {
+        for count in [0, 1, most, most + 1] {
             let values: Vec<u32> = (first..first + count).map(|tag| 16 * tag).collect();
+            let expected = (count <= most).then_some(2 * count + 2).ok_or(5);
             assert_eq!(load(&case_with(&values), 64), expected, "{values:?}");
         }
     }
+    // A tag is multiplied by 16, and what is bound is added.
+    let bound = 16 * 255 + MOST_BOUND as u32;
+    assert_eq!(load(&case_with(&[bound]), 16), Ok(4));
+    assert_eq!(load(&case_with(&[bound + 1]), 16), Err(3));
 }
 
 /// The words of a term, its records in prefix order, and those in another order, in

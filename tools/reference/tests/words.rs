@@ -4,6 +4,7 @@ mod common;
 
 use common::{numbers, rows};
 use reference::term::{abs, app, branch, case, con, default, num, var, Term};
+use reference::term::{MOST_ARGUMENTS, MOST_BOUND, MOST_BRANCHES};
 use reference::words::{read, words};
 
 fn assert_term(list: &[u32], term: Term) {
@@ -109,15 +110,15 @@ const LISTS: &str = "
     no: 20,0,13,0,133,0
     no: 20,0,133,0,13,0
     no: 20,0,5,0,125,0
-    # Free number 255 and 256: under no binder, an abstraction, a branch that binds 15, its
+    # Free number 255 and 256: under no binder, an abstraction, a branch that binds 9, its
     # scrutinee, a default; the second part of an application is under no binder of the first.
     yes: 2040
     no: 2048
     yes: 1,2048
     no: 1,2056
-    yes: 12,0,253,2160
-    no: 12,0,253,2168
-    no: 12,2048,253,0
+    yes: 12,0,205,2112
+    no: 12,0,205,2120
+    no: 12,2048,205,0
     yes: 12,0,5,2040
     no: 12,0,5,2048
     yes: 1,12,0,5,2048
@@ -135,13 +136,22 @@ fn words_that_are_one_whole_term() {
 }
 
 #[test]
-fn fifteen_arguments_and_fifteen_branches() {
-    let list = [&[(16 + 15) * 8 + 3][..], &[0; 15]].concat();
-    assert_term(&list, con(1, vec![var(0); 15]));
-    assert_eq!(read(&list[..15]), None);
+fn the_most_arguments_bound_variables_and_branches() {
+    let most = MOST_ARGUMENTS;
+    let list = [&[(16 + most as u32) * 8 + 3][..], &vec![0; most]].concat();
+    assert_term(&list, con(1, vec![var(0); most]));
+    assert_eq!(read(&list[..most]), None);
+    let most = MOST_BOUND as u32;
+    let arms = vec![branch(255, most, var(most))];
+    assert_term(
+        &[12, 0, (16 * 255 + most) * 8 + 5, 8 * most],
+        case(var(0), arms),
+    );
+    assert_eq!(read(&[12, 0, (16 * 255 + most + 1) * 8 + 5, 0]), None);
     // From tag 0, a default's, and from tag 1.
+    let most = MOST_BRANCHES as u32;
     for first in [0, 1] {
-        for (count, is_term) in [(15, true), (16, false)] {
+        for (count, is_term) in [(most, true), (most + 1, false)] {
             let arms = (first..first + count).flat_map(|tag| [tag * 16 * 8 + 5, 0]);
             let list: Vec<u32> = [count * 8 + 4, 0].into_iter().chain(arms).collect();
             assert_eq!(read(&list).is_some(), is_term, "{list:?}");

@@ -1,6 +1,7 @@
 //! The notation with names, against expectations worked out by hand from its grammar. Each term is
 //! compared with the same one in the notation of indices.
 
+use unit::limits::MAX_ARGUMENTS;
 use unit::{NameError, Names, Printed, Term};
 
 const LISTS: &str = "constructor Nil = 1.0, Cons = 2.2";
@@ -669,10 +670,6 @@ fn a_declaration_is_not_as_it_must_be() {
             "19: expected a count of arguments, found the end",
         ),
         (
-            "constructor A = 3.16",
-            "19: expected a count of arguments, at most 15, found 16",
-        ),
-        (
             "constructor A = 3.00",
             "19: expected a count of arguments without leading zeros, found 00",
         ),
@@ -704,6 +701,10 @@ fn a_declaration_is_not_as_it_must_be() {
     ] {
         assert_eq!(line_error(names, line), reason, "{line}");
     }
+    let more = MAX_ARGUMENTS + 1;
+    let count = format!("19: expected a count of arguments, at most {MAX_ARGUMENTS}, found {more}");
+    let line = format!("constructor A = 3.{more}");
+    assert_eq!(line_error(names, &line), count);
     let item = format!("8: expected {ITEM}, found the end");
     assert_eq!(line_error(names, "let x ="), item);
     // What failed has left nothing behind.

@@ -4,6 +4,7 @@
 mod common;
 
 use common::TEXTS;
+use unit::limits::MAX_BOUND;
 use unit::Term;
 
 fn read(text: &str) -> Term {
@@ -314,7 +315,9 @@ fn a_number_is_not_as_it_must_be() {
         error("?0{1.00:0}"),
         "6: a bound count without leading zeros, 00"
     );
-    assert_eq!(error("?0{1.16:0}"), "6: a bound count, at most 15, 16");
+    let more = MAX_BOUND + 1;
+    let bound = format!("6: a bound count, at most {MAX_BOUND}, {more}");
+    assert_eq!(error(&format!("?0{{1.{more}:0}}")), bound);
     assert_eq!(error("%32"), "2: a numeral, at most 31, 32");
     assert_eq!(
         error("0 %99999999999"),

@@ -1,5 +1,6 @@
 //! Words to terms and back, against expectations worked out by hand from the rules' word table.
 
+use unit::limits::MAX_ARGUMENTS;
 use unit::{words_text, Term};
 
 fn text(words: &[u32]) -> String {
@@ -90,10 +91,13 @@ fn terms_without_words() {
         let term: Term = text.parse().expect("a term");
         term.words().expect_err(text).to_string()
     };
-    let sixteen = format!("0 #1[{}0]", "0,".repeat(15));
+    let most = MAX_ARGUMENTS as usize;
     assert_eq!(
-        error(&sixteen),
-        "word 3: no word holds 16 arguments, only up to 15"
+        error(&format!("0 #1[{}0]", "0,".repeat(most))),
+        format!(
+            "word 3: no word holds {} arguments, only up to {most}",
+            most + 1
+        )
     );
     assert_eq!(
         error("#33554432"),

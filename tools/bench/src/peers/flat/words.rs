@@ -243,7 +243,7 @@ mod tests {
             &[147, 0, 8],
             &[4, 0],
             &[12, 0, 133, 2_040],
-            &[12, 0, 253, 2_160],
+            &[12, 0, 205, 2_112],
             &[20, 0, 133, 0, 261, 0],
             &[12, 0, 5, 2_040],
             &[28, 0, 5, 0, 133, 0, 32_765, 0],
@@ -289,7 +289,7 @@ mod tests {
             &[1, 2_056],
             &[12, 0, 133, 2_048],
             &[12, 0, 5, 2_048],
-            &[12, 0, 253, 2_168],
+            &[12, 0, 205, 2_120],
             &[2, 1, 0, 2_048],
         ] {
             assert!(!is_whole(words), "{words:?}");
@@ -297,7 +297,7 @@ mod tests {
     }
 
     #[test]
-    fn a_case_has_up_to_fifteen_branches() {
+    fn a_case_has_no_more_branches_than_its_limit() {
         // From tag 0, a default's, and from tag 1.
         for first in 0..2 {
             let case = |branches: u32| {
@@ -305,8 +305,8 @@ mod tests {
                 let words: Vec<u32> = [branches * 8 + 4, 0].into_iter().chain(all).collect();
                 is_whole(&words)
             };
-            assert!(case(15));
-            assert!(!case(16));
+            assert!(case(MAX_BRANCHES));
+            assert!(!case(MAX_BRANCHES + 1));
         }
     }
 }
