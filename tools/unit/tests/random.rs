@@ -422,63 +422,17 @@ fn check_text(declared: &Names, text: &str) -> (bool, bool) {
 
 #[test]
 fn random_tokens_are_a_term_or_an_error() {
-    const TOKENS: [&str; 48] = [
-        "x",
-        "y",
-        "y1",
-        "d",
-        "w",
-        "ערך",
-        "क्षेत्र",
-        "Nil",
-        "Cons",
-        "v",
-        "case",
-        "of",
-        "let",
-        "constructor",
-        "(",
-        ")",
-        "(",
-        ")",
-        "\\",
-        "\\x.",
-        "λ",
-        ".",
-        "_",
-        "%",
-        "%3",
-        "0",
-        "1",
-        "12",
-        "{",
-        "}",
-        "->",
-        "→",
-        ";",
-        ",",
-        "=",
-        "#2",
-        "[",
-        "]",
-        "?",
-        "1.0:",
-        "_:",
-        "|",
-        "-",
-        " ",
-        " ",
-        "\t",
-        "\u{301}",
-        "\u{202e}",
-    ];
+    const TOKENS: &str = r"x y y1 d w Nil Cons v case of let constructor ( ) ( ) \ \x. λ . _ % %3 0 1 12
+        { } -> → ; , = #2 [ ] ? 1.0: _: | -";
+    const OTHERS: [&str; 7] = ["ערך", "क्षेत्र", " ", " ", "\t", "\u{301}", "\u{202e}"];
+    let tokens: Vec<&str> = TOKENS.split_whitespace().chain(OTHERS).collect();
     let random = &mut Random(0x2545_F491_4F6C_DD1D);
     let (names, _) = declared(random);
     let mut terms = (0, 0);
     for case in 0..60_000 {
         let mut text = String::new();
         for _ in 0..=random.below(1 + case % 16) {
-            text += random.one(&TOKENS);
+            text += random.one(&tokens);
             text += random.one(&["", " "]);
         }
         let (by_name, by_index) = check_text(&names, &text);
