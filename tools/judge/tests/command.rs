@@ -11,6 +11,8 @@ use std::process::{Command, Output, Stdio};
 use std::sync::OnceLock;
 use std::thread;
 
+use unit::limits::{MAX_ARGUMENTS, MAX_BRANCHES};
+
 /// Prints the words of its input on one line.
 const ECHO: &str = "#!/bin/sh\necho $(od -An -v -tu4)\n";
 /// Prints a line without reading its input.
@@ -557,15 +559,16 @@ fn the_verdict_decides_the_exit_status_if_asked() {
 fn a_refusal_names_side_and_reason() {
     // Three words make a table of 16.
     let (wrong, right) = ("0 0", "0");
+    let parts = format!(
+        "more than {MAX_ARGUMENTS} arguments or {MAX_BRANCHES} branches, or branch tags that do not rise; \
+         a default stands first"
+    );
     for (number, reason) in [
         (
             "3",
             "a tag is outside 1 to 255; only a default, `_:BODY`, has tag 0, and it binds nothing",
         ),
-        (
-            "5",
-            "more than 15 arguments or 15 branches, or branch tags that do not rise; a default stands first",
-        ),
+        ("5", parts.as_str()),
         (
             "6",
             "a free number, an index less the binders around it, is above 255 (with names: more than 256 are free)",
