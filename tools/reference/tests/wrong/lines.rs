@@ -17,6 +17,7 @@ mistakes! {
     LeadingZeros,
     NumberInSixteenBits,
     NumberInThirtyTwoBits,
+    NumberCutToSixteenBits,
     LargestIndexIsOneMore,
     SpaceAtStart,
     SpaceAtEnd,
@@ -47,6 +48,7 @@ mistakes! {
     LengthUpTo1023,
     // Free numbers and room.
     FreeNumberNotTested,
+    FreeNumberUpTo254,
     FreeNumberUpTo256,
     FreeNumberIsIndex,
     BindersStayBehindParentheses,
@@ -322,6 +324,9 @@ impl Reader {
                 value = value.min(1 << 64);
             }
         }
+        if self.is(Mistake::NumberCutToSixteenBits) && value < 1 << 32 {
+            value %= 1 << 16;
+        }
         let largest = match self.mistake {
             Mistake::LargestIndexIsOneMore => 32_768,
             Mistake::LargestIndexIsOneLess => 32_766,
@@ -338,6 +343,7 @@ impl Reader {
             _ => self.binders,
         };
         let limit = match self.mistake {
+            Mistake::FreeNumberUpTo254 => 254,
             Mistake::FreeNumberUpTo256 => 256,
             Mistake::FreeNumberNotTested => u32::MAX,
             _ => 255,
