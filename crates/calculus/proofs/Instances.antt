@@ -41,6 +41,7 @@ instances =
       moves-up = refl;
       moves-down = refl;
       moves-to-0 = refl;
+      between = refl;
       rising = (omega arith, (tt, tt));
       contracts-by-beta = at-beta;
       contracts-by-case = at-case refl;

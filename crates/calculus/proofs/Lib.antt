@@ -13,6 +13,7 @@ pub mod FirstLaws
 pub mod PrefixFree
 pub mod ComparisonLaws
 pub mod Move
+pub mod SubstitutionExact
 pub mod Indices
 pub mod Site
 pub mod Earliest

@@ -14,15 +14,16 @@ use Rattle.calculus.specs.Traverse.{traverse}
 use Rattle.calculus.specs.Shift.{moving, shift}
 use Rattle.calculus.specs.Substitution.{argument, replaced, subst}
 use Rattle.calculus.proofs.Move.{move-down}
+use Rattle.calculus.proofs.SubstitutionExact.{shift-exact, substitution-exact}
 use Rattle.calculus.proofs.Spine.{count-traverse}
 use Rattle.calculus.proofs.Traversal.{traverse-after, traverse-traverse, traverse-identity, below-or-above}
 
 -- What the shift by n places up puts for an index.
 moving-below : (n d i : ℕ) → i < d → moving (pos n) d i ≡ var i
-moving-below n d i l = rw (lt-ltb i d l)
+moving-below n d i l = shift-exact .bound (pos n) d i l
 
 pub moving-above : (n d i : ℕ) → d ≤ i → moving (pos n) d i ≡ var (i + n)
-moving-above n d i l = rw (le-ltb i d l)
+moving-above n d i l = shift-exact .free (pos n) d i (i + n) l refl
 
 -- Two shifts are one if the later one's cutoff lies within the gap that the first one makes.
 pub shift-shift : {s : Sort} (m n c d : ℕ) (e : Exp s) → c ≤ d → d ≤ c + n → shift (pos m) d (shift (pos n) c e) ≡ shift (pos (n + m)) c e
@@ -228,7 +229,7 @@ sub-put σ d xs e =
 subst-variable : (xs : Terms) (d i : ℕ) → subst xs d (var i) ≡ lift (put xs) d i
 subst-variable xs d i =
     below-or-above i d
-    (λ l. rw (lift-below (put xs) d i l, lt-ltb i d l))
+    (λ l. substitution-exact .bound xs d i l ∙ sym (lift-below (put xs) d i l))
     (λ l. rw (lift-above (put xs) d i l, le-ltb i d l) (by l (argument xs (i - d)) refl (argument-within xs (i - d))))
   where
     by : d ≤ i → (o : Option Term) → argument xs (i - d) ≡ o → Within (i - d) (count xs) o → replaced xs d i o ≡ shift (pos d) 0 (put xs (i - d))

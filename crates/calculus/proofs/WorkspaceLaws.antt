@@ -32,10 +32,6 @@ module _ (C : ℕ) (ns : List ℕ) (fits : sized (C ∷ ns) ≡ true) where
   pub sized-equal : equalTo C ns ≡ true
   sized-equal = and-eq-true-iff (leb C workspaceMost) (equalTo C ns) .0 within .1
 
--- Where one workspace is lent.
-pub workspace-short : (C : ℕ) → wrongWorkspace C ≡ false → C ≤ workspaceMost
-workspace-short C h = sized-most C [] (not-false _ h)
-
 module _ (C n : ℕ) (ns : List ℕ) (equal : equalTo C (n ∷ ns) ≡ true) where
   pub first-equal : n ≡ C
   first-equal = eqb-true n C (and-eq-true-iff (eqb n C) (equalTo C ns) .0 equal .0)
@@ -52,9 +48,10 @@ equal-all : (C : ℕ) (ns : List ℕ) → ((m : ℕ) → List·Memᴰ m ns → m
 equal-all C [] h = refl
 equal-all C (n ∷ ns) h = rw (eq-eqb n C (h n (List·Memᴰ·head refl))) (equal-all C ns (λ m k. h m (List·Memᴰ·tail k)))
 
-pub lengths-exact : Lengths-exact
-lengths-exact [] = (λ e n h. absurd (List·Memᴰ·not-nil h), λ h. refl)
-lengths-exact (C ∷ ns) = (
+all-lengths : (ns : List ℕ) → (sized ns ≡ true)
+    ↔ ((n : ℕ) → List·Memᴰ n ns → (workspaceLeast ≤ n) × (n ≤ workspaceMost) × ((m : ℕ) → List·Memᴰ m ns → n ≡ m))
+all-lengths [] = (λ e n h. absurd (List·Memᴰ·not-nil h), λ h. refl)
+all-lengths (C ∷ ns) = (
   λ e n h.
       let all : (m : ℕ) → List·Memᴰ m (C ∷ ns) → m ≡ C = λ m k. ⊎-elim (λ q. q) (all-equal C ns (sized-equal C ns e) m) (List·Memᴰ·cases-cons k) in
       let least = sized-least C ns e in
@@ -65,6 +62,19 @@ lengths-exact (C ∷ ns) = (
       let first = h C (List·Memᴰ·head refl) in
       rw (le-leb workspaceLeast C (first .0), le-leb C workspaceMost (first .1)) (equal-all C ns (λ m k. sym (first .2 m (List·Memᴰ·tail k)))),
 )
+
+pub lengths-exact : Lengths-exact
+lengths-exact = (
+  all-lengths,
+  λ C. (
+    λ h. let fits = not-false (sized (C ∷ [])) h in (sized-least C [] fits, sized-most C [] fits),
+    λ h. rw (le-leb workspaceLeast C (h .0), le-leb C workspaceMost (h .1)),
+  ),
+)
+
+-- Where one workspace is lent.
+pub workspace-short : (C : ℕ) → wrongWorkspace C ≡ false → C ≤ workspaceMost
+workspace-short C h = lengths-exact .1 C .0 h .1
 
 -- A length that is named again changes nothing.
 pub sized-two : (C n : ℕ) → sized (C ∷ n ∷ C ∷ []) ≡ sized (C ∷ n ∷ [])

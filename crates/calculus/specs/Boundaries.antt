@@ -1,10 +1,10 @@
 -- The edges of the rounds, of the position that is shown, of the word rules, of the case rule and of closed terms, each with the neighbour that just
--- passes: what the starred bench pairs do not touch.
+-- passes, and the order of arguments: what the starred bench pairs do not touch.
 use mathlib.Core.Path.{_≡_}
 use Prim.Native.Nat.{ℕ}
 use mathlib.Core.List.{List, [], _∷_, _++_}
 use mathlib.Core.Option.{some, none, Option·map}
-use Rattle.calculus.specs.Term.{var, lam, nil, cons, end, branch}
+use Rattle.calculus.specs.Term.{var, lam, con, nil, cons, end, branch}
 use Rattle.calculus.specs.Words.{words}
 use Rattle.calculus.specs.Read.{read}
 use Rattle.calculus.specs.Contraction.{select}
@@ -75,6 +75,10 @@ pub record Boundaries : Type 0 where
   pub tag-missing : contracted (12 ∷ 259 ∷ 133 ∷ 0 ∷ []) ≡ some none
   pub case-argument-raised : contracted (12 ∷ 139 ∷ 0 ∷ 141 ∷ 1 ∷ 8 ∷ []) ≡ some (some (1 ∷ 8 ∷ []))
   pub case-index-lowered : contracted (12 ∷ 147 ∷ 0 ∷ 8 ∷ 149 ∷ 32 ∷ []) ≡ some (some (16 ∷ []))
+  pub arguments-3-in-order : words (con 1 (cons (var 5) (cons (var 6) (cons (var 7) nil)))) ≡ 155 ∷ 40 ∷ 48 ∷ 56 ∷ []
+  pub case-arguments-3 : contracted (12 ∷ 155 ∷ 40 ∷ 48 ∷ 56 ∷ 157 ∷ 291 ∷ 0 ∷ 8 ∷ 16 ∷ 24 ∷ []) ≡ some (some (291 ∷ 56 ∷ 48 ∷ 40 ∷ 0 ∷ []))
+  pub arguments-15-in-order : words (con 1 (cons (var 1) (cons (var 2) (cons (var 3) (cons (var 4) (cons (var 5) (cons (var 6) (cons (var 7) (cons (var 8) (cons (var 9) (cons (var 10) (cons (var 11) (cons (var 12) (cons (var 13) (cons (var 14) (cons (var 15) nil)))))))))))))))) ≡ 251 ∷ 8 ∷ 16 ∷ 24 ∷ 32 ∷ 40 ∷ 48 ∷ 56 ∷ 64 ∷ 72 ∷ 80 ∷ 88 ∷ 96 ∷ 104 ∷ 112 ∷ 120 ∷ []
+  pub case-arguments-15 : contracted (12 ∷ 251 ∷ 8 ∷ 16 ∷ 24 ∷ 32 ∷ 40 ∷ 48 ∷ 56 ∷ 64 ∷ 72 ∷ 80 ∷ 88 ∷ 96 ∷ 104 ∷ 112 ∷ 120 ∷ 253 ∷ 379 ∷ 0 ∷ 8 ∷ 16 ∷ 24 ∷ 32 ∷ 40 ∷ 48 ∷ 56 ∷ 64 ∷ 72 ∷ 80 ∷ 88 ∷ 96 ∷ 104 ∷ 112 ∷ []) ≡ some (some (379 ∷ 120 ∷ 112 ∷ 104 ∷ 96 ∷ 88 ∷ 80 ∷ 72 ∷ 64 ∷ 56 ∷ 48 ∷ 40 ∷ 32 ∷ 24 ∷ 16 ∷ 8 ∷ []))
   pub constructor-applied : contracted (2 ∷ 131 ∷ 0 ∷ []) ≡ some none
   pub redex-in-later-argument : contracted (147 ∷ 8 ∷ 2 ∷ 1 ∷ 0 ∷ 0 ∷ []) ≡ some (some (147 ∷ 8 ∷ 0 ∷ []))
   pub redex-in-subject : contracted (12 ∷ 2 ∷ 1 ∷ 0 ∷ 0 ∷ 133 ∷ 8 ∷ []) ≡ some (some (12 ∷ 0 ∷ 133 ∷ 8 ∷ []))

@@ -10,7 +10,7 @@ use Rattle.calculus.specs.Numeral.{numeral}
 use Rattle.calculus.specs.Contraction.{by-beta, by-case, by-numeral, Contracts}
 use Rattle.calculus.specs.Conversion.{Contracts₁, Reaches, Joined, Normal}
 use Rattle.calculus.specs.Comparison.{differ, compare}
-use Rattle.calculus.specs.Theorems.{Packable}
+use Rattle.calculus.specs.Theorems.{Packable, arguments}
 
 -- The identity applied to f1; a function that forgets its argument, applied to f0 for f1; both become f1.
 abbrev pub identity-applied : Term
@@ -46,6 +46,8 @@ pub record Instances : Type 0 where
   pub moves-up : pos 1 +ℤ pos 2 ≡ pos 3
   pub moves-down : pos 3 +ℤ negsuc 1 ≡ pos 1
   pub moves-to-0 : pos 1 +ℤ negsuc 0 ≡ pos 0
+  -- Substitution-exact: the second of three arguments.
+  pub between : arguments (cons (var 1) (cons (var 2) (cons (var 3) nil))) ≡ (var 1 ∷ []) ++ (var 2 ∷ var 3 ∷ [])
   -- Select-exact: tags that rise, from a default.
   pub rising : Rising with-default
   -- The types about a contraction, by each rule and inside a term.

@@ -7,14 +7,14 @@ use mathlib.Core.Logic.{_↔_, _⊎_}
 use mathlib.Core.Option.{some, none, bind}
 use lib.IntN.{ℤ, pos, _+ℤ_}
 use lib.ListN.{length, take, getD}
-use Rattle.calculus.specs.Term.{Sort, term, Exp, end, branch, Term, Terms, Branches, count}
+use Rattle.calculus.specs.Term.{Sort, term, terms, branches, Exp, var, lam, app, con, case, num, nil, cons, end, branch, Term, Terms, Branches, count}
 use Rattle.calculus.specs.Words.{applicationKind, caseKind, numeralKind, kindOf, countBase, words, size, workspaceLeast, workspaceMost}
 use Rattle.calculus.specs.Everywhere.{binders, anywhere, Asked, variables, Everywhere}
 use Rattle.calculus.specs.Accepted.{tagLimit, argumentLimit, branchLimit, freeLimit, numeralLimit, Rising, Scoped, acceptance, Accepted, indexLimit}
 use Rattle.calculus.specs.Read.{read}
-use Rattle.calculus.specs.Workspace.{sized, termAt}
+use Rattle.calculus.specs.Workspace.{sized, wrongWorkspace, termAt}
 use Rattle.calculus.specs.Bringing.{longerThan, freeAbove}
-use Rattle.calculus.specs.Shift.{move}
+use Rattle.calculus.specs.Shift.{move, shift}
 use Rattle.calculus.specs.Substitution.{subst}
 use Rattle.calculus.specs.Numeral.{numeral}
 use Rattle.calculus.specs.Contraction.{Rule, by-beta, by-case, by-numeral, select, Contracts}
@@ -49,11 +49,13 @@ Limits-exact =
     × ((bs : Branches) → acceptance .of-case bs
     ↔ ((count bs ≤ branchLimit) × ((i j : ℕ) → i < j → j < length (tags bs) → getD (tags bs) i 0 < getD (tags bs) j 0)))
 
--- Which lengths pass refusal 7: every workspace and scratch that is lent has 16 to 2,048 words, and any two have as many.
+-- Which lengths pass refusal 7: every workspace and scratch that is lent has 16 to 2,048 words, and any two have as many;
+-- where one workspace alone is lent, it has 16 to 2,048.
 abbrev pub Lengths-exact : Type 0
 Lengths-exact =
-    (ns : List ℕ) → (sized ns ≡ true)
-    ↔ ((n : ℕ) → List·Memᴰ n ns → (workspaceLeast ≤ n) × (n ≤ workspaceMost) × ((m : ℕ) → List·Memᴰ m ns → n ≡ m))
+    ((ns : List ℕ) → (sized ns ≡ true)
+    ↔ ((n : ℕ) → List·Memᴰ n ns → (workspaceLeast ≤ n) × (n ≤ workspaceMost) × ((m : ℕ) → List·Memᴰ m ns → n ≡ m)))
+    × ((C : ℕ) → (wrongWorkspace C ≡ false) ↔ ((workspaceLeast ≤ C) × (C ≤ workspaceMost)))
 
 -- What passes refusal 10: a workspace has so many words, and they are those of an accepted term.
 pub record Held (ws : List ℕ) (n : ℕ) (t : Term) : Type 0 where
@@ -136,6 +138,40 @@ Numeral-words = (n : ℕ) → (words (numeral n) ≡ (1 ∷ 1 ∷ []) ++ (pairs 
 -- A moved index is the sum of index and distance as integers, wherever that is not negative.
 abbrev pub Move-exact : Type 0
 Move-exact = (z : ℤ) (i n : ℕ) → pos i +ℤ z ≡ pos n → move z i ≡ n
+
+-- What is done to expressions, d binders being crossed, goes through every form but a variable: a body stands under the binders of its abstraction or its
+-- branch too, and tags, bound counts and numerals stay.
+pub record Through (done : (s : Sort) → (d : ℕ) → Exp s → Exp s) : Type 0 where
+  pub of-abstraction : (d : ℕ) (b : Term) → done term d (lam b) ≡ lam (done term (d + 1) b)
+  pub of-application : (d : ℕ) (f a : Term) → done term d (app f a) ≡ app (done term d f) (done term d a)
+  pub of-constructor : (d t : ℕ) (xs : Terms) → done term d (con t xs) ≡ con t (done terms d xs)
+  pub of-case : (d : ℕ) (e : Term) (bs : Branches) → done term d (case e bs) ≡ case (done term d e) (done branches d bs)
+  pub of-numeral : (d n : ℕ) → done term d (num n) ≡ num n
+  pub of-no-argument : (d : ℕ) → done terms d nil ≡ nil
+  pub of-argument : (d : ℕ) (a : Term) (xs : Terms) → done terms d (cons a xs) ≡ cons (done term d a) (done terms d xs)
+  pub of-no-branch : (d : ℕ) → done branches d end ≡ end
+  pub of-branch : (d t n : ℕ) (b : Term) (bs : Branches)
+      → done branches d (branch t n b bs) ≡ branch t n (done term (d + n) b) (done branches d bs)
+
+-- Moving indices in the words of "Contraction": an index that is bound inside the moved part stays, and every other moves by the signed distance.
+pub record Shift-exact : Type 0 where
+  pub bound : (z : ℤ) (d i : ℕ) → i < d → shift z d (var i) ≡ var i
+  pub free : (z : ℤ) (d i n : ℕ) → d ≤ i → pos i +ℤ z ≡ pos n → shift z d (var i) ≡ var n
+  pub through : (z : ℤ) → Through (λ s d e. shift z d e)
+
+-- The arguments in their order.
+abbrev pub arguments : Terms → List Term
+arguments nil = []
+arguments (cons a xs) = a ∷ arguments xs
+
+-- Substitution in the words of "Contraction": an index bound by the d binders crossed stays; past these the last argument is index 0 and the first
+-- their number minus 1, so that each is the index of as many as stand after it; it rises by the binders crossed. An index past the arguments falls by their number.
+pub record Substitution-exact : Type 0 where
+  pub bound : (xs : Terms) (d i : ℕ) → i < d → subst xs d (var i) ≡ var i
+  pub replaced : (xs : Terms) (d i : ℕ) (before : List Term) (a : Term) (after : List Term) → arguments xs ≡ before ++ (a ∷ after)
+      → d ≤ i → i - d ≡ length after → subst xs d (var i) ≡ shift (pos d) 0 a
+  pub past : (xs : Terms) (d i : ℕ) → d + length (arguments xs) ≤ i → subst xs d (var i) ≡ var (i - length (arguments xs))
+  pub through : (xs : Terms) → Through (λ s d e. subst xs d e)
 
 -- A branch of this tag, bound count and body is among the branches.
 abbrev pub Has : (tag bound : ℕ) → Term → Branches → Type 0
