@@ -4,3 +4,4 @@ pub mod PuttingLaws
 pub mod CombinatorLaws
 pub mod ImportCode
 pub mod ExportCode
+pub mod Fields

@@ -2,4 +2,5 @@
 pub mod CountLaws
 pub mod PressLaws
 pub mod ShowLaws
+pub mod Fields
 pub mod Examples

@@ -6,6 +6,7 @@ use mathlib.Core.List.{List, [], _∷_}
 use mathlib.Core.Option.{Option, some, none}
 use native.Mathlib.Omega.{arith}
 use lib.ListN.{length, getD}
+use borrow.Author.Tests.{ne-eqb}
 use Rattle.calculus.specs.Term.{Term}
 use Rattle.calculus.specs.Words.{words, size, workspaceMost}
 use Rattle.calculus.specs.Workspace.{sized, termAt}
@@ -29,7 +30,14 @@ numbered Budget = refl
 numbered Full = refl
 
 pub session-in-words : Session-in-words
-session-in-words s = ap (λ v. record { total = s .total; left = s .left; right = s .right; verdict = v }) (numbered (s .verdict))
+session-in-words =
+    record {
+      words-of = λ n l r v. refl;
+      session-of = λ n l r w. refl;
+      of-a-verdict = numbered;
+      of-none = λ w h. rw (ne-eqb w 0 (λ e. omega arith), ne-eqb w 1 (λ e. omega arith), ne-eqb w 2 (λ e. omega arith));
+      again = λ s. ap (λ v. record { total = s .total; left = s .left; right = s .right; verdict = v }) (numbered (s .verdict));
+    }
 
 module _ (session answer left right : List ℕ) (c : Call) where
   abbrev on : Session → Memory

@@ -1,13 +1,10 @@
 -- What the code's types stand for: the answer's enum case by case, the session, and a press's results with the lent slices.
 use Prim.Native.Nat.{ℕ}
 use mathlib.Core.Path.{_≡_}
-use mathlib.Core.List.{List, [], _∷_}
-use Rattle.calculus.specs.Refusal.{OverBudget}
-use Rattle.calculus.specs.Rounds.{Full}
+use mathlib.Core.List.{List}
 use Rattle.words.specs.declared.refusal.Refusal as codeRefusal
-use Rattle.words.specs.declared.refusal.Refusal.the-variants as refusal
 use Rattle.words.specs.Types.{refusalOf}
-use Rattle.turn.specs.declared.Verdict.the-variants as verdict
+use Rattle.turn.specs.declared.Verdict as codeVerdict
 use Rattle.turn.specs.Types.{verdictOf}
 use Rattle.rounds.specs.Types.{shownOf}
 use Rattle.press.specs.declared.state.Session as codeSession
@@ -42,14 +39,24 @@ pressedOf pressed left right scratch =
 abbrev pub refusedWith : codeRefusal.Refusal → codeSession.Session → codePressed.Pressed
 refusedWith why session = record { answer = answer.Refused why; session = session }
 
--- Each field is that of its name, and a refusal that of its name.
+-- Each field is that of its name, of a session, a call, and a press that is refused or shows something.
 pub record Press-fields : Type 0 where
-  pub session : sessionOf (record { total = 1; left = 2; right = 3; verdict = verdict.Full }) ≡ record { total = 1; left = 2; right = 3; verdict = Full }
-  pub call : callOf (1 ∷ []) 2 3 4 ≡ record { scratch = 1 ∷ []; leftLength = 2; rightLength = 3; budget = 4 }
-  pub refused-press :
-      pressedOf (refusedWith refusal.OverBudget (record { total = 1; left = 2; right = 3; verdict = verdict.Full })) (5 ∷ []) (6 ∷ []) (7 ∷ [])
+  pub session : (n l r : ℕ) (v : codeVerdict.Verdict)
+      → sessionOf (record { total = n; left = l; right = r; verdict = v }) ≡ record { total = n; left = l; right = r; verdict = verdictOf v }
+  pub call : (scratch : List ℕ) (l r b : ℕ) → callOf scratch l r b ≡ record { scratch = scratch; leftLength = l; rightLength = r; budget = b }
+  pub refused-press : (why : codeRefusal.Refusal) (session : codeSession.Session) (left right scratch : List ℕ)
+      → pressedOf (refusedWith why session) left right scratch
       ≡ record {
-        answer = refused OverBudget;
-        memory = record { left = 5 ∷ []; right = 6 ∷ []; session = record { total = 1; left = 2; right = 3; verdict = Full } };
-        scratch = 7 ∷ [];
+        answer = refused (refusalOf why);
+        memory = record { left = left; right = right; session = sessionOf session };
+        scratch = scratch;
+      }
+  pub shown-press : (v : codeVerdict.Verdict) (s l r p : ℕ) (session : codeSession.Session) (left right scratch : List ℕ)
+      → pressedOf
+      (record { answer = answer.Shown (record { verdict = v; spent = s; left = l; right = r; position = p }); session = session })
+      left right scratch
+      ≡ record {
+        answer = shown (record { verdict = verdictOf v; spent = s; left = l; right = r; position = p });
+        memory = record { left = left; right = right; session = sessionOf session };
+        scratch = scratch;
       }

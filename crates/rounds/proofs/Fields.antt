@@ -3,4 +3,4 @@ use mathlib.Core.Path.{refl}
 use Rattle.rounds.specs.Types.{Shown-fields}
 
 pub shown-fields : Shown-fields
-shown-fields = record { fields = refl }
+shown-fields = record { fields = λ v s l r p. refl }

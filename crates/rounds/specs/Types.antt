@@ -1,7 +1,8 @@
 -- What the code's record of what is shown stands for.
+use Prim.Native.Nat.{ℕ}
 use mathlib.Core.Path.{_≡_}
-use Rattle.calculus.specs.Rounds.{Different, Shown}
-use Rattle.turn.specs.declared.Verdict.the-variants as verdict
+use Rattle.calculus.specs.Rounds.{Shown}
+use Rattle.turn.specs.declared.Verdict as codeVerdict
 use Rattle.turn.specs.Types.{verdictOf}
 use Rattle.rounds.specs.declared.Shown as code
 
@@ -17,6 +18,6 @@ shownOf shown =
 
 -- Each field is that of its name.
 pub record Shown-fields : Type 0 where
-  pub fields :
-      shownOf (record { verdict = verdict.Different; spent = 1; left = 2; right = 3; position = 4 })
-      ≡ record { verdict = Different; spent = 1; left = 2; right = 3; position = 4 }
+  pub fields : (v : codeVerdict.Verdict) (s l r p : ℕ)
+      → shownOf (record { verdict = v; spent = s; left = l; right = r; position = p })
+      ≡ record { verdict = verdictOf v; spent = s; left = l; right = r; position = p }

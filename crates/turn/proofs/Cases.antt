@@ -3,4 +3,4 @@ use mathlib.Core.Path.{refl}
 use Rattle.turn.specs.Types.{Verdict-cases}
 
 pub verdict-cases : Verdict-cases
-verdict-cases = record { verdicts = refl; early = refl; comparisons = refl; rounds = refl }
+verdict-cases = record { verdicts = refl; early = λ v. refl; comparisons = λ p. refl; plans = λ redex. refl; rounds = λ v n. refl }

@@ -1,9 +1,11 @@
 -- What the code's types stand for: the enums of verdicts, answers, comparisons and rounds case by case, and what a side would do.
+use Prim.Native.Nat.{ℕ}
 use mathlib.Core.Path.{_≡_}
 use mathlib.Core.List.{[], _∷_, map}
 use mathlib.Core.Option.{Option, some, none}
 use Rattle.calculus.specs.Comparison.{Comparison, equal, differ}
 use Rattle.calculus.specs.Rounds.{Verdict, Same, Different, Budget, Full, Round, ends, goes}
+use Rattle.redex.specs.declared.Redex as codeRedex
 use Rattle.search.specs.declared.Plan as codePlan
 use Rattle.search.specs.declared.Plan.the-variants as plan
 use Rattle.turn.specs.declared.Verdict as code
@@ -41,9 +43,10 @@ abbrev pub roundOf : codeRound.Round → Round
 roundOf (round.Ends verdict) = ends (verdictOf verdict)
 roundOf (round.Goes count) = goes count
 
--- Every case of these enums.
+-- Every case of these enums, with whatever it holds.
 pub record Verdict-cases : Type 0 where
   pub verdicts : map verdictOf (verdict.Same ∷ verdict.Different ∷ verdict.Budget ∷ verdict.Full ∷ []) ≡ Same ∷ Different ∷ Budget ∷ Full ∷ []
-  pub early : map earlyOf (early.Ends verdict.Budget ∷ early.Open ∷ []) ≡ some Budget ∷ none ∷ []
-  pub comparisons : map comparisonOf (comparison.Equal ∷ comparison.Differ 5 ∷ []) ≡ equal ∷ differ 5 ∷ []
-  pub rounds : map roundOf (round.Ends verdict.Full ∷ round.Goes 2 ∷ []) ≡ ends Full ∷ goes 2 ∷ []
+  pub early : (v : code.Verdict) → map earlyOf (early.Ends v ∷ early.Open ∷ []) ≡ some (verdictOf v) ∷ none ∷ []
+  pub comparisons : (p : ℕ) → map comparisonOf (comparison.Equal ∷ comparison.Differ p ∷ []) ≡ equal ∷ differ p ∷ []
+  pub plans : (redex : codeRedex.Redex) → map planOf (plan.Normal ∷ plan.Contract redex ∷ []) ≡ normal ∷ contract (redex .at) (redex .length) ∷ []
+  pub rounds : (v : code.Verdict) (n : ℕ) → map roundOf (round.Ends v ∷ round.Goes n ∷ []) ≡ ends (verdictOf v) ∷ goes n ∷ []

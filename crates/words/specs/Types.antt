@@ -47,7 +47,7 @@ answerOf (answer.Returned l) = returned l
 abbrev pub broughtOf : codeAnswer.Answer → (workspace : List ℕ) → Brought
 broughtOf a workspace = record { answer = answerOf a; workspace = workspace }
 
--- Every case by its number: refusals and kinds in the order of the rules; and an answer of each sort.
+-- Every case by its number: refusals and kinds in the order of the rules; every answer, and what bringing a term in leaves field by field.
 pub record Refusal-cases : Type 0 where
   pub refusals :
       map (λ why. number (refusalOf why))
@@ -78,5 +78,6 @@ pub record Refusal-cases : Type 0 where
       ∷ kind.Unassigned
       ∷ [])
       ≡ 0 ∷ 1 ∷ 2 ∷ 3 ∷ 4 ∷ 5 ∷ 6 ∷ 7 ∷ []
-  pub a-refusal : answerOf (answer.Refused refusal.NoTerm) ≡ refused NoTerm
-  pub a-length : answerOf (answer.Returned 5) ≡ returned 5
+  pub a-refusal : (why : code.Refusal) → answerOf (answer.Refused why) ≡ refused (refusalOf why)
+  pub a-length : (l : ℕ) → answerOf (answer.Returned l) ≡ returned l
+  pub brought : (a : codeAnswer.Answer) (workspace : List ℕ) → broughtOf a workspace ≡ record { answer = answerOf a; workspace = workspace }
