@@ -2,13 +2,14 @@
 use Prim.Native.Nat.{ℕ, zero, suc, _+_, _-_, _*_, _/_, _%_, _^_, _≤_, _<_}
 use mathlib.Core.Path.{_≡_, refl, sym, _∙_, ap, ap₂}
 use mathlib.Core.Bool.{Bool, true, false}
-use mathlib.Core.List.{List, [], _∷_, _++_, append-assoc}
+use mathlib.Core.List.{List, [], _∷_, _++_, append-assoc, List·Memᴰ, List·Memᴰ·cases-cons, List·Memᴰ·not-nil, List·Memᴰ·append-cases}
+use mathlib.Core.Logic.{⊎-elim}
 use native.Mathlib.Nat.{pow-suc, div-lt-iff-lt-mul}
 use native.Mathlib.Omega.{arith}
 use lib.ListN.{length, length-append, take, drop, set, length-drop, take-append-drop}
 use lib.Seq.{take-all, length-take-le, drop-at}
 use lib.Dec.{ltb}
-use borrow.Author.Tests.{ltb-true, lt-ltb, le-ltb}
+use borrow.Author.Tests.{ltb-true, ltb-false, lt-ltb, le-ltb}
 use Rattle.text.specs.Decimal.{digit, digitsMost, digits, decimal, worth, Decimal-exact}
 use Rattle.words.specs.Placed.{Placed}
 use Rattle.words.proofs.PlacedLaws.{drop-set, sets-end}
@@ -76,6 +77,56 @@ digits-worth (suc k) n h = go (ltb n 10) refl (digits-worth k (n / 10))
         let less : n / 10 < 10 ^ k = div-lt-iff-lt-mul {k = 10} (omega arith) .1 (rw pow-suc at h) in
         rw (e, digits, worth-append) (omega (arith, ih less))
 
+digits-bytes : (k n d : ℕ) → List·Memᴰ d (digits k n) → (48 ≤ d) × (d ≤ 57)
+unfolding digits
+digits-bytes zero n d m = absurd (List·Memᴰ·not-nil m)
+digits-bytes (suc k) n d m = go (ltb n 10) refl (digits-bytes k (n / 10) d) m
+  where
+    one : (e : ℕ) → e < 10 → List·Memᴰ d (digit e ∷ []) → (48 ≤ d) × (d ≤ 57)
+    one e l h = ⊎-elim (λ q. (omega arith, omega arith)) (λ k. absurd (List·Memᴰ·not-nil k)) (List·Memᴰ·cases-cons h)
+
+    go : (b : Bool) → ltb n 10 ≡ b → (List·Memᴰ d (digits k (n / 10)) → (48 ≤ d) × (d ≤ 57))
+        → List·Memᴰ d (elim b [ true ↦ digit n ∷ [] | false ↦ digits k (n / 10) ++ (digit (n % 10) ∷ []) ]) → (48 ≤ d) × (d ≤ 57)
+    go true e ih h = one n (ltb-true n 10 e) h
+    go false e ih h = ⊎-elim ih (one (n % 10) (omega arith)) (List·Memᴰ·append-cases (digits k (n / 10)) h)
+
+-- The first digit of a number above 0 is not 0.
+abbrev Starts : List ℕ → Type 0
+Starts ds = (d : ℕ) × (rest : List ℕ) × (ds ≡ d ∷ rest) × (48 < d)
+
+digits-start : (k n : ℕ) → 0 < n → n < 10 ^ k → Starts (digits k n)
+unfolding digits
+digits-start zero n p h = absurd (omega arith)
+digits-start (suc k) n p h = go (ltb n 10) refl (digits-start k (n / 10))
+  where
+    go : (b : Bool) → ltb n 10 ≡ b → (0 < n / 10 → n / 10 < 10 ^ k → Starts (digits k (n / 10))) → Starts (digits (suc k) n)
+    go true e ih = rw (e, digits) (digit n, [], refl, omega arith)
+    go false e ih =
+        let less : n / 10 < 10 ^ k = div-lt-iff-lt-mul {k = 10} (omega arith) .1 (rw pow-suc at h) in
+        let s = ih (omega (arith, ltb-false n 10 e)) less in
+        rw (e, digits) (s .0, s .1 ++ (digit (n % 10) ∷ []), ap (λ ds. ds ++ (digit (n % 10) ∷ [])) (s .2), s .3)
+
+digits-zero : digits digitsMost 0 ≡ 48 ∷ []
+unfolding digits
+digits-zero = refl
+
 pub decimal-exact : Decimal-exact
 unfolding decimal
-decimal-exact n h = digits-worth digitsMost n (omega arith)
+decimal-exact n h =
+    record {
+      some-digit = some n h;
+      each-digit = digits-bytes digitsMost n;
+      worth-is = digits-worth digitsMost n (omega arith);
+      no-leading-zero = alone n h;
+    }
+  where
+    starts : (m : ℕ) → suc m < 2 ^ 64 → Starts (digits digitsMost (suc m))
+    starts m h = digits-start digitsMost (suc m) (omega arith) (omega arith)
+
+    some : (n : ℕ) → n < 2 ^ 64 → 1 ≤ length (digits digitsMost n)
+    some zero h = omega (arith, ap length digits-zero)
+    some (suc m) h = let s = starts m h in omega (arith, ap length (s .2))
+
+    alone : (n : ℕ) → n < 2 ^ 64 → (rest : List ℕ) → digits digitsMost n ≡ 48 ∷ rest → rest ≡ []
+    alone zero h rest e = cc digits-zero
+    alone (suc m) h rest e = let s = starts m h in let q : 48 ≡ s .0 = cc (s .2) in absurd (omega (arith, s .3))
