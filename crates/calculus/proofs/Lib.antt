@@ -6,6 +6,8 @@ pub mod EverywhereLaws
 pub mod DefaultLaws
 pub mod LimitsLaws
 pub mod WordLaws
+pub mod PatternLaws
+pub mod PayloadLaws
 pub mod MarkedWords
 pub mod SkipLaws
 pub mod ReadLaws

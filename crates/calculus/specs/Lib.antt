@@ -3,6 +3,8 @@ pub mod Term
 pub mod Words
 pub mod Everywhere
 pub mod Accepted
+pub mod Pattern
+pub mod Payload
 pub mod Decide
 pub mod Read
 pub mod Skip

@@ -12,8 +12,8 @@ use Rattle.calculus.specs.Workspace.{termAt}
 use Rattle.calculus.specs.Rounds.{same, roundsIn, roundsBy}
 use Rattle.claim.specs.Press.{press}
 use Rattle.claim.specs.Showing.{show}
-use Rattle.tables.specs.Load.{loadStored}
-use Rattle.tables.specs.Write.{write}
+use Rattle.storage.specs.Load.{loadStored}
+use Rattle.storage.specs.Write.{write}
 use Rattle.notation.specs.Reader.{sign, isIndex, settle, onDigit, onBegun, step, scan, finish, lineWords, lineTerm}
 use Rattle.notation.specs.Reading.{readLine}
 use Rattle.encoding.specs.Decoding.{wordsIn, decode}

@@ -13,7 +13,7 @@ use Rattle.claim.specs.Answer as claim
 use Rattle.claim.specs.Press.{press}
 use Rattle.claim.specs.Showing.{Part}
 use Rattle.claim.specs.Showing as side
-use Rattle.tables.specs.Write.{Written}
+use Rattle.storage.specs.Write.{Written}
 use Rattle.encoding.specs.Export.{Exported}
 use Rattle.firmware.specs.Numbers.{unrefused, sessionWords, sessionIn, answerWords, sideNumber}
 

@@ -10,8 +10,8 @@ use Rattle.claim.specs.State.{fresh}
 use Rattle.press.specs.Types.{callOf}
 use Rattle.claim.specs.Showing.{show}
 use Rattle.claim.specs.Examples.{abstraction, application, exchanged}
-use Rattle.tables.specs.Load.{load}
-use Rattle.tables.specs.Write.{write}
+use Rattle.storage.specs.Load.{load}
+use Rattle.storage.specs.Write.{write}
 use Rattle.notation.specs.Reading.{readLine}
 use Rattle.encoding.specs.Import.{import}
 use Rattle.encoding.specs.Export.{export}

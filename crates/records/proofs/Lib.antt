@@ -1,12 +1,5 @@
-pub mod Tests
-pub mod Sums
-pub mod LinkRules
-pub mod PayloadLaws
-pub mod Fits
+pub mod EveryLaws
 pub mod RecordLaws
+pub mod PayloadLaws
 pub mod Namings
-pub mod Hanging
 pub mod Walks
-pub mod ValuesExact
-pub mod LinksExact
-pub mod ChildrenExact

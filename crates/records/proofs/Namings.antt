@@ -10,11 +10,12 @@ use lib.Dec.{leb, ltb, eqb}
 use lib.ListN.{length, getD, length-set, replicate, length-replicate}
 use lib.Seq.{getD-set-same, getD-set-other}
 use borrow.Author.Tests.{leb-true, eqb-true, eq-eqb, ne-eqb}
-use Rattle.records.specs.Header.{wrongLength, wrongHeader}
-use Rattle.records.specs.Records.{Record, Table, Stored, view, everyOf, sumOf}
-use Rattle.records.specs.Links.{linkFits, linksFit, naming, namings, more, counted, roomMost, Countable}
-use Rattle.records.proofs.Sums.{every-at, sum-most}
-use Rattle.records.proofs.RecordLaws.{sized, rooted}
+use Rattle.storage.specs.Header.{wrongLength, wrongHeader}
+use Rattle.storage.specs.Records.{Record, Table, Stored, view, everyOf, sumOf}
+use Rattle.storage.specs.Links.{linkFits, linksFit, naming, namings}
+use Rattle.records.specs.Counting.{more, counted, roomMost, Countable}
+use Rattle.storage.proofs.Sums.{every-at, sum-most, links-to}
+use Rattle.storage.proofs.RecordLaws.{sized, rooted}
 
 link-within : (T : Table) (i l : ℕ) → linkFits (T .n) i l ≡ true → l ≤ T .n
 link-within T i l h = go (eqb l 0) refl h
@@ -22,10 +23,6 @@ link-within T i l h = go (eqb l 0) refl h
     go : (b : Bool) → eqb l 0 ≡ b → (b || (ltb i l && leb l (T .n))) ≡ true → l ≤ T .n
     go true e k = omega (arith, eqb-true l 0 e)
     go false e k = leb-true l (T .n) (and-eq-true-iff (ltb i l) (leb l (T .n)) .0 k .1)
-
--- How many links of record k name record j.
-abbrev pub links-to : Table → (j k : ℕ) → ℕ
-links-to T j k = naming (T .at k .first) j + naming (T .at k .next) j
 
 naming-most : (l j : ℕ) → naming l j ≤ 1
 naming-most l j = go (eqb l j)

@@ -6,10 +6,12 @@ use mathlib.Core.List.{[], _∷_}
 use native.Mathlib.Omega.{arith}
 use lib.Dec.{eqb}
 use lib.ListN.{length}
-use Rattle.records.specs.Records.{Record, Table, Stored, recordAt, view, Inside}
-use Rattle.records.specs.Children.{chain, chainFrom, Walkable}
-use Rattle.records.proofs.LinkRules.{linked}
-use Rattle.records.proofs.Hanging.{ahead-within, chain-next}
+use Rattle.storage.specs.Records.{Record, Table, Stored, recordAt, view}
+use Rattle.records.specs.Preconditions.{Inside}
+use Rattle.storage.specs.Children.{chain, chainFrom}
+use Rattle.records.specs.Preconditions.{Walkable}
+use Rattle.storage.proofs.LinkRules.{linked}
+use Rattle.storage.proofs.Hanging.{ahead-within, chain-next}
 use Rattle.records.proofs.RecordLaws.{inside}
 
 chain-short : (T : Table) (k l : ℕ) → length (chain T k l) ≤ k

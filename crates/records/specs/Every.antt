@@ -4,11 +4,11 @@ use mathlib.Core.Path.{_≡_}
 use mathlib.Core.Bool.{Bool, false}
 use Rattle.records.specs.declared.every.Question as codeQuestion
 use Rattle.records.specs.declared.every.Question.the-variants as question
-use Rattle.records.specs.Records.{Table, Stored, view}
-use Rattle.records.specs.Header.{wrongLength}
-use Rattle.records.specs.Values.{valued}
-use Rattle.records.specs.Links.{wrongLink, linksFit}
-use Rattle.records.specs.Children.{recordFits}
+use Rattle.storage.specs.Records.{Table, Stored, view}
+use Rattle.storage.specs.Header.{wrongLength}
+use Rattle.storage.specs.Values.{valued}
+use Rattle.storage.specs.Links.{wrongLink, linksFit}
+use Rattle.storage.specs.Children.{recordFits}
 
 abbrev pub asked : codeQuestion.Question → Table → ℕ → Bool
 asked question.Value T i = valued (T .at i)

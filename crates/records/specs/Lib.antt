@@ -1,10 +1,5 @@
--- Stored tables as records ("The stored table"), in any form, and the refusals that are about their header and their records.
-pub mod Records
+-- What the contracts of the code on records cite beside the definitions of stored tables.
 pub mod Types
-pub mod Header
-pub mod Payload
-pub mod Values
-pub mod Links
-pub mod Children
+pub mod Preconditions
+pub mod Counting
 pub mod Every
-pub mod Theorems

@@ -7,7 +7,7 @@ use Rattle.records.specs.declared.Form.the-variants as form
 use Rattle.records.specs.declared.Declared as codeDeclared
 use Rattle.records.specs.declared.Declared.the-variants as declared
 use Rattle.records.specs.declared.Record as codeRecord
-use Rattle.records.specs.Records.{Record, Table, Form, Stored, view, form1}
+use Rattle.storage.specs.Records.{Record, Table, Form, Stored, view, form1}
 
 abbrev pub formOf : codeForm.Form → Form
 formOf form.One = form1

@@ -11,7 +11,8 @@ ghost use mathlib.Core.Path.{_≡_};
 ghost use Prim.Native.Nat.{_≤_};
 ghost use lib.ListN.{length};
 ghost use Rattle.records.specs.Types.{declaredOf, stored, viewed};
-ghost use Rattle.records.specs.Children.{startsAbove, mayStand, chainFits, sortsFit, agrees, recordFits, wrongChildren, chainFrom, Walkable};
+ghost use Rattle.storage.specs.Children.{startsAbove, mayStand, chainFits, sortsFit, agrees, recordFits, wrongChildren, chainFrom};
+ghost use Rattle.records.specs.Preconditions.{Walkable};
 
 // How many records a chain has.
 pub fn chain_length(table: &[u32], form: Form, link: usize) -> usize

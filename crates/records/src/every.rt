@@ -6,7 +6,7 @@ use crate::links::links_fit;
 use crate::values::value_fits;
 ghost use mathlib.Core.Path.{_≡_};
 ghost use Prim.Native.Nat.{_≤_};
-ghost use Rattle.records.specs.Records.{everyOf};
+ghost use Rattle.storage.specs.Records.{everyOf};
 ghost use Rattle.records.specs.Types.{stored, viewed};
 ghost use Rattle.records.specs.Every.{asked, Askable};
 

@@ -6,7 +6,7 @@ use words::Word;
 ghost use mathlib.Core.Path.{_≡_};
 ghost use mathlib.Core.Bool.{false};
 ghost use Rattle.records.specs.Types.{stored};
-ghost use Rattle.records.specs.Header.{wrongLength, wrongHeader};
+ghost use Rattle.storage.specs.Header.{wrongLength, wrongHeader};
 
 pub fn wrong_length(table: &[u32], form: Form) -> bool
     ensures { λ r. ⌜ r ≡ wrongLength (stored form (now (table .entry))) ⌝ }

@@ -8,7 +8,8 @@ ghost use Prim.Native.Nat.{_*_, _^_, _<_};
 ghost use lib.ListN.{length, getD};
 ghost use lib.Seq.{sets};
 ghost use Rattle.calculus.specs.Words.{tagOf};
-ghost use Rattle.records.specs.Records.{headerCount, headerRoot, recordAt, Inside, form1, inForm1, Puttable};
+ghost use Rattle.storage.specs.Records.{headerCount, headerRoot, recordAt, form1, inForm1};
+ghost use Rattle.records.specs.Preconditions.{Inside, Puttable};
 ghost use Rattle.records.specs.Types.{formOf, stored, recordOf};
 
 pub mod children;

@@ -11,10 +11,12 @@ ghost use mathlib.Core.Bool.{true, false};
 ghost use Prim.Native.Nat.{_+_, _^_, _<_};
 ghost use lib.Dec.{eqb};
 ghost use lib.ListN.{length, getD, replicate};
-ghost use Rattle.records.specs.Records.{Inside, everyOf};
-ghost use Rattle.records.specs.Header.{wrongLength, wrongHeader};
+ghost use Rattle.records.specs.Preconditions.{Inside};
+ghost use Rattle.storage.specs.Records.{everyOf};
+ghost use Rattle.storage.specs.Header.{wrongLength, wrongHeader};
 ghost use Rattle.words.specs.Room.{Room};
-ghost use Rattle.records.specs.Links.{linkFits, linksFit, namings, wrongLink, more, counted, roomMost, Countable};
+ghost use Rattle.storage.specs.Links.{linkFits, linksFit, namings, wrongLink};
+ghost use Rattle.records.specs.Counting.{more, counted, roomMost, Countable};
 ghost use Rattle.records.specs.Types.{stored, viewed};
 
 // Room for a count for each index that a link may be, or for the words of a term.

@@ -2,7 +2,8 @@
 use words::Word;
 ghost use mathlib.Core.Path.{_≡_};
 ghost use Rattle.calculus.specs.Words.{word, kindOf, payloadOf};
-ghost use Rattle.records.specs.Payload.{valueOf, payload, Wordable};
+ghost use Rattle.storage.specs.Payload.{valueOf, payload};
+ghost use Rattle.records.specs.Preconditions.{Wordable};
 
 // The value of a word's record.
 pub fn value(word: Word) -> u32

@@ -12,10 +12,10 @@ ghost use Prim.Native.Nat.{suc};
 ghost use mathlib.Core.Bool.{false, _&&_};
 ghost use lib.Dec.{leb};
 ghost use Rattle.calculus.specs.Accepted.{branchLimit};
-ghost use Rattle.records.specs.Records.{Inside};
+ghost use Rattle.records.specs.Preconditions.{Inside};
 ghost use Rattle.records.specs.Types.{declaredOf, stored, viewed};
-ghost use Rattle.records.specs.Header.{wrongLength};
-ghost use Rattle.records.specs.Values.{valueFits, numberFits, declaredFits, valued, wrongValue};
+ghost use Rattle.storage.specs.Header.{wrongLength};
+ghost use Rattle.storage.specs.Values.{valueFits, numberFits, declaredFits, valued, wrongValue};
 
 // Whether a record of this kind may have this value.
 fn kind_fits(kind: u32, value: u32) -> bool

@@ -7,7 +7,7 @@ use mathlib.Core.Option.{Option, some, none, bind}
 use lib.Dec.{leb}
 use lib.ListN.{length, take, drop}
 use Rattle.calculus.specs.Words.{workspaceMost}
-use Rattle.records.specs.Records.{form1}
+use Rattle.storage.specs.Records.{form1}
 use Rattle.text.specs.Bytes.{wordBytes, wordsOf}
 
 pub record Request : Type 0 where

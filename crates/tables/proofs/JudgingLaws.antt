@@ -13,8 +13,8 @@ use Rattle.words.specs.Placed.{Placed}
 use Rattle.words.specs.Room.{Room}
 use Rattle.words.proofs.PlacedLaws.{placed-length, placed-start}
 use Rattle.words.proofs.RoomLaws.{room-of-length, room-length}
-use Rattle.records.specs.Records.{Table}
-use Rattle.records.specs.Links.{roomMost}
+use Rattle.storage.specs.Records.{Table}
+use Rattle.records.specs.Counting.{roomMost}
 use Rattle.transcription.specs.Reading.{termWords}
 use Rattle.tables.specs.Judging.{unless, Judged}
 

@@ -1,7 +1,6 @@
-pub mod Meaning
-pub mod Written
-pub mod LoadLaws
-pub mod RoundTrips
-pub mod Examples
+pub mod FreeNumbers
+pub mod ReadingMeaning
 pub mod JudgingLaws
 pub mod LoadCode
+pub mod EntriesLaws
+pub mod WriteCode

@@ -15,18 +15,18 @@ use Rattle.calculus.specs.Bringing.{Answer, refused, returned, firstMet, NoneMe
 use Rattle.calculus.proofs.BringingLaws.{none-first}
 use Rattle.words.specs.Placed.{Copies}
 use Rattle.words.proofs.RoomLaws.{room-length}
-use Rattle.records.specs.Records.{Stored, view}
-use Rattle.records.specs.Links.{roomMost}
-use Rattle.records.proofs.LinkRules.{linked}
-use Rattle.records.proofs.RecordLaws.{sized}
+use Rattle.storage.specs.Records.{Stored, view}
+use Rattle.records.specs.Counting.{roomMost}
+use Rattle.storage.proofs.LinkRules.{linked}
+use Rattle.storage.proofs.RecordLaws.{sized}
 use Rattle.transcription.specs.Reading.{termWords}
-use Rattle.tables.specs.Load.{tableChecks, checks, loadStored}
+use Rattle.storage.specs.Load.{tableChecks, checks, loadStored}
 use Rattle.tables.specs.Judging.{Judged}
-use Rattle.tables.specs.Meaning.{meaning}
-use Rattle.tables.specs.Theorems.{Meant}
+use Rattle.storage.specs.Meaning.{meaning}
+use Rattle.storage.specs.Theorems.{Meant}
 use Rattle.tables.proofs.JudgingLaws.{unless-refused, unless-returned}
-use Rattle.tables.proofs.LoadLaws.{Passes, passes, unmet-means, load-returned}
-use Rattle.tables.proofs.Meaning.ReadingMeaning.{means-spelled}
+use Rattle.storage.proofs.LoadLaws.{Passes, passes, unmet-means, load-returned}
+use Rattle.tables.proofs.ReadingMeaning.{means-spelled}
 
 module _ (S : Stored) (workspace : List ℕ) (w : wrongWorkspace (length workspace) ≡ false) {before after : List ℕ} {answer : Answer}
     (j : Judged (view S) (tableChecks S (length workspace)) before answer after) where

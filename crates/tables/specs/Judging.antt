@@ -8,7 +8,7 @@ use lib.Seq.{slice}
 use Rattle.calculus.specs.Refusal.{Refusal}
 use Rattle.calculus.specs.Bringing.{Answer, refused, returned, firstMet}
 use Rattle.words.specs.Room.{Room}
-use Rattle.records.specs.Records.{Table}
+use Rattle.storage.specs.Records.{Table}
 use Rattle.transcription.specs.Reading.{termWords}
 
 abbrev pub unless : Option Refusal → (n : ℕ) → Answer

@@ -3,7 +3,7 @@ use Prim.Native.Nat.{ℕ}
 use mathlib.Core.List.{List}
 use Rattle.words.specs.declared.answer.Answer.{Answer}
 use Rattle.words.specs.Types.{answerOf}
-use Rattle.tables.specs.Write.{Written}
+use Rattle.storage.specs.Write.{Written}
 
 -- Everything at exit of writing: its result and the lent table.
 abbrev pub writtenOf : Answer → (table : List ℕ) → Written

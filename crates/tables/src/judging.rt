@@ -20,12 +20,12 @@ ghost use Prim.Native.Nat.{_≤_};
 ghost use lib.ListN.{length, replicate};
 ghost use Rattle.calculus.specs.Refusal.{WrongFree};
 ghost use Rattle.words.specs.Types.{answerOf};
-ghost use Rattle.records.specs.Header.{wrongLength, wrongHeader};
-ghost use Rattle.records.specs.Links.{roomMost};
+ghost use Rattle.storage.specs.Header.{wrongLength, wrongHeader};
+ghost use Rattle.records.specs.Counting.{roomMost};
 ghost use Rattle.records.specs.Types.{stored, viewed};
 ghost use Rattle.transcription.specs.Reading.{Readable};
-ghost use Rattle.tables.specs.FreeNumbers.{wrongFree};
-ghost use Rattle.tables.specs.Load.{recordChecks, tableChecks};
+ghost use Rattle.storage.specs.FreeNumbers.{wrongFree};
+ghost use Rattle.storage.specs.Load.{recordChecks, tableChecks};
 ghost use Rattle.tables.specs.Judging.{Judged};
 
 // The refusal that is met first, 8 by the most words that there is room for; or the number of words of the term, which stand at the start of the room then.

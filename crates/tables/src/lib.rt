@@ -12,8 +12,8 @@ use words::workspace::hold;
 use words::workspace::wrong_workspace;
 ghost use mathlib.Core.Path.{_≡_};
 ghost use Rattle.words.specs.Types.{broughtOf};
-ghost use Rattle.tables.specs.Load.{load};
-ghost use Rattle.tables.specs.Write.{write};
+ghost use Rattle.storage.specs.Load.{load};
+ghost use Rattle.storage.specs.Write.{write};
 ghost use Rattle.tables.specs.Types.{writtenOf};
 
 // Puts the term that a table means into a workspace, with zeros after it. A refusal changes nothing: the words stand in an array of their own until every

@@ -6,7 +6,7 @@ use native.Mathlib.Omega.{arith}
 use lib.Dec.{eqb}
 use borrow.Author.Tests.{ne-eqb}
 use Rattle.calculus.specs.Words.{branchKind, tagOf}
-use Rattle.words.specs.Payload.{payloadFits}
+use Rattle.calculus.specs.Payload.{payloadFits}
 use Rattle.terms.specs.Frames.{frame, startsTerm, startsBranch, allowedBy, restBy}
 
 -- Terms are to come.

@@ -20,10 +20,9 @@ use Rattle.calculus.proofs.WordLaws.{kindOf-word, payloadOf-word, word-of-parts
 use Rattle.calculus.proofs.ReadLaws.{read-exact}
 use Rattle.calculus.proofs.DefaultLaws.{pattern-limits}
 use Rattle.words.specs.Bound.{binding}
-use Rattle.words.specs.Payload.{payloadFits}
-use Rattle.words.specs.Theorems.{Payload, variable, abstraction, application, constructor, case, default, branch, numeral}
-use Rattle.words.proofs.PatternLaws.{tagged-passes, pattern-passes, pattern-fits}
-use Rattle.words.proofs.PayloadLaws.{payloads-exact}
+use Rattle.calculus.specs.Payload.{payloadFits, Payload, variable, abstraction, application, constructor, case, default, branch, numeral}
+use Rattle.calculus.proofs.PatternLaws.{tagged-passes, pattern-passes, pattern-fits}
+use Rattle.calculus.proofs.PayloadLaws.{payloads-exact}
 use Rattle.terms.specs.Frames.{Frame, frame, insideBy, inside, startsTerm, startsBranch, allowedBy, allowed, restBy, rest}
 
 -- A frame in front of others, left out if nothing is to come in it.

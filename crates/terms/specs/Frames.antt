@@ -10,7 +10,7 @@ use Rattle.calculus.specs.Words.{variableKind, caseKind, branchKind, kindOf, pa
 use Rattle.calculus.specs.Accepted.{argumentLimit, freeLimit}
 use Rattle.calculus.specs.Skip.{following}
 use Rattle.words.specs.Bound.{binding}
-use Rattle.words.specs.Payload.{payloadFits}
+use Rattle.calculus.specs.Payload.{payloadFits}
 
 pub record Frame : Type 0 where
   pub terms : ℕ

@@ -7,7 +7,7 @@ ghost use mathlib.Core.Option.{some, none};
 ghost use Prim.Native.Nat.{_≤_};
 ghost use lib.Dec.{leb};
 ghost use Rattle.calculus.specs.Words.{branchKind, kindOf, payloadOf, tagOf};
-ghost use Rattle.words.specs.Payload.{payloadFits};
+ghost use Rattle.calculus.specs.Payload.{payloadFits};
 ghost use Rattle.terms.specs.Frames.{depthLimit, frame, isFilled, allowed, rest, enteredBy, entered, startsTerm, startsBranch};
 ghost use Rattle.terms.specs.Packed.{unpacked, Packs, enteredOf};
 

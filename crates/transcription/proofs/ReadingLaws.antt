@@ -8,15 +8,16 @@ use native.Mathlib.Omega.{arith}
 use lib.ListN.{length, length-append}
 use borrow.Author.Tests.{eq-eqb, ne-eqb}
 use Rattle.calculus.specs.Words.{word}
-use Rattle.records.specs.Records.{Record, Table, Stored, recordAt, view}
-use Rattle.records.specs.Payload.{payload, Wordable}
-use Rattle.records.specs.Values.{numberFits}
-use Rattle.records.specs.Children.{children, childrenFit, chainFrom}
+use Rattle.storage.specs.Records.{Record, Table, Stored, recordAt, view}
+use Rattle.storage.specs.Payload.{payload}
+use Rattle.records.specs.Preconditions.{Wordable}
+use Rattle.storage.specs.Values.{numberFits}
+use Rattle.storage.specs.Children.{children, childrenFit, chainFrom}
 use Rattle.transcription.specs.Reading.{ahead, chainWords, termWords, Readable}
-use Rattle.records.proofs.LinkRules.{Ahead, Linked, linked}
+use Rattle.storage.proofs.LinkRules.{Ahead, Linked, linked}
 use Rattle.records.proofs.PayloadLaws.{has-word}
-use Rattle.records.proofs.Fits.{valued, fitted}
-use Rattle.records.proofs.Hanging.{hanging-zero, hanging-record}
+use Rattle.storage.proofs.Fits.{valued, fitted}
+use Rattle.storage.proofs.Hanging.{hanging-zero, hanging-record}
 use Rattle.records.proofs.Walks.{walked}
 
 module _ (T : Table) where

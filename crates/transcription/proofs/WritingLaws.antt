@@ -11,7 +11,8 @@ use lib.Seq.{sets, length-sets, drop-cons}
 use Rattle.calculus.specs.Words.{workspaceMost}
 use Rattle.calculus.specs.Skip.{arity, span}
 use Rattle.words.proofs.PlacedLaws.{drop-set}
-use Rattle.records.specs.Records.{Record, form1, recordsWords, Puttable}
+use Rattle.storage.specs.Records.{Record, form1, recordsWords}
+use Rattle.records.specs.Preconditions.{Puttable}
 use Rattle.transcription.specs.Writing.{linkIf, push, entryOf, entries, pushed, descended}
 
 pub pushed-some : (levels : List ℕ) (top items : ℕ) → (items ≡ 0 → ⊥) → (top - 1, set levels (top - 1) items) ≡ pushed levels top items

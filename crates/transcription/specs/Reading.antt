@@ -7,10 +7,11 @@ use mathlib.Core.List.{List, [], _∷_, _++_}
 use lib.Dec.{eqb}
 use lib.ListN.{length}
 use Rattle.calculus.specs.Words.{word}
-use Rattle.records.specs.Records.{Table, Stored, view, hanging}
-use Rattle.records.specs.Payload.{payload}
-use Rattle.records.specs.Values.{wrongValue}
-use Rattle.records.specs.Children.{children, wrongChildren, Walkable}
+use Rattle.storage.specs.Records.{Table, Stored, view, hanging}
+use Rattle.storage.specs.Payload.{payload}
+use Rattle.storage.specs.Values.{wrongValue}
+use Rattle.storage.specs.Children.{children, wrongChildren}
+use Rattle.records.specs.Preconditions.{Walkable}
 
 -- How many records are still ahead at a link: the one that it names and all after it.
 abbrev pub ahead : Table → (link : ℕ) → ℕ

@@ -9,8 +9,8 @@ use lib.Dec.{eqb}
 use lib.ListN.{getD, set}
 use Rattle.calculus.specs.Words.{kindOf, payloadOf}
 use Rattle.calculus.specs.Skip.{arity, span}
-use Rattle.records.specs.Records.{Record, entry}
-use Rattle.records.specs.Payload.{valueOf}
+use Rattle.storage.specs.Records.{Record, entry}
+use Rattle.storage.specs.Payload.{valueOf}
 
 -- A link, where there is something that it leads to.
 abbrev pub linkIf : (number link : ℕ) → ℕ

@@ -12,7 +12,7 @@ ghost use lib.ListN.{length, getD, drop};
 ghost use lib.Seq.{sets};
 ghost use Rattle.calculus.specs.Words.{workspaceMost};
 ghost use Rattle.calculus.specs.Skip.{span};
-ghost use Rattle.records.specs.Records.{form1, recordsWords};
+ghost use Rattle.storage.specs.Records.{form1, recordsWords};
 ghost use Rattle.records.specs.Types.{recordOf};
 ghost use Rattle.transcription.specs.Writing.{linkIf, entryOf, entries, pushed, descended};
 

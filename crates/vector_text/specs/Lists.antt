@@ -6,7 +6,7 @@ use lib.Dec.{eqb, leb}
 use lib.ListN.{length, replicate}
 use lib.Seq.{sets}
 use Rattle.calculus.specs.Words.{workspaceMost}
-use Rattle.records.specs.Records.{form1}
+use Rattle.storage.specs.Records.{form1}
 use Rattle.vector_text.specs.Text.{nowhere, after, numberAt}
 use Rattle.vector_text.specs.Compared.{areWords}
 use Rattle.vector_text.specs.declared.Item.{Item}

@@ -14,14 +14,14 @@ use Rattle.claim.specs.Press.{press}
 use Rattle.claim.specs.Showing.{show}
 use Rattle.notation.specs.Reader.{sign, isIndex, settle, onDigit, onClose, popped, onBegun, step, scan, finish, lineWords, lineTerm}
 use Rattle.notation.specs.Reading.{readLine}
-use Rattle.records.specs.Header.{wrongLength, wrongHeader}
-use Rattle.words.specs.Payload.{payloadFits}
-use Rattle.records.specs.Values.{valueFits, wrongValue}
-use Rattle.records.specs.Links.{namings, wrongLink}
-use Rattle.records.specs.Children.{childrenFit, wrongChildren}
-use Rattle.tables.specs.Meaning.{termOf, meantTerm, meantTerms, meantBranch, meantBranches, meant, meaning}
-use Rattle.tables.specs.Load.{loadStored}
-use Rattle.tables.specs.Write.{write}
+use Rattle.storage.specs.Header.{wrongLength, wrongHeader}
+use Rattle.calculus.specs.Payload.{payloadFits}
+use Rattle.storage.specs.Values.{valueFits, wrongValue}
+use Rattle.storage.specs.Links.{namings, wrongLink}
+use Rattle.storage.specs.Children.{childrenFit, wrongChildren}
+use Rattle.storage.specs.Meaning.{termOf, meantTerm, meantTerms, meantBranch, meantBranches, meant, meaning}
+use Rattle.storage.specs.Load.{loadStored}
+use Rattle.storage.specs.Write.{write}
 use Rattle.text.specs.Bytes.{areBytes}
 use Rattle.vector_text.specs.Text.{pastSpace, startsWith, after, digits, numberAt, settingAt}
 use Rattle.vector_text.specs.Lists.{itemAt, withMore, items, listAt, comparedAt}

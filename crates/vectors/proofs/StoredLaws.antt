@@ -9,7 +9,7 @@ use lib.ListN.{length, set, drop-of-length-le, length-set}
 use lib.Seq.{sets, sets-eq}
 use borrow.Author.Tests.{eq-eqb, ne-eqb}
 use Rattle.calculus.specs.Bringing.{Brought}
-use Rattle.tables.specs.Write.{Written}
+use Rattle.storage.specs.Write.{Written}
 use Rattle.vector_text.specs.Text.{nowhere, after, numberAt}
 use Rattle.text.specs.Names.{refusalName}
 use Rattle.vectors.specs.Keywords.{givesWord}

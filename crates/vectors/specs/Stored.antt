@@ -6,9 +6,9 @@ use lib.Dec.{eqb, leb}
 use lib.ListN.{length, take, replicate}
 use Rattle.calculus.specs.Refusal.{number}
 use Rattle.calculus.specs.Bringing.{Answer, refused, returned, Brought}
-use Rattle.records.specs.Records.{form1}
-use Rattle.tables.specs.Load.{load}
-use Rattle.tables.specs.Write.{Written, write}
+use Rattle.storage.specs.Records.{form1}
+use Rattle.storage.specs.Load.{load}
+use Rattle.storage.specs.Write.{Written, write}
 use Rattle.vector_text.specs.Text.{nowhere, after, numberAt}
 use Rattle.text.specs.Names.{refusalName}
 use Rattle.vectors.specs.Keywords.{chainKeyword, givesWord, writesWord}

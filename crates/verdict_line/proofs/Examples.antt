@@ -11,13 +11,13 @@ use Rattle.calculus.specs.Equality.{tree, from-trees, equal?}
 use Rattle.calculus.specs.Workspace.{termAt}
 use Rattle.calculus.specs.Rounds.{same, roundsIn, roundsBy}
 use Rattle.claim.specs.Press.{press}
-use Rattle.records.specs.Header.{wrongLength, wrongHeader}
-use Rattle.words.specs.Payload.{payloadFits}
-use Rattle.records.specs.Values.{valueFits, wrongValue}
-use Rattle.records.specs.Links.{namings, wrongLink}
-use Rattle.records.specs.Children.{childrenFit, wrongChildren}
-use Rattle.tables.specs.Meaning.{termOf, meantTerm, meantTerms, meantBranch, meantBranches, meant, meaning}
-use Rattle.tables.specs.Load.{loadStored}
+use Rattle.storage.specs.Header.{wrongLength, wrongHeader}
+use Rattle.calculus.specs.Payload.{payloadFits}
+use Rattle.storage.specs.Values.{valueFits, wrongValue}
+use Rattle.storage.specs.Links.{namings, wrongLink}
+use Rattle.storage.specs.Children.{childrenFit, wrongChildren}
+use Rattle.storage.specs.Meaning.{termOf, meantTerm, meantTerms, meantBranch, meantBranches, meant, meaning}
+use Rattle.storage.specs.Load.{loadStored}
 use Rattle.text.specs.Bytes.{wordsOf}
 use Rattle.text.specs.Decimal.{digits, decimal}
 use Rattle.request.specs.Request.{request}

@@ -16,7 +16,7 @@ use Rattle.words.specs.declared.refusal.Refusal.{Refusal}
 use Rattle.words.specs.Types.{refusalOf}
 use Rattle.words.specs.declared.answer.Answer.{Answer}
 use Rattle.words.specs.declared.answer.Answer.the-variants as answer
-use Rattle.tables.specs.Load.{load}
+use Rattle.storage.specs.Load.{load}
 use Rattle.words.specs.Types.{broughtOf}
 use Rattle.request.specs.Request.{Request}
 use Rattle.verdict_text.specs.Line.{refuses}

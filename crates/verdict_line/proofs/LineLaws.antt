@@ -12,7 +12,7 @@ use lib.ListN.{length, replicate, length-replicate}
 use Rattle.calculus.specs.Words.{workspaceMost}
 use Rattle.calculus.specs.Refusal.{WrongWorkspace, number}
 use Rattle.calculus.specs.Bringing.{refused}
-use Rattle.tables.specs.Load.{loadStored, load}
+use Rattle.storage.specs.Load.{loadStored, load}
 use Rattle.request.specs.Request.{Request, request}
 use Rattle.words.specs.Placed.{Placed}
 use Rattle.verdict_text.specs.Line.{refuses, printedMost}

@@ -8,7 +8,7 @@ use Rattle.claim.specs.State.{fresh}
 use Rattle.claim.specs.Press.{press}
 use Rattle.claim.specs.Answer as press
 use Rattle.calculus.specs.Bringing.{Answer, refused, returned}
-use Rattle.tables.specs.Load.{load}
+use Rattle.storage.specs.Load.{load}
 use Rattle.request.specs.Request.{Request, request}
 use Rattle.verdict_text.specs.Line.{Line, input, refuses, shows, lineBytes}
 

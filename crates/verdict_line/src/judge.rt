@@ -13,7 +13,7 @@ ghost use mathlib.Core.Path.{_≡_};
 ghost use mathlib.Core.Option.{some};
 ghost use Prim.Native.Nat.{min};
 ghost use Rattle.press.specs.Types.{answerOf};
-ghost use Rattle.tables.specs.Load.{load};
+ghost use Rattle.storage.specs.Load.{load};
 ghost use Rattle.words.specs.Types.{broughtOf};
 ghost use Rattle.request.specs.Request.{request};
 ghost use Rattle.request.specs.Parse.{wordsOfTable, Stands};

@@ -1,6 +1,4 @@
 pub mod Spans
-pub mod PatternLaws
-pub mod PayloadLaws
 pub mod PlacedLaws
 pub mod BringingLaws
 pub mod RoomLaws

@@ -3,7 +3,7 @@ use crate::Word;
 ghost use mathlib.Core.Path.{_≡_};
 ghost use Rattle.calculus.specs.Term.{isDefault};
 ghost use Rattle.calculus.specs.Words.{tagOf, countOf};
-ghost use Rattle.words.specs.Pattern.{isTag, isTagged, isPattern};
+ghost use Rattle.calculus.specs.Pattern.{isTag, isTagged, isPattern};
 
 pub fn is_tag(tag: u32) -> bool
     ensures { λ r. ⌜ r ≡ isTag tag ⌝ }

@@ -3,7 +3,7 @@ use crate::Word;
 use crate::pattern::is_pattern;
 use crate::pattern::is_tagged;
 ghost use mathlib.Core.Path.{_≡_};
-ghost use Rattle.words.specs.Payload.{payloadFits};
+ghost use Rattle.calculus.specs.Payload.{payloadFits};
 
 // Where the kind is a constant, the compiler leaves the test of that kind alone.
 pub fn payload_fits(kind: u32, payload: u32) -> bool

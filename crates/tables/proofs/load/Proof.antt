@@ -6,9 +6,9 @@ use lib.ListN.{length, length-replicate}
 use borrow.Author.Needs.{needs}
 use Rattle.calculus.specs.Workspace.{wrongWorkspace}
 use Rattle.words.specs.Types.{answerOf}
-use Rattle.records.specs.Records.{inForm1}
-use Rattle.records.specs.Links.{roomMost}
-use Rattle.tables.specs.Load.{loadStored}
+use Rattle.storage.specs.Records.{inForm1}
+use Rattle.records.specs.Counting.{roomMost}
+use Rattle.storage.specs.Load.{loadStored}
 use Rattle.tables.proofs.LoadCode.{judged-refuses, judged-fits, judged-loads}
 use Rattle.tables.proofs.load.Statement.{statement}
 use Rattle.tables.proofs.load.Tie as tie

@@ -12,9 +12,9 @@ use Rattle.calculus.specs.Term.{Term}
 use Rattle.calculus.specs.Words.{workspaceMost}
 use Rattle.calculus.specs.Workspace.{wrongWorkspace, termAt}
 use Rattle.terms.proofs.IsTerm.{isTerm-some, isTerm-none}
-use Rattle.tables.specs.Write.{write}
+use Rattle.storage.specs.Write.{write}
 use Rattle.calculus.proofs.WorkspaceLaws.{workspace-short, held}
-use Rattle.tables.proofs.Written.WriteLaws.{written}
+use Rattle.tables.proofs.WriteCode.{written}
 use Rattle.tables.proofs.write.Statement.{statement}
 use Rattle.tables.proofs.write.Tie as tie
 

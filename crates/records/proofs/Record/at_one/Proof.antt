@@ -1,7 +1,7 @@
 -- `Record::at_one` meets its contract: each part of the record is a word of it.
 use mathlib.Core.Path.{refl}
 use borrow.Author.Needs.{needs}
-use Rattle.records.proofs.RecordLaws.{entry-path}
+use Rattle.storage.proofs.RecordLaws.{entry-path}
 use Rattle.records.proofs.Record.at_one.Statement.{statement}
 use Rattle.records.proofs.Record.at_one.Tie as tie
 

@@ -4,11 +4,12 @@ use native.Mathlib.Nat.{pos-of-ne-zero}
 use native.Mathlib.Omega.{arith}
 use lib.ListN.{length}
 use borrow.Author.Tests.{not-true, not-false}
-use Rattle.records.specs.Records.{recordAt}
+use Rattle.storage.specs.Records.{recordAt}
 use Rattle.records.specs.Types.{stored, viewed}
-use Rattle.records.specs.Children.{chainFits, chainFrom, Walkable}
-use Rattle.records.proofs.Hanging.{chain-end}
-use Rattle.records.proofs.RecordLaws.{parts}
+use Rattle.storage.specs.Children.{chainFits, chainFrom}
+use Rattle.records.specs.Preconditions.{Walkable}
+use Rattle.storage.proofs.Hanging.{chain-end}
+use Rattle.storage.proofs.RecordLaws.{parts}
 use Rattle.records.proofs.Walks.{walk-inside, Walked, walked}
 use Rattle.records.proofs.children.chain_fits.Statement.{statement}
 use Rattle.records.proofs.children.chain_fits.Tie as tie

@@ -5,9 +5,10 @@ use native.Mathlib.Nat.{pos-of-ne-zero}
 use native.Mathlib.Omega.{arith}
 use lib.ListN.{length}
 use Rattle.records.specs.Types.{stored, viewed, recordOf}
-use Rattle.records.specs.Children.{chainFrom, Walkable}
-use Rattle.records.proofs.RecordLaws.{sized}
-use Rattle.records.proofs.Hanging.{chain-end}
+use Rattle.storage.specs.Children.{chainFrom}
+use Rattle.records.specs.Preconditions.{Walkable}
+use Rattle.storage.proofs.RecordLaws.{sized}
+use Rattle.storage.proofs.Hanging.{chain-end}
 use Rattle.records.proofs.Walks.{walk-inside, walk-short, Walked, walked}
 use Rattle.records.proofs.children.chain_length.Statement.{statement}
 use Rattle.records.proofs.children.chain_length.Tie as tie

@@ -1,7 +1,7 @@
 -- `may_stand` meets its contract: each return knows the tests before it.
 use borrow.Author.Needs.{needs}
 use borrow.Author.Tests.{eq-eqb, ne-eqb, not-true, not-false}
-use Rattle.records.proofs.RecordLaws.{parts}
+use Rattle.storage.proofs.RecordLaws.{parts}
 use Rattle.records.proofs.Walks.{walk-inside, walked}
 use Rattle.records.proofs.children.may_stand.Statement.{statement}
 use Rattle.records.proofs.children.may_stand.Tie as tie

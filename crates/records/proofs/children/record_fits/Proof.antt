@@ -3,8 +3,9 @@ use mathlib.Core.Path.{ap}
 use borrow.Author.Needs.{needs}
 use borrow.Author.Tests.{not-true, not-false}
 use Rattle.records.specs.Types.{stored}
-use Rattle.records.specs.Children.{childrenFit, Walkable}
-use Rattle.records.proofs.RecordLaws.{parts}
+use Rattle.storage.specs.Children.{childrenFit}
+use Rattle.records.specs.Preconditions.{Walkable}
+use Rattle.storage.proofs.RecordLaws.{parts}
 use Rattle.records.proofs.Walks.{walk-inside, walked}
 use Rattle.records.proofs.children.record_fits.Statement.{statement}
 use Rattle.records.proofs.children.record_fits.Tie as tie

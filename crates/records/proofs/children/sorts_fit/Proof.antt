@@ -3,7 +3,7 @@ use native.Mathlib.Nat.{pos-of-ne-zero}
 use borrow.Author.Needs.{needs}
 use borrow.Author.Tests.{eq-eqb, ne-eqb}
 use Rattle.records.specs.Types.{stored, viewed, recordOf}
-use Rattle.records.proofs.Hanging.{chain-end}
+use Rattle.storage.proofs.Hanging.{chain-end}
 use Rattle.records.proofs.Walks.{walk-inside, Walked, walked}
 use Rattle.records.proofs.children.sorts_fit.Statement.{statement}
 use Rattle.records.proofs.children.sorts_fit.Tie as tie

@@ -2,7 +2,7 @@
 use native.Mathlib.Nat.{pos-of-ne-zero}
 use borrow.Author.Needs.{needs}
 use Rattle.records.specs.Types.{viewed}
-use Rattle.records.proofs.Hanging.{chain-end}
+use Rattle.storage.proofs.Hanging.{chain-end}
 use Rattle.records.proofs.Walks.{walk-inside, walked}
 use Rattle.records.proofs.children.starts_above.Statement.{statement}
 use Rattle.records.proofs.children.starts_above.Tie as tie

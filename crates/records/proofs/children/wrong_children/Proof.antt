@@ -2,10 +2,11 @@
 use mathlib.Core.Path.{ap, _∙_}
 use borrow.Author.Needs.{needs}
 use borrow.Author.Tests.{eq-eqb, ne-eqb, not-true, not-false}
-use Rattle.records.specs.Records.{recordAt}
-use Rattle.records.specs.Children.{wrongChildren}
+use Rattle.storage.specs.Records.{recordAt}
+use Rattle.storage.specs.Children.{wrongChildren}
 use Rattle.records.specs.Types.{stored, viewed, recordOf}
-use Rattle.records.proofs.RecordLaws.{headed, Parts, parts}
+use Rattle.records.proofs.RecordLaws.{headed}
+use Rattle.storage.proofs.RecordLaws.{Parts, parts}
 use Rattle.records.proofs.Walks.{walk-inside}
 use Rattle.records.proofs.children.wrong_children.Statement.{statement}
 use Rattle.records.proofs.children.wrong_children.Tie as tie

@@ -4,11 +4,11 @@ use mathlib.Core.Path.{_≡_, refl, sym, _∙_}
 use mathlib.Core.Bool.{true}
 use native.Mathlib.Omega.{arith}
 use borrow.Author.Tests.{not-true, not-false}
-use Rattle.records.specs.Records.{everyOf}
+use Rattle.storage.specs.Records.{everyOf}
 use Rattle.records.specs.Every.{asked}
 use Rattle.records.specs.Types.{viewed}
 use Rattle.records.proofs.RecordLaws.{headed}
-use Rattle.records.proofs.Sums.{every-more, every-fails, every-end}
+use Rattle.records.proofs.EveryLaws.{every-more, every-fails, every-end}
 use Rattle.records.proofs.every.every.Statement.{statement}
 use Rattle.records.proofs.every.every.Tie as tie
 

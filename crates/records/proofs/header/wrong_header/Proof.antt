@@ -2,7 +2,7 @@
 use mathlib.Core.Path.{sym, _∙_}
 use native.Mathlib.Omega.{arith}
 use borrow.Author.Tests.{le-leb, lt-leb, not-true, not-false}
-use Rattle.records.specs.Header.{wrongHeader}
+use Rattle.storage.specs.Header.{wrongHeader}
 use Rattle.records.proofs.RecordLaws.{ltb-not, inside, headed}
 use Rattle.records.proofs.header.wrong_header.Statement.{statement}
 use Rattle.records.proofs.header.wrong_header.Tie as tie

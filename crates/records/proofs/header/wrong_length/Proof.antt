@@ -5,7 +5,7 @@ use native.Mathlib.Omega.{arith}
 use borrow.Author.Needs.{needs}
 use borrow.Author.Tests.{lt-ltb, le-ltb, le-leb, lt-leb}
 use Rattle.calculus.specs.Words.{workspaceMost}
-use Rattle.records.specs.Header.{wrongLength}
+use Rattle.storage.specs.Header.{wrongLength}
 use Rattle.records.specs.Types.{formOf}
 use Rattle.records.proofs.header.wrong_length.Statement.{statement}
 use Rattle.records.proofs.header.wrong_length.Tie as tie

@@ -7,8 +7,8 @@ use native.Mathlib.Omega.{arith}
 use lib.Dec.{eqb}
 use lib.ListN.{getD}
 use borrow.Author.Tests.{eq-eqb, ne-eqb}
-use Rattle.records.specs.Records.{everyOf}
-use Rattle.records.proofs.Sums.{every-more, every-fails, every-end}
+use Rattle.storage.specs.Records.{everyOf}
+use Rattle.records.proofs.EveryLaws.{every-more, every-fails, every-end}
 use Rattle.records.proofs.links.all_once.Statement.{statement}
 use Rattle.records.proofs.links.all_once.Tie as tie
 

@@ -3,7 +3,7 @@ use Prim.Native.Nat.{_-_, _≤_}
 use mathlib.Core.Path.{_≡_, refl, ap, _∙_}
 use native.Mathlib.Omega.{arith}
 use lib.ListN.{length}
-use Rattle.records.specs.Links.{more, counted}
+use Rattle.records.specs.Counting.{more, counted}
 use Rattle.records.specs.Types.{stored, viewed, recordOf}
 use Rattle.records.proofs.RecordLaws.{headed, inside}
 use Rattle.records.proofs.Namings.{counted-length, Turn, turn}

@@ -2,7 +2,8 @@
 use borrow.Author.Needs.{needs}
 use borrow.Author.Tests.{not-true, not-false}
 use Rattle.records.specs.Types.{stored}
-use Rattle.records.proofs.RecordLaws.{parts, inside-headed}
+use Rattle.storage.proofs.RecordLaws.{parts}
+use Rattle.records.proofs.RecordLaws.{inside-headed}
 use Rattle.records.proofs.links.links_fit.Statement.{statement}
 use Rattle.records.proofs.links.links_fit.Tie as tie
 

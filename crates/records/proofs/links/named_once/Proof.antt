@@ -4,10 +4,11 @@ use lib.Dec.{eqb}
 use lib.ListN.{length, length-set}
 use borrow.Author.Needs.{needs}
 use Rattle.words.proofs.RoomLaws.{room-of-length}
-use Rattle.records.specs.Links.{more, counted, namings, roomMost}
+use Rattle.records.specs.Counting.{more, counted, roomMost}
+use Rattle.storage.specs.Links.{namings}
 use Rattle.records.specs.Types.{stored, viewed}
 use Rattle.records.proofs.RecordLaws.{headed}
-use Rattle.records.proofs.Sums.{every-eq}
+use Rattle.records.proofs.EveryLaws.{every-eq}
 use Rattle.records.proofs.Namings.{Begun, begun, counted-length}
 use Rattle.records.proofs.links.named_once.Statement.{statement}
 use Rattle.records.proofs.links.named_once.Tie as tie

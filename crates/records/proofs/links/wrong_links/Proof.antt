@@ -3,7 +3,7 @@ use mathlib.Core.Path.{refl, sym, _∙_}
 use borrow.Author.Needs.{needs}
 use borrow.Author.Tests.{not-true, not-false}
 use Rattle.words.proofs.RoomLaws.{room-of-length}
-use Rattle.records.specs.Links.{wrongLink}
+use Rattle.storage.specs.Links.{wrongLink}
 use Rattle.records.proofs.links.wrong_links.Statement.{statement}
 use Rattle.records.proofs.links.wrong_links.Tie as tie
 

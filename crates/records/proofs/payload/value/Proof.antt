@@ -2,7 +2,7 @@
 use mathlib.Core.Path.{sym, _∙_}
 use borrow.Author.Needs.{needs}
 use borrow.Author.Tests.{ne-eqb}
-use Rattle.records.specs.Payload.{valueOf}
+use Rattle.storage.specs.Payload.{valueOf}
 use Rattle.records.proofs.payload.value.Statement.{statement}
 use Rattle.records.proofs.payload.value.Tie as tie
 

@@ -1,7 +1,7 @@
 -- `kind_fits` meets its contract: in each arm the kind is known, and `valueFits` computes there.
 use borrow.Author.Needs.{needs}
 use borrow.Author.Tests.{ne-eqb}
-use Rattle.records.specs.Values.{valueFits}
+use Rattle.storage.specs.Values.{valueFits}
 use Rattle.records.proofs.values.kind_fits.Statement.{statement}
 use Rattle.records.proofs.values.kind_fits.Tie as tie
 

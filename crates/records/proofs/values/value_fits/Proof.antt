@@ -2,7 +2,7 @@
 use mathlib.Core.Path.{ap}
 use borrow.Author.Needs.{needs}
 use borrow.Author.Tests.{not-true, not-false}
-use Rattle.records.proofs.RecordLaws.{parts}
+use Rattle.storage.proofs.RecordLaws.{parts}
 use Rattle.records.proofs.values.value_fits.Statement.{statement}
 use Rattle.records.proofs.values.value_fits.Tie as tie
 

@@ -2,7 +2,7 @@
 use mathlib.Core.Path.{ap}
 use mathlib.Core.Bool.{not}
 use borrow.Author.Needs.{needs}
-use Rattle.records.specs.Values.{wrongValue}
+use Rattle.storage.specs.Values.{wrongValue}
 use Rattle.records.proofs.values.wrong_values.Statement.{statement}
 use Rattle.records.proofs.values.wrong_values.Tie as tie
 

@@ -5,7 +5,7 @@ use borrow.Author.Needs.{needs}
 use borrow.Author.Tests.{lt-ltb, le-ltb}
 use Rattle.calculus.specs.Refusal.{WrongLength, WrongHeader, TooLong}
 use Rattle.records.specs.Types.{stored, viewed}
-use Rattle.records.specs.Header.{wrongLength, wrongHeader, tooLong}
+use Rattle.storage.specs.Header.{wrongLength, wrongHeader, tooLong}
 use Rattle.records.proofs.RecordLaws.{headed}
 use Rattle.words.proofs.RoomLaws.{room-of-length}
 use Rattle.tables.proofs.JudgingLaws.{judged-met, judged-later}

@@ -10,9 +10,9 @@ use Rattle.words.proofs.RoomLaws.{room-of-length}
 use Rattle.records.specs.Types.{viewed}
 use Rattle.records.proofs.RecordLaws.{headed}
 use Rattle.transcription.specs.Reading.{termWords}
-use Rattle.tables.specs.FreeNumbers.{wrongFree}
+use Rattle.storage.specs.FreeNumbers.{wrongFree}
 use Rattle.tables.proofs.JudgingLaws.{judged-read, judged-met}
-use Rattle.tables.proofs.Meaning.ReadingMeaning.{root-length, root-short, free-in-words}
+use Rattle.tables.proofs.ReadingMeaning.{root-length, root-short, free-in-words}
 use Rattle.tables.proofs.judging.judge_free_numbers.Statement.{statement}
 use Rattle.tables.proofs.judging.judge_free_numbers.Tie as tie
 

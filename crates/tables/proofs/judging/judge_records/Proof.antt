@@ -5,10 +5,11 @@ use borrow.Author.Needs.{needs}
 use Rattle.calculus.specs.Refusal.{WrongValue, WrongLink, WrongChildren}
 use Rattle.words.proofs.RoomLaws.{room-of-length, room-length}
 use Rattle.records.specs.Types.{stored, viewed}
-use Rattle.records.specs.Values.{wrongValue}
-use Rattle.records.specs.Links.{wrongLink}
-use Rattle.records.specs.Children.{wrongChildren, Walkable}
-use Rattle.records.proofs.RecordLaws.{rooted}
+use Rattle.storage.specs.Values.{wrongValue}
+use Rattle.storage.specs.Links.{wrongLink}
+use Rattle.storage.specs.Children.{wrongChildren}
+use Rattle.records.specs.Preconditions.{Walkable}
+use Rattle.storage.proofs.RecordLaws.{rooted}
 use Rattle.tables.proofs.JudgingLaws.{judged-met, judged-later, room-zeros}
 use Rattle.tables.proofs.judging.judge_records.Statement.{statement}
 use Rattle.tables.proofs.judging.judge_records.Tie as tie

@@ -6,7 +6,7 @@ use native.Mathlib.Omega.{arith}
 use borrow.Author.Needs.{needs}
 use Rattle.calculus.specs.Skip.{following}
 use Rattle.words.specs.Bound.{binding}
-use Rattle.words.proofs.PayloadLaws.{case-most}
+use Rattle.calculus.proofs.PayloadLaws.{case-most}
 use Rattle.terms.specs.Frames.{insideBy, startsTerm}
 use Rattle.terms.proofs.Frames.{starts-none}
 use Rattle.terms.proofs.frame.enter_term.Statement.{statement}

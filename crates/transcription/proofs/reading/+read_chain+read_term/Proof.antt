@@ -8,7 +8,7 @@ use borrow.Fn.Kinds.{In}
 use borrow.Fn.PlainCycle.{Measures, is, falls, and}
 use Rattle.records.specs.Types.{stored, viewed, recordOf}
 use Rattle.transcription.specs.Reading.{ahead, chainWords}
-use Rattle.records.proofs.RecordLaws.{parts}
+use Rattle.storage.proofs.RecordLaws.{parts}
 use Rattle.records.proofs.Walks.{walk-inside}
 use Rattle.transcription.proofs.ReadingLaws.{chainWords-end, ReadOn, read-on, term-read}
 use Rattle.words.proofs.PlacedLaws.{placed-none, placed-cons, placed-append}

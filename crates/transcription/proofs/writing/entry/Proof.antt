@@ -7,7 +7,7 @@ use borrow.Author.Needs.{needs}
 use Rattle.calculus.specs.Skip.{span}
 use Rattle.calculus.proofs.SkipLaws.{span-bounded}
 use Rattle.transcription.specs.Writing.{linkIf}
-use Rattle.records.proofs.RecordLaws.{entry-path}
+use Rattle.storage.proofs.RecordLaws.{entry-path}
 use Rattle.transcription.proofs.writing.entry.Statement.{statement}
 use Rattle.transcription.proofs.writing.entry.Tie as tie
 

@@ -3,7 +3,7 @@ use mathlib.Core.Path.{_∙_, ap}
 use mathlib.Core.List.{[], _∷_}
 use lib.Seq.{sets}
 use borrow.Author.Needs.{needs}
-use Rattle.records.specs.Records.{form1, recordsWords}
+use Rattle.storage.specs.Records.{form1, recordsWords}
 use Rattle.transcription.specs.Writing.{entries}
 use Rattle.transcription.proofs.writing.put_table.Statement.{statement}
 use Rattle.transcription.proofs.writing.put_table.Tie as tie

@@ -2,7 +2,7 @@
 use mathlib.Core.Path.{_≡_, sym, _∙_, ap}
 use lib.ListN.{length}
 use lib.Seq.{length-take-le, take-at}
-use Rattle.tables.specs.Load.{load}
+use Rattle.storage.specs.Load.{load}
 use Rattle.text.specs.Decode.{wordsFrom}
 use Rattle.request.specs.Parse.{wordsOfTable}
 use Rattle.text.proofs.Storing.{front-fits, front-length}

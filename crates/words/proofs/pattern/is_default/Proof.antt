@@ -1,6 +1,6 @@
 -- `is_default` meets its contract.
 use mathlib.Core.Path.{sym}
-use Rattle.words.proofs.PatternLaws.{default-payload}
+use Rattle.calculus.proofs.PatternLaws.{default-payload}
 use Rattle.words.proofs.pattern.is_default.Statement.{statement}
 use Rattle.words.proofs.pattern.is_default.Tie as tie
 

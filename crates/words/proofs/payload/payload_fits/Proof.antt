@@ -1,7 +1,7 @@
 -- `payload_fits` meets its contract: in each arm the kind is known, and `payloadFits` computes there.
 use borrow.Author.Needs.{needs}
 use borrow.Author.Tests.{ne-eqb}
-use Rattle.words.specs.Payload.{payloadFits}
+use Rattle.calculus.specs.Payload.{payloadFits}
 use Rattle.words.proofs.payload.payload_fits.Statement.{statement}
 use Rattle.words.proofs.payload.payload_fits.Tie as tie
 

@@ -1,0 +1,15 @@
+pub mod Tests
+pub mod Sums
+pub mod RecordLaws
+pub mod PayloadLaws
+pub mod Fits
+pub mod LinkRules
+pub mod Hanging
+pub mod ValuesExact
+pub mod LinksExact
+pub mod ChildrenExact
+pub mod Meaning
+pub mod LoadLaws
+pub mod Written
+pub mod RoundTrips
+pub mod Examples

@@ -1,9 +1,0 @@
--- What a table means: that the records that meet no refusal mean one accepted term, and that the readers read it.
-pub mod Nodes
-pub mod MeaningLaws
-pub mod Extent
-pub mod ChainMeaning
-pub mod Exists
-pub mod Accepts
-pub mod SoundMeans
-pub mod ReadingMeaning
