@@ -60,7 +60,11 @@ fn chain_word(place: usize, records: u32, index: u32) -> u32
 {
     let record = place / Form::ONE_WORDS;
     if records as usize <= record {
-        return if place % Form::ONE_WORDS == 1 { index } else { 0 };
+        return if place % Form::ONE_WORDS == 1 {
+            index
+        } else {
+            0
+        };
     }
     match place % Form::ONE_WORDS {
         0 => 1,
