@@ -13,8 +13,8 @@ use scan::Scanned;
 use scan::scan;
 use terms::is_term;
 use words::Word;
-use words::answer::Answer;
 use words::refusal::Refusal;
+use words::result::Result;
 use words::workspace::hold;
 use words::workspace::wrong_workspace;
 ghost use mathlib.Core.Path.{_≡_};
@@ -25,24 +25,24 @@ ghost use Rattle.binary.specs.Types.{exportedOf};
 
 // Puts the term of an encoding, its bytes and how many of their bits are meant, into a workspace, with zeros after it, and returns its length. A refusal
 // changes nothing: the words stand in an array of their own until every check has passed.
-pub fn import(bytes: &[u8], bits: usize, workspace: &mut [u32]) -> Answer
+pub fn import(bytes: &[u8], bits: usize, workspace: &mut [u32]) -> Result
     ensures { λ r. ⌜ broughtOf r (now (workspace .exit)) ≡ import (now (bytes .entry)) bits (now (workspace .entry)) ⌝ }
 {
     if wrong_workspace(workspace.len()) {
-        return Answer::Refused(Refusal::WrongWorkspace);
+        return Result::Refused(Refusal::WrongWorkspace);
     }
     if !is_padded(bytes, bits) {
-        return Answer::Refused(Refusal::WrongBits);
+        return Result::Refused(Refusal::WrongBits);
     }
     let mut words = [0u32; Word::WORKSPACE_MOST];
     match scan(bytes, bits, &mut words) {
-        Scanned::Wrong => Answer::Refused(Refusal::WrongBits),
+        Scanned::Wrong => Result::Refused(Refusal::WrongBits),
         Scanned::Whole(count) => {
             if workspace.len() < count {
-                return Answer::Refused(Refusal::TooLong);
+                return Result::Refused(Refusal::TooLong);
             }
             if !is_combinator(&words[..count]) {
-                return Answer::Refused(Refusal::NoCombinator);
+                return Result::Refused(Refusal::NoCombinator);
             }
             hold(&words, 0, count, workspace)
         }
@@ -51,29 +51,29 @@ pub fn import(bytes: &[u8], bits: usize, workspace: &mut [u32]) -> Answer
 
 // Puts the bits of the term that the first `length` words of a workspace are into the lent bytes, with 0 in every bit after them, and returns how many they
 // are. A refusal changes nothing.
-pub fn export(workspace: &[u32], length: usize, bytes: &mut [u8]) -> Answer
+pub fn export(workspace: &[u32], length: usize, bytes: &mut [u8]) -> Result
     ensures { λ r. ⌜ exportedOf r (now (bytes .exit)) ≡ export (now (workspace .entry)) length (now (bytes .entry)) ⌝ }
 {
     if wrong_workspace(workspace.len()) {
-        return Answer::Refused(Refusal::WrongWorkspace);
+        return Result::Refused(Refusal::WrongWorkspace);
     }
     if workspace.len() < length {
-        return Answer::Refused(Refusal::NoTerm);
+        return Result::Refused(Refusal::NoTerm);
     }
     let term = &workspace[..length];
     // A combinator is a whole term, so the check of a term is needed only to tell 10 from 13.
     if !is_combinator(term) {
         if is_term(workspace, length) {
-            return Answer::Refused(Refusal::NoCombinator);
+            return Result::Refused(Refusal::NoCombinator);
         }
-        return Answer::Refused(Refusal::NoTerm);
+        return Result::Refused(Refusal::NoTerm);
     }
     let bits = bits_of(term);
     // Bits that begin a byte take it whole.
     if bytes.len() < (bits + (BYTE_BITS - 1)) / BYTE_BITS {
-        return Answer::Refused(Refusal::TooLong);
+        return Result::Refused(Refusal::TooLong);
     }
     clear_bytes(bytes);
     put(term, bytes);
-    Answer::Returned(bits)
+    Result::Returned(bits)
 }

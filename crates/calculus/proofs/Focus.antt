@@ -28,10 +28,10 @@ pub record Focus (limit : ℕ) (ws vs : List ℕ) (p : ℕ) : Type 0 where
   pub indices : IndicesWithin limit redex
   pub numerals : InLibrary redex
 
-data Question : Type 0 where
-  of-counts of-indices of-numerals : Question
+data Property : Type 0 where
+  of-counts of-indices of-numerals : Property
 
-abbrev asks : ℕ → Question → Asked (Unit {0})
+abbrev asks : ℕ → Property → Asked (Unit {0})
 asks limit of-counts = counted
 asks limit of-indices = within limit
 asks limit of-numerals = inLibrary

@@ -15,13 +15,13 @@ use Rattle.calculus.specs.Refusal.{Refusal, NoTerm}
 use Rattle.calculus.specs.Workspace.{padded}
 
 -- The answer: a refusal, or what is returned, the length of the term. Writing answers alike, with the number of records, and exporting with that of bits.
-pub data Answer : Type 0 where
-  refused : Refusal → Answer
-  returned : ℕ → Answer
+pub data Result : Type 0 where
+  refused : Refusal → Result
+  returned : ℕ → Result
 
 -- Everything at exit.
 pub record Brought : Type 0 where
-  pub answer : Answer
+  pub answer : Result
   pub workspace : List ℕ
 
 -- Checks are refusals in the order in which a call takes them, each with whether it is met. The first that is met is answered.

@@ -8,14 +8,14 @@ use lib.ListN.{length}
 use Rattle.calculus.specs.Term.{Term}
 use Rattle.calculus.specs.Workspace.{wrongWorkspace, termAt}
 use Rattle.calculus.specs.Refusal.{Refusal, WrongWorkspace, TooLong, NoTerm, NoCombinator}
-use Rattle.calculus.specs.Bringing.{Answer, refused, returned}
+use Rattle.calculus.specs.Bringing.{Result, refused, returned}
 use Rattle.encoding.specs.Bits.{bits}
 use Rattle.encoding.specs.Bytes.{byteBits, packed}
 use Rattle.encoding.specs.Encoded.{isCombinator}
 
 -- Everything at exit; the workspace is only read.
 pub record Exported : Type 0 where
-  pub answer : Answer
+  pub answer : Result
   pub bytes : List ℕ
 
 -- A refusal changes nothing.

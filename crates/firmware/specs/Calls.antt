@@ -18,7 +18,7 @@ use Rattle.encoding.specs.Export.{Exported}
 use Rattle.firmware.specs.Numbers.{unrefused, sessionWords, sessionIn, answerWords, sideNumber}
 
 -- Of an answer that is a count: what is returned, and the lent count, which held `count`.
-abbrev pub countSeen : (count : ℕ) → bring.Answer → ℕ × ℕ
+abbrev pub countSeen : (count : ℕ) → bring.Result → ℕ × ℕ
 countSeen count (bring.refused why) = (number why, count)
 countSeen count (bring.returned n) = (unrefused, n)
 
@@ -58,11 +58,11 @@ partSeen p = (sideNumber (p .side), p .count)
 pub record Seen-fields : Type 0 where
   pub count-returned : (count n : ℕ) → countSeen count (bring.returned n) ≡ (0, n)
   pub count-refused : (count : ℕ) (why : Refusal) → countSeen count (bring.refused why) ≡ (number why, count)
-  pub brought : (count : ℕ) (a : bring.Answer) (workspace : List ℕ)
+  pub brought : (count : ℕ) (a : bring.Result) (workspace : List ℕ)
       → broughtSeen count (record { answer = a; workspace = workspace }) ≡ (countSeen count a, workspace)
-  pub written : (count : ℕ) (a : bring.Answer) (table : List ℕ)
+  pub written : (count : ℕ) (a : bring.Result) (table : List ℕ)
       → writtenSeen count (record { answer = a; table = table }) ≡ (countSeen count a, table)
-  pub exported : (count : ℕ) (a : bring.Answer) (bytes : List ℕ)
+  pub exported : (count : ℕ) (a : bring.Result) (bytes : List ℕ)
       → exportedSeen count (record { answer = a; bytes = bytes }) ≡ (countSeen count a, bytes)
   pub press-shown : (session answer : List ℕ) (a : Shown) (l r : List ℕ) (s : Session) (scratch : List ℕ)
       → pressedSeen session answer (record { answer = claim.shown a; memory = record { left = l; right = r; session = s }; scratch = scratch })

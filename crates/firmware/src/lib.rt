@@ -6,11 +6,12 @@ use press::shows_right;
 use press::state::Session;
 use rounds::Shown;
 use session::press_owned;
+use words::result::Result;
 ghost use mathlib.Core.Path.{_≡_};
 ghost use Prim.Native.Nat.{_≤_};
 ghost use Rattle.calculus.specs.Words.{workspaceMost};
 ghost use Rattle.claim.specs.State.{fresh};
-ghost use Rattle.words.specs.Types.{answerOf};
+ghost use Rattle.words.specs.Types.{resultOf};
 ghost use Rattle.rounds.specs.Types.{shownOf};
 ghost use Rattle.press.specs.Types.{sessionOf, callOf};
 ghost use Rattle.claim.specs.Showing.{show};
@@ -35,12 +36,12 @@ const SESSION_SIZE: usize = 4;
 const ANSWER_SIZE: usize = 5;
 
 // Stores what a call returned; a refusal leaves the count.
-fn store(answer: words::answer::Answer, count: &mut usize) -> u32
-    ensures { λ r. ⌜ (r, now (count .exit)) ≡ countSeen (now (count .entry)) (answerOf answer) ⌝ }
+fn store(answer: Result, count: &mut usize) -> u32
+    ensures { λ r. ⌜ (r, now (count .exit)) ≡ countSeen (now (count .entry)) (resultOf answer) ⌝ }
 {
     match answer {
-        words::answer::Answer::Refused(refusal) => refusal.number(),
-        words::answer::Answer::Returned(returned) => {
+        Result::Refused(refusal) => refusal.number(),
+        Result::Returned(returned) => {
             *count = returned;
             UNREFUSED
         }

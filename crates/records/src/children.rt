@@ -2,7 +2,7 @@
 use crate::Declared;
 use crate::Form;
 use crate::Record;
-use crate::every::Question;
+use crate::every::Aspect;
 use crate::every::every;
 use crate::root;
 use crate::values::number_fits;
@@ -118,7 +118,7 @@ pub fn wrong_children(table: &[u32], form: Form) -> bool
     requires { ⌜ Walkable (stored form (now table)) (viewed form (now table) .root) × (1 ≤ viewed form (now table) .root) ⌝ }
     ensures { λ r. ⌜ r ≡ wrongChildren (viewed form (now (table .entry))) ⌝ }
 {
-    if !every(table, form, Question::Children) {
+    if !every(table, form, Aspect::Children) {
         return true;
     }
     let top = Record::at(table, form, root(table));

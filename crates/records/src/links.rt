@@ -2,7 +2,7 @@
 use crate::Form;
 use crate::Record;
 use crate::count;
-use crate::every::Question;
+use crate::every::Aspect;
 use crate::every::every;
 use crate::root;
 use words::Word;
@@ -103,7 +103,7 @@ pub fn wrong_links(table: &[u32], form: Form, room: &mut [u32]) -> bool
     requires { ⌜ now room ≡ replicate roomMost 0 ⌝ }
     ensures { λ r. ⌜ (r ≡ wrongLink (viewed form (now (table .entry)))) × Room (now (room .entry)) (now (room .exit)) ⌝ }
 {
-    if !every(table, form, Question::Links) {
+    if !every(table, form, Aspect::Links) {
         return true;
     }
     !named_once(table, form, room)

@@ -2,7 +2,7 @@
 use crate::Declared;
 use crate::Form;
 use crate::Record;
-use crate::every::Question;
+use crate::every::Aspect;
 use crate::every::every;
 use words::Word;
 use words::pattern::is_tag;
@@ -78,5 +78,5 @@ pub fn wrong_values(table: &[u32], form: Form) -> bool
     requires { ⌜ wrongLength (stored form (now table)) ≡ false ⌝ }
     ensures { λ r. ⌜ r ≡ wrongValue (viewed form (now (table .entry))) ⌝ }
 {
-    !every(table, form, Question::Value)
+    !every(table, form, Aspect::Value)
 }

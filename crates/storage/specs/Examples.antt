@@ -7,7 +7,7 @@ use mathlib.Core.Option.{none}
 use lib.ListN.{replicate}
 use Rattle.calculus.specs.Words.{constructorKind, caseKind}
 use Rattle.calculus.specs.Refusal.{number}
-use Rattle.calculus.specs.Bringing.{Answer, refused, returned, Brought}
+use Rattle.calculus.specs.Bringing.{Result, refused, returned, Brought}
 use Rattle.storage.specs.Records.{Stored, view, inForm1}
 use Rattle.storage.specs.Values.{numberFits}
 use Rattle.storage.specs.Meaning.{meaning}
@@ -34,7 +34,7 @@ abbrev pub holding : (len zeros : ℕ) → List ℕ → Brought
 holding len zeros ws = record { answer = returned len; workspace = ws ++ replicate zeros 0 }
 
 -- A refusal by its number, which leaves what was lent as it was.
-abbrev pub Refuses : ℕ → (answer : Answer) (before after : List ℕ) → Type 0
+abbrev pub Refuses : ℕ → (answer : Result) (before after : List ℕ) → Type 0
 Refuses k (refused why) before after = (number why ≡ k) × (after ≡ before)
 Refuses k (returned l) before after = ⊥
 

@@ -10,7 +10,7 @@ use Rattle.calculus.specs.Term.{Sort, Exp, var, lam, app, con, case, num, nil, 
 use Rattle.calculus.specs.Words.{variableKind, abstractionKind, applicationKind, constructorKind, caseKind, branchKind, numeralKind, pack, size}
 use Rattle.calculus.specs.Workspace.{wrongWorkspace, termAt}
 use Rattle.calculus.specs.Refusal.{Refusal, WrongLength, WrongWorkspace, NoTerm}
-use Rattle.calculus.specs.Bringing.{Answer, refused, returned}
+use Rattle.calculus.specs.Bringing.{Result, refused, returned}
 use Rattle.storage.specs.Records.{Record, entry, form1, recordsWords}
 
 -- A link to i, where a list of arguments or branches stands; 0 where it is empty.
@@ -41,7 +41,7 @@ tableOf t = form1 .headerWords (size t) 1 ++ recordsWords (records 1 0 t)
 
 -- Everything at exit; the workspace is only read.
 pub record Written : Type 0 where
-  pub answer : Answer
+  pub answer : Result
   pub table : List ℕ
 
 -- A refusal changes nothing.

@@ -8,7 +8,7 @@ use native.Mathlib.Omega.{arith}
 use lib.ListN.{length, replicate, length-replicate}
 use lib.Seq.{slice}
 use Rattle.calculus.specs.Refusal.{Refusal}
-use Rattle.calculus.specs.Bringing.{Answer, refused, returned, firstMet}
+use Rattle.calculus.specs.Bringing.{Result, refused, returned, firstMet}
 use Rattle.words.specs.Placed.{Placed}
 use Rattle.words.specs.Room.{Room}
 use Rattle.words.proofs.PlacedLaws.{placed-length, placed-start}
@@ -53,7 +53,7 @@ module _ {T : Table} {checks : List (Refusal × Bool)} {before after : List ℕ}
         room = room-of-length (placed-length p);
       }
 
-  pub judged-later : {later : List (Refusal × Bool)} {between : List ℕ} {answer : Answer} → firstMet checks ≡ firstMet later → Room before between
+  pub judged-later : {later : List (Refusal × Bool)} {between : List ℕ} {answer : Result} → firstMet checks ≡ firstMet later → Room before between
       → Judged T later between answer after → Judged T checks before answer after
   judged-later e left j =
       record {

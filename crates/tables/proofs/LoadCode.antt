@@ -11,7 +11,7 @@ use borrow.Author.Tests.{ltb-false}
 use Rattle.calculus.specs.Words.{words, workspaceMost}
 use Rattle.calculus.specs.Refusal.{Refusal}
 use Rattle.calculus.specs.Workspace.{wrongWorkspace}
-use Rattle.calculus.specs.Bringing.{Answer, refused, returned, firstMet, NoneMet, refuse, hold, bringUnless}
+use Rattle.calculus.specs.Bringing.{Result, refused, returned, firstMet, NoneMet, refuse, hold, bringUnless}
 use Rattle.calculus.proofs.BringingLaws.{none-first}
 use Rattle.words.specs.Placed.{Copies}
 use Rattle.words.proofs.RoomLaws.{room-length}
@@ -28,7 +28,7 @@ use Rattle.tables.proofs.JudgingLaws.{unless-refused, unless-returned}
 use Rattle.storage.proofs.LoadLaws.{Passes, passes, unmet-means, load-returned}
 use Rattle.tables.proofs.ReadingMeaning.{means-spelled}
 
-module _ (S : Stored) (workspace : List ℕ) (w : wrongWorkspace (length workspace) ≡ false) {before after : List ℕ} {answer : Answer}
+module _ (S : Stored) (workspace : List ℕ) (w : wrongWorkspace (length workspace) ≡ false) {before after : List ℕ} {answer : Result}
     (j : Judged (view S) (tableChecks S (length workspace)) before answer after) where
   first : firstMet (checks S (length workspace)) ≡ firstMet (tableChecks S (length workspace))
   first = rw w

@@ -6,8 +6,8 @@ use records::Form;
 use records::links::ROOM;
 use terms::is_term;
 use transcription::writing::put_table;
-use words::answer::Answer;
 use words::refusal::Refusal;
+use words::result::Result;
 use words::workspace::hold;
 use words::workspace::wrong_workspace;
 ghost use mathlib.Core.Path.{_≡_};
@@ -18,33 +18,33 @@ ghost use Rattle.tables.specs.Types.{writtenOf};
 
 // Puts the term that a table means into a workspace, with zeros after it. A refusal changes nothing: the words stand in an array of their own until every
 // check has passed.
-pub fn load(table: &[u32], workspace: &mut [u32]) -> Answer
+pub fn load(table: &[u32], workspace: &mut [u32]) -> Result
     ensures { λ r. ⌜ broughtOf r (now (workspace .exit)) ≡ load (now (table .entry)) (now (workspace .entry)) ⌝ }
 {
     if wrong_workspace(workspace.len()) {
-        return Answer::Refused(Refusal::WrongWorkspace);
+        return Result::Refused(Refusal::WrongWorkspace);
     }
     let mut words = [0u32; ROOM];
     match judge(table, Form::One, workspace.len(), &mut words) {
-        Answer::Refused(refusal) => Answer::Refused(refusal),
-        Answer::Returned(end) => hold(&words, 0, end, workspace),
+        Result::Refused(refusal) => Result::Refused(refusal),
+        Result::Returned(end) => hold(&words, 0, end, workspace),
     }
 }
 
 // Writes the term that the first `length` words of a workspace are as a table, with its records in prefix order, and returns their number. A
 // refusal changes nothing.
-pub fn write(workspace: &[u32], length: usize, table: &mut [u32]) -> Answer
+pub fn write(workspace: &[u32], length: usize, table: &mut [u32]) -> Result
     ensures { λ r. ⌜ writtenOf r (now (table .exit)) ≡ write (now (workspace .entry)) length (now (table .entry)) ⌝ }
 {
     if wrong_workspace(workspace.len()) {
-        return Answer::Refused(Refusal::WrongWorkspace);
+        return Result::Refused(Refusal::WrongWorkspace);
     }
     if !is_term(workspace, length) {
-        return Answer::Refused(Refusal::NoTerm);
+        return Result::Refused(Refusal::NoTerm);
     }
     if table.len() != Form::ONE_WORDS * (length + 1) {
-        return Answer::Refused(Refusal::WrongLength);
+        return Result::Refused(Refusal::WrongLength);
     }
     put_table(&workspace[..length], table);
-    Answer::Returned(length)
+    Result::Returned(length)
 }

@@ -26,6 +26,6 @@ isRefused (press.refused why) k = eqb (number why) k
 isRefused (press.shown a) k = false
 
 -- A call that brings a term in or writes one returned this number.
-abbrev pub isReturned : bring.Answer → ℕ → Bool
+abbrev pub isReturned : bring.Result → ℕ → Bool
 isReturned (bring.refused n) k = false
 isReturned (bring.returned n) k = eqb n k

@@ -5,7 +5,7 @@ use mathlib.Core.List.{List, [], _∷_}
 use lib.Dec.{eqb, leb}
 use lib.ListN.{length, take, replicate}
 use Rattle.calculus.specs.Refusal.{number}
-use Rattle.calculus.specs.Bringing.{Answer, refused, returned, Brought}
+use Rattle.calculus.specs.Bringing.{Result, refused, returned, Brought}
 use Rattle.storage.specs.Records.{form1}
 use Rattle.storage.specs.Load.{load}
 use Rattle.storage.specs.Write.{Written, write}
@@ -27,7 +27,7 @@ abbrev pub verifiedOf : Bool → (words : List ℕ) → Verified
 verifiedOf holds ws = record { holds = holds; words = ws }
 
 -- The refusal that the line names last, and what was lent is still junk.
-abbrev pub refusedLast : List ℕ → (at : ℕ) → Answer → (lent : List ℕ) → Bool
+abbrev pub refusedLast : List ℕ → (at : ℕ) → Result → (lent : List ℕ) → Bool
 refusedLast line at (refused why) ws = (eqb (number why) (numberAt line at .value) && eqb (numberAt line at .next) (length line)) && areWords ws ws 0 junk
 refusedLast line at (returned n) ws = false
 

@@ -26,7 +26,7 @@ use vector_text::lent::holds;
 use vector_text::lent::lent;
 use vector_text::read_list;
 use vector_text::read_number;
-use words::answer::Answer;
+use words::result::Result;
 ghost use mathlib.Core.Path.{_≡_};
 ghost use Prim.Native.Nat.{_≤_};
 ghost use lib.ListN.{length};
@@ -36,7 +36,7 @@ ghost use Rattle.vectors.specs.Stored.{verifiedOf};
 ghost use Rattle.vectors.specs.Encoded.{exportedInto, exportsBack, importing, importHolds, exportedAs, exportsWords, exportHolds};
 
 // Exports into as many bytes of junk as there are words, which then are those bytes.
-fn export_widened(workspace: &[u32], len: usize, encoded: &mut [u32]) -> Answer
+fn export_widened(workspace: &[u32], len: usize, encoded: &mut [u32]) -> Result
     requires { ⌜ length (now encoded) ≤ listMost ⌝ }
     ensures { λ r. ⌜ exportedOf r (now (encoded .exit)) ≡ exportedInto (now (workspace .entry)) len (length (now (encoded .entry))) ⌝ }
 {
@@ -97,7 +97,7 @@ pub fn import_holds(line: &[u8], at: usize) -> bool
 }
 
 // Whether what exporting answered and wrote is what the line says, to its end.
-fn exports(line: &[u8], at: usize, answer: Answer, encoded: &[u32]) -> bool
+fn exports(line: &[u8], at: usize, answer: Result, encoded: &[u32]) -> bool
     ensures { λ r. ⌜ r ≡ exportedAs (now (line .entry)) at (exportedOf answer (now (encoded .entry))) ⌝ }
 {
     let from = after(line, at, b"Refused");

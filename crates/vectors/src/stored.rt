@@ -24,29 +24,29 @@ use vector_text::lent::holds;
 use vector_text::lent::lent;
 use vector_text::read_list;
 use vector_text::read_number;
-use words::answer::Answer;
+use words::result::Result;
 ghost use mathlib.Core.Path.{_≡_};
 ghost use Prim.Native.Nat.{_≤_};
 ghost use lib.ListN.{length};
-ghost use Rattle.words.specs.Types.{answerOf, broughtOf};
+ghost use Rattle.words.specs.Types.{resultOf, broughtOf};
 ghost use Rattle.vectors.specs.Answers.{isReturned};
 ghost use Rattle.vector_text.specs.Lists.{listMost, listedOf};
 ghost use Rattle.vectors.specs.Stored.{verifiedOf, refusedLast, chainWord, chain, tableAt, isLast, isTable, writesInto, writesBack, broughtAs, loading, loadHolds, writesWords, writeHolds};
 
-pub fn returns_count(answer: Answer, count: usize) -> bool
-    ensures { λ r. ⌜ r ≡ isReturned (answerOf answer) count ⌝ }
+pub fn returns_count(answer: Result, count: usize) -> bool
+    ensures { λ r. ⌜ r ≡ isReturned (resultOf answer) count ⌝ }
 {
-    let Answer::Returned(n) = answer else {
+    let Result::Returned(n) = answer else {
         return false;
     };
     n == count
 }
 
 // Whether the answer is the refusal that the line names last, and what was lent is still junk.
-pub fn refuses(line: &[u8], at: usize, answer: Answer, lent: &[u32]) -> bool
-    ensures { λ r. ⌜ r ≡ refusedLast (now (line .entry)) at (answerOf answer) (now (lent .entry)) ⌝ }
+pub fn refuses(line: &[u8], at: usize, answer: Result, lent: &[u32]) -> bool
+    ensures { λ r. ⌜ r ≡ refusedLast (now (line .entry)) at (resultOf answer) (now (lent .entry)) ⌝ }
 {
-    let Answer::Refused(refusal) = answer else {
+    let Result::Refused(refusal) = answer else {
         return false;
     };
     let number = read_number(line, at);
@@ -152,7 +152,7 @@ fn writes(line: &[u8], at: usize, loaded: &[u32], workspace: &[u32], length: usi
 
 // What a call brought into a workspace of junk, beside what the line says: the refusal that it names last, which changes nothing and has no words, or the
 // words that it gives, with zeros after them.
-pub fn brings(line: &[u8], at: usize, answer: Answer, workspace: &[u32]) -> Compared
+pub fn brings(line: &[u8], at: usize, answer: Result, workspace: &[u32]) -> Compared
     ensures { λ r. ⌜ r ≡ broughtAs (now (line .entry)) at (broughtOf answer (now (workspace .entry))) ⌝ }
 {
     let from = after(line, at, b"Refused");

@@ -14,8 +14,8 @@ use Rattle.press.specs.Types.{answerOf, sessionOf, memoryOf, callOf, pressedOf}
 use Rattle.calculus.specs.Refusal.{number}
 use Rattle.words.specs.declared.refusal.Refusal.{Refusal}
 use Rattle.words.specs.Types.{refusalOf}
-use Rattle.words.specs.declared.answer.Answer.{Answer}
-use Rattle.words.specs.declared.answer.Answer.the-variants as answer
+use Rattle.words.specs.declared.result.Result.{Result}
+use Rattle.words.specs.declared.result.Result.the-variants as result
 use Rattle.storage.specs.Load.{load}
 use Rattle.words.specs.Types.{broughtOf}
 use Rattle.request.specs.Request.{Request}
@@ -48,23 +48,23 @@ module _ (n : ℕ) (h : n ≤ lentMost) where
     asked = record { budget = budget; C = n; left = left; right = right }
 
     -- Loading into the first n words is loading into n zeros.
-    loads : (table ws : List ℕ) {a b : Answer} → a ≡ b → broughtOf a ws ≡ load table (take n array) → broughtOf b ws ≡ load table (replicate n 0)
+    loads : (table ws : List ℕ) {a b : Result} → a ≡ b → broughtOf a ws ≡ load table (take n array) → broughtOf b ws ≡ load table (replicate n 0)
     loads table ws e q = ap (λ x. broughtOf x ws) (sym e) ∙ q ∙ ap (load table) (take-replicate 0 n lentMost h)
 
-    module _ (ws : List ℕ) {a : Answer} (loaded : broughtOf a ws ≡ load left (take n array)) where
-      pub refused-left : {why : Refusal} → a ≡ answer.Refused why → refuses (number (refusalOf why)) ≡ judged (some asked)
+    module _ (ws : List ℕ) {a : Result} (loaded : broughtOf a ws ≡ load left (take n array)) where
+      pub refused-left : {why : Refusal} → a ≡ result.Refused why → refuses (number (refusalOf why)) ≡ judged (some asked)
       refused-left e = ap (λ q. loadedLeft asked (q .workspace) (q .answer)) (loads left ws e loaded)
 
-      after-left : {l : ℕ} → a ≡ answer.Returned l
+      after-left : {l : ℕ} → a ≡ result.Returned l
           → loadedRight n budget ws l (load right (replicate n 0) .workspace) (load right (replicate n 0) .answer) ≡ judged (some asked)
       after-left e = ap (λ q. loadedLeft asked (q .workspace) (q .answer)) (loads left ws e loaded)
 
-      module _ {l : ℕ} (l-is : a ≡ answer.Returned l) (vs : List ℕ) {b : Answer} (loaded-right : broughtOf b vs ≡ load right (take n array)) where
-        pub refused-right : {why : Refusal} → b ≡ answer.Refused why → refuses (number (refusalOf why)) ≡ judged (some asked)
+      module _ {l : ℕ} (l-is : a ≡ result.Returned l) (vs : List ℕ) {b : Result} (loaded-right : broughtOf b vs ≡ load right (take n array)) where
+        pub refused-right : {why : Refusal} → b ≡ result.Refused why → refuses (number (refusalOf why)) ≡ judged (some asked)
         refused-right e = ap (λ q. loadedRight n budget ws l (q .workspace) (q .answer)) (loads right vs e loaded-right) ∙ after-left l-is
 
         -- The press on both arrays' first words.
-        pub pressed-line : {r : ℕ} → b ≡ answer.Returned r → length ws ≡ length (take n array) → length vs ≡ length (take n array)
+        pub pressed-line : {r : ℕ} → b ≡ result.Returned r → length ws ≡ length (take n array) → length vs ≡ length (take n array)
             → (s : Session) → sessionOf s ≡ fresh → (p : Pressed) (ws′ vs′ scratch : List ℕ)
             → pressedOf p ws′ vs′ scratch
             ≡ press (memoryOf (take n (ws ++ drop n array)) (take n (vs ++ drop n array)) s) (callOf (take n array) l r budget)

@@ -7,7 +7,7 @@ use Rattle.calculus.specs.Refusal.{number}
 use Rattle.claim.specs.State.{fresh}
 use Rattle.claim.specs.Press.{press}
 use Rattle.claim.specs.Answer as press
-use Rattle.calculus.specs.Bringing.{Answer, refused, returned}
+use Rattle.calculus.specs.Bringing.{Result, refused, returned}
 use Rattle.storage.specs.Load.{load}
 use Rattle.request.specs.Request.{Request, request}
 use Rattle.verdict_text.specs.Line.{Line, input, refuses, shows, lineBytes}
@@ -25,11 +25,11 @@ pressed C budget left right l r =
     (record { scratch = replicate C 0; leftLength = l; rightLength = r; budget = budget })
     .answer)
 
-abbrev pub loadedRight : (C budget : ℕ) → (left : List ℕ) → (l : ℕ) → (right : List ℕ) → Answer → Line
+abbrev pub loadedRight : (C budget : ℕ) → (left : List ℕ) → (l : ℕ) → (right : List ℕ) → Result → Line
 loadedRight C budget left l right (refused why) = refuses (number why)
 loadedRight C budget left l right (returned r) = pressed C budget left right l r
 
-abbrev pub loadedLeft : Request → (left : List ℕ) → Answer → Line
+abbrev pub loadedLeft : Request → (left : List ℕ) → Result → Line
 loadedLeft q left (refused why) = refuses (number why)
 loadedLeft q left (returned l) =
     let loaded = load (q .right) (replicate (q .C) 0) in loadedRight (q .C) (q .budget) left l (loaded .workspace) (loaded .answer)

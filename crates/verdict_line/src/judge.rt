@@ -9,6 +9,7 @@ use session::press_owned;
 use text::bytes::words_from;
 use verdict_text::Line;
 use words::Word;
+use words::result::Result;
 ghost use mathlib.Core.Path.{_≡_};
 ghost use mathlib.Core.Option.{some};
 ghost use Prim.Native.Nat.{min};
@@ -36,7 +37,7 @@ pub fn lent(c: u32) -> usize
 }
 
 // Loads the table that stands in the bytes.
-pub fn load_from(bytes: &[u8], table: Table, workspace: &mut [u32]) -> words::answer::Answer
+pub fn load_from(bytes: &[u8], table: Table, workspace: &mut [u32]) -> Result
     requires { ⌜ Stands (now bytes) table ⌝ }
     ensures { λ r. ⌜ broughtOf r (now (workspace .exit)) ≡ load (wordsOfTable (now (bytes .entry)) table) (now (workspace .entry)) ⌝ }
 {
@@ -66,10 +67,10 @@ fn judge_with(bytes: &[u8], left: Table, right: Table, budget: u32, c: u32) -> L
     let mut right_words = [0u32; LENT_MOST];
     let mut scratch = [0u32; LENT_MOST];
     match load_from(bytes, left, &mut left_words[..n]) {
-        words::answer::Answer::Refused(refusal) => Line::Refuses(refusal.number()),
-        words::answer::Answer::Returned(l) => match load_from(bytes, right, &mut right_words[..n]) {
-            words::answer::Answer::Refused(refusal) => Line::Refuses(refusal.number()),
-            words::answer::Answer::Returned(r) => {
+        Result::Refused(refusal) => Line::Refuses(refusal.number()),
+        Result::Returned(l) => match load_from(bytes, right, &mut right_words[..n]) {
+            Result::Refused(refusal) => Line::Refuses(refusal.number()),
+            Result::Returned(r) => {
                 let pressed = press_owned(
                     &mut left_words[..n],
                     &mut right_words[..n],

@@ -13,11 +13,11 @@ ghost use Rattle.calculus.specs.Skip.{arity, span};
 ghost use Rattle.words.specs.Limits.{payloadBound};
 ghost use Rattle.words.specs.Types.{kindNumber};
 
-pub mod answer;
 pub mod kind;
 pub mod pattern;
 pub mod payload;
 pub mod refusal;
+pub mod result;
 pub mod slices;
 pub mod workspace;
 

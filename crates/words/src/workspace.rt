@@ -1,7 +1,7 @@
 // The lengths of workspaces, and words put into one.
 use crate::Word;
-use crate::answer::Answer;
 use crate::clear;
+use crate::result::Result;
 use crate::slices::copy;
 ghost use mathlib.Core.Path.{_≡_};
 ghost use mathlib.Core.List.{[], _∷_};
@@ -35,11 +35,11 @@ pub fn wrong_workspace(length: usize) -> bool
 }
 
 // Puts the words of a slice from a position to an end at the start of a workspace, with zeros after them, and returns how many they are.
-pub fn hold(src: &[u32], from: usize, to: usize, workspace: &mut [u32]) -> Answer
+pub fn hold(src: &[u32], from: usize, to: usize, workspace: &mut [u32]) -> Result
     requires { ⌜ Copies (now src) from to (now workspace) 0 ⌝ }
     ensures { λ r. ⌜ broughtOf r (now (workspace .exit)) ≡ hold (now (workspace .entry)) (slice from to (now (src .entry))) ⌝ }
 {
     let end = copy(src, from, to, workspace, 0);
     clear(workspace, end);
-    Answer::Returned(end)
+    Result::Returned(end)
 }

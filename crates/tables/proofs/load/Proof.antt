@@ -5,7 +5,7 @@ use mathlib.Core.Bool.{false}
 use lib.ListN.{length, length-replicate}
 use borrow.Author.Needs.{needs}
 use Rattle.calculus.specs.Workspace.{wrongWorkspace}
-use Rattle.words.specs.Types.{answerOf}
+use Rattle.words.specs.Types.{resultOf}
 use Rattle.storage.specs.Records.{inForm1}
 use Rattle.records.specs.Counting.{roomMost}
 use Rattle.storage.specs.Load.{loadStored}
@@ -26,18 +26,18 @@ judge-requires c κs = refl
 hold-requires : tie.Need-hold-requires
 hold-requires c κs =
     let start = c .before .before .before .before .before .before .before .before .before .before .before .args in
-    judged-fits (inForm1 (start .table .now)) (start .workspace .now) (workspace-passed (c .before .before .before .before .before .before .before)) (c .before .before .before .before .before .judge .ensures) _ (ap answerOf (c .before .before .before .end .given .1)) (length-replicate {A = ℕ} roomMost 0)
+    judged-fits (inForm1 (start .table .now)) (start .workspace .now) (workspace-passed (c .before .before .before .before .before .before .before)) (c .before .before .before .before .before .judge .ensures) _ (ap resultOf (c .before .before .before .end .given .1)) (length-replicate {A = ℕ} roomMost 0)
 
 returns-2 : tie.Need-returns-2
 returns-2 c =
     let start = c .before .before .before .before .before .before .before .before .before .args in
-    judged-refuses (inForm1 (start .table .now)) (start .workspace .now) (workspace-passed (c .before .before .before .before .before)) (c .before .before .before .judge .ensures) _ (ap answerOf (c .before .refusal .given .1))
+    judged-refuses (inForm1 (start .table .now)) (start .workspace .now) (workspace-passed (c .before .before .before .before .before)) (c .before .before .before .judge .ensures) _ (ap resultOf (c .before .refusal .given .1))
 
 returns-3 : tie.Need-returns-3
 returns-3 c =
     let start = c .before .before .before .before .before .before .before .before .before .before .before .before .before .before .args in
     c .before .before .hold .ensures
-    ∙ judged-loads (inForm1 (start .table .now)) (start .workspace .now) (workspace-passed (c .before .before .before .before .before .before .before .before .before .before)) (c .before .before .before .before .before .before .before .before .judge .ensures) _ (ap answerOf (c .before .before .before .before .before .before .end .given .1)) (length-replicate {A = ℕ} roomMost 0)
+    ∙ judged-loads (inForm1 (start .table .now)) (start .workspace .now) (workspace-passed (c .before .before .before .before .before .before .before .before .before .before)) (c .before .before .before .before .before .before .before .before .judge .ensures) _ (ap resultOf (c .before .before .before .before .before .before .end .given .1)) (length-replicate {A = ℕ} roomMost 0)
 
 pub load-spec : {M : Type 1} → statement M
 load-spec =

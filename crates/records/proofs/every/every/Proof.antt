@@ -13,10 +13,10 @@ use Rattle.records.proofs.every.every.Statement.{statement}
 use Rattle.records.proofs.every.every.Tie as tie
 
 abbrev Inv-loop : tie.InvT-loop
-Inv-loop table form question n i₀ i = (i ≤ n) × (everyOf i (asked question (viewed form table)) ≡ true)
+Inv-loop table form aspect n i₀ i = (i ≤ n) × (everyOf i (asked aspect (viewed form table)) ≡ true)
 
 abbrev μ-loop : tie.MeasureT-loop
-μ-loop table form question n i₀ i = n - i
+μ-loop table form aspect n i₀ i = n - i
 
 count-requires : tie.Need-count-requires Inv-loop μ-loop
 count-requires c κs = headed _ (c .before .pre .length-fits)
@@ -34,7 +34,7 @@ returns c =
     let T = viewed (start .form) (start .table .now) in
     let n = l .before .count .ensures in
     let answer = c .before .holds in
-    sym (every-fails (T .n) (asked (start .question) T) (l .loop .i + 1) (omega arith) (omega arith) (sym (answer .ensures) ∙ not-true (answer .result) (c .if1 .taken)))
+    sym (every-fails (T .n) (asked (start .aspect) T) (l .loop .i + 1) (omega arith) (omega arith) (sym (answer .ensures) ∙ not-true (answer .result) (c .if1 .taken)))
 
 loop-again : tie.Need-loop-again Inv-loop μ-loop
 loop-again c =
@@ -42,7 +42,7 @@ loop-again c =
     let start = l .before .before .before .args in
     let T = viewed (start .form) (start .table .now) in
     let answer = c .before .holds in
-    (omega arith, every-more (asked (start .question) T) (l .loop .i) (l .loop .inv .1) (sym (answer .ensures) ∙ not-false (answer .result) (c .if1 .left)))
+    (omega arith, every-more (asked (start .aspect) T) (l .loop .i) (l .loop .inv .1) (sym (answer .ensures) ∙ not-false (answer .result) (c .if1 .left)))
 
 returns-2 : tie.Need-returns-2 Inv-loop μ-loop
 returns-2 c =
@@ -50,7 +50,7 @@ returns-2 c =
     let start = l .before .before .before .args in
     let T = viewed (start .form) (start .table .now) in
     let n = l .before .count .ensures in
-    sym (every-end (T .n) (asked (start .question) T) (l .loop .i) (omega arith) (omega arith) (l .loop .inv .1))
+    sym (every-end (T .n) (asked (start .aspect) T) (l .loop .i) (omega arith) (omega arith) (l .loop .inv .1))
 
 pub every-spec : {M : Type 1} → statement M
 every-spec =

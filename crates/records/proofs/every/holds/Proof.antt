@@ -1,4 +1,4 @@
--- `holds` meets its contract, question by question.
+-- `holds` meets its contract, aspect by aspect.
 use borrow.Author.Needs.{needs}
 use Rattle.records.proofs.RecordLaws.{inside}
 use Rattle.records.proofs.every.holds.Statement.{statement}
