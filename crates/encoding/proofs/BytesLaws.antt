@@ -2,8 +2,8 @@
 use Prim.Native.Nat.{ℕ, zero, suc, _+_, _*_, _-_, _/_, _%_, _^_, _≤_, _<_}
 use mathlib.Core.Path.{_≡_, refl, sym, ap, ap₂, _∙_}
 use mathlib.Core.Bool.{Bool, true, false}
-use mathlib.Core.List.{List, [], _∷_, _++_, append-nil}
-use native.Mathlib.Nat.{zero-add, suc-add, zero-sub, sub-zero, suc-sub-suc, sub-eq-zero-of-le, add-mul, mul-assoc, pow-succ', two-pow-succ, one-le-pow, zero-div, mul-add-div-right, mod-eq-of-lt}
+use mathlib.Core.List.{List, [], _∷_, _++_}
+use native.Mathlib.Nat.{zero-add, suc-add, zero-sub, sub-zero, suc-sub-suc, add-mul, mul-assoc, pow-succ', two-pow-succ, one-le-pow, zero-div, mul-add-div-right, mod-eq-of-lt}
 use native.Mathlib.Numerals.{one-add}
 use native.Mathlib.Omega.{arith}
 use lib.Dec.{eqb}
@@ -62,10 +62,6 @@ digits-number zero bs = rw zero-sub
 digits-number (suc k) [] = rw sub-zero (digits-zero (suc k))
 digits-number (suc k) (b ∷ bs) =
     rw (digit-first k b (number-below k bs), digits-high k (digit b) (number k bs), suc-sub-suc) (ap (λ cs. b ∷ cs) (digits-number k bs))
-
--- Where no bit is missing.
-pub digits-number-all : (k : ℕ) (bs : List Bool) → k ≤ length bs → digits k (number k bs) ≡ take k bs
-digits-number-all k bs h = digits-number k bs ∙ rw (sub-eq-zero-of-le h) (append-nil (take k bs))
 
 pub number-nil : (k : ℕ) → number k [] ≡ 0
 number-nil zero = refl

@@ -3,7 +3,7 @@
 use Prim.Native.Nat.{ℕ, suc, _+_, _-_, _*_, _≤_, _<_}
 use mathlib.Core.Path.{_≡_, refl, sym, subst, _∙_, ap, ap₂}
 use mathlib.Core.List.{List, _++_, append-assoc}
-use mathlib.Core.Option.{Option, some, Option·map, Option·none-ne-some, Option·some-injective}
+use mathlib.Core.Option.{Option, some, Option·map, Option·some-injective}
 use native.Mathlib.Nat.{add-zero}
 use native.Mathlib.Omega.{arith}
 use lib.ListN.{length, take, drop, length-append, length-drop}
@@ -26,10 +26,9 @@ use Rattle.calculus.specs.Accepted.{indexLimit, numeralLimit}
 use Rattle.substitution.specs.Results.{Substitutable, substituted}
 use Rattle.substitution.proofs.ResultLaws.{substituted-at, substitutable-at}
 use Rattle.redex.specs.Held.{held}
-use Rattle.redex.specs.Rules.{nothing, parted, numbered, parts}
+use Rattle.redex.specs.Rules.{parted, numbered, parts}
 use Rattle.redex.specs.Next.{next, nextFrom, HoldsRedex}
 use Rattle.redex.proofs.HeldLaws.{Start, termAt-start}
-use Rattle.redex.proofs.PlaceLaws.{no-redex-here}
 use Rattle.redex.proofs.RedexLaws.{From, Stands, stands, Root, contracts, expands, root}
 
 -- The end of the item that starts at a position.
@@ -90,15 +89,8 @@ module _ {ws : List ℕ} {n at : ℕ} (here : HoldsRedex ws n at) where
   pub redex-within : at < n
   redex-within = omega (arith, start .long, contractAt-within (held ws n) at (next ws n at) (here .redex))
 
-  pub redex-read : at < length ws
-  redex-read = omega (arith, redex-within, start .within)
-
   pub length-short : n ≤ workspaceMost
   length-short = omega (arith, start .within, here .holds .limit)
-
-  -- The parts are found.
-  pub never-nothing : parts at (drop at ws) ≡ nothing → ⊥
-  never-nothing e = Option·none-ne-some (next ws n at) (sym (no-redex-here (here .holds) redex-within e) ∙ here .redex)
 
   packable : Packable (held ws n)
   packable = accepted-packable 0 (held ws n) (start .accepted)

@@ -186,9 +186,6 @@ module _ {ws : List ℕ} {n : ℕ} {stack : List ℕ} {top f i r s : ℕ} (state
       ∙ ap (λ h. scan (push (inside (unpacked f .depth) (getD ws i 0)) (push h (stacked top stack))) (slice (i + 1) n ws)) (t .is-rest)
       ∙ sym (rw (t .allows) at (turn state (t .unfilled) (t .more) (t .given)))
 
-  deeper : (i + 1) * argumentLimit ≡ i * argumentLimit + argumentLimit
-  deeper = omega arith
-
   rest-shallow : unpacked r .depth ≤ (i + 1) * argumentLimit
   rest-shallow =
       let g = unpacked f in
