@@ -29,6 +29,13 @@ pub const REACH: &[Reach] = &[
         ],
     },
     Reach {
+        subject: "mixed inputs",
+        cases: 1_500,
+        least: 2,
+        look: mixed_inputs,
+        features: &["{Same|Different|Budget|Full|1|2|3|4|5|6|7|8|9}"],
+    },
+    Reach {
         subject: "words that are no term",
         cases: 500,
         least: 2,
@@ -168,6 +175,15 @@ fn one_word_too_long(bytes: &[u8]) -> Option<&'static str> {
         (0..=8_196, 8_197) => Some("right: 8,197 words and no other fault"),
         _ => None,
     }
+}
+
+fn mixed_inputs(case: u64, census: &mut Census) {
+    let bytes = inputs::aimed(&mut Random::new(45, case), Aim::Mixed);
+    census.meet(match outcome(&bytes) {
+        Outcome::Answered(answer) => answer.verdict.to_string(),
+        Outcome::Refused(refusal) => refusal.to_string(),
+        Outcome::Input => "Input".to_string(),
+    });
 }
 
 /// Each call of a script with the machine before it, and what is left unread.

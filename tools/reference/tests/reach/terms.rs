@@ -2,7 +2,7 @@
 
 use crate::common::census::Census;
 use crate::Reach;
-use reference::contraction::step;
+use reference::contraction::{contractum, step};
 use reference::default::takes_default;
 use reference::generate::families;
 use reference::generate::inputs::{self, Aim};
@@ -46,6 +46,20 @@ pub const REACH: &[Reach] = &[
             "default taken{ alone| beside most|, no dropped|, one dropped|, several dropped|, most dropped}",
             "{loop|numeral} dropped",
             "{bound|free} variable in a default taken",
+        ],
+    },
+    Reach {
+        subject: "relations of pairs",
+        cases: 2_000,
+        least: 10,
+        look: relations,
+        features: &[
+            "{equal at once|equal with a numeral|equal lengths|two numerals}",
+            "{both normal|both move|one moves}",
+            "the {left's next is the right|right's next is the left|left is its own next}",
+            "a step {shortens|keeps the length|lengthens}",
+            "numerals are the only redexes",
+            "{a numeral before another redex|another redex before a numeral}",
         ],
     },
     Reach {
@@ -312,6 +326,51 @@ fn name(term: &Term) -> &'static str {
 fn has_numeral(term: &Term) -> bool {
     let parts = subterms(term);
     parts.iter().any(|(part, _)| matches!(part, Term::Num(_)))
+}
+
+/// How the two terms of a pair are related at the start and after a step.
+fn relations(case: u64, census: &mut Census) {
+    let (left, right) = pair(&mut Random::new(32, case));
+    let next = [step(&left), step(&right)];
+    census.meet(match next.iter().flatten().count() {
+        0 => "both normal",
+        1 => "one moves",
+        _ => "both move",
+    });
+    let equal = left == right;
+    let leads = |from: usize, to: &Term| next[from].as_ref() == Some(to);
+    census.meet_if(equal, "equal at once");
+    census.meet_if(equal && has_numeral(&left), "equal with a numeral");
+    census.meet_if(!equal && left.size() == right.size(), "equal lengths");
+    census.meet_if(leads(0, &right), "the left's next is the right");
+    census.meet_if(leads(1, &left), "the right's next is the left");
+    census.meet_if(leads(0, &left), "the left is its own next");
+    let both = matches!((&left, &right), (Term::Num(_), Term::Num(_)));
+    census.meet_if(both && !equal, "two numerals");
+    for (term, next) in [(left, &next[0]), (right, &next[1])] {
+        if let Some(next) = next {
+            census.meet(match next.size().cmp(&term.size()) {
+                Ordering::Less => "a step shortens",
+                Ordering::Equal => "a step keeps the length",
+                Ordering::Greater => "a step lengthens",
+            });
+            look_at_order(&term, census);
+        }
+    }
+}
+
+/// Which redex comes first where a numeral is one of them.
+fn look_at_order(term: &Term, census: &mut Census) {
+    let parts = subterms(term).into_iter().map(|(part, _)| part);
+    let redexes: Vec<&Term> = parts.filter(|part| contractum(part).is_some()).collect();
+    let is_numeral = |redex: &&Term| matches!(redex, Term::Num(_));
+    if redexes.iter().any(is_numeral) {
+        census.meet(match redexes.iter().all(is_numeral) {
+            true => "numerals are the only redexes",
+            false if contracts_numeral(term) => "a numeral before another redex",
+            false => "another redex before a numeral",
+        });
+    }
 }
 
 /// Parts that at most two contractions throw away, to leave a variable.
