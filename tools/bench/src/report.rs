@@ -83,7 +83,7 @@ impl Report {
     fn reading(&self) -> String {
         let mut text = format!(
             "## Reading a line\n\n\
-             Instructions of the unit's program `replay` and of `{peer}`, a reader in Rust by recursive \
+             Instructions of `replay`, in C over the archive, and of `{peer}`, a reader in Rust by recursive \
              descent into a tree: those of a run that reads the line into a workspace of {c} words, less \
              those of a run that refuses it by its workspace. Zeros, for the arrays of `replay` and for the \
              rest of the workspace, are a part that does not grow with the line.\n\n",

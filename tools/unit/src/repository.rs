@@ -252,7 +252,11 @@ impl Progress {
             if !said.contains("(unchanged") {
                 self.start(tell);
             }
-            if self.is_told && self.proved.is_multiple_of(CRATES_A_LINE) {
+            // The archive names its crates once more when it is put together.
+            if self.is_told
+                && self.proved <= self.needed
+                && self.proved.is_multiple_of(CRATES_A_LINE)
+            {
                 tell(&format!("{} of {} crates proved", self.proved, self.needed));
             }
         }
@@ -308,6 +312,7 @@ high: middle
         assert_eq!(told(&[NEW; 4]), [STARTED]);
         assert_eq!(told(&[NEW; 5]), [STARTED, "5 of 6 crates proved"]);
         assert_eq!(told(&[NEW; 6]), [STARTED, "5 of 6 crates proved"]);
+        assert_eq!(told(&[NEW; 12]), [STARTED, "5 of 6 crates proved"]);
     }
 
     #[test]
