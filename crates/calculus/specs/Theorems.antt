@@ -13,7 +13,8 @@ use Rattle.calculus.specs.Everywhere.{binders, anywhere, Asked, variable
 use Rattle.calculus.specs.Accepted.{tagLimit, argumentLimit, branchLimit, freeLimit, numeralLimit, Rising, Scoped, acceptance, Accepted, indexLimit}
 use Rattle.calculus.specs.Read.{read}
 use Rattle.calculus.specs.Workspace.{sized, wrongWorkspace, termAt}
-use Rattle.calculus.specs.Bringing.{longerThan, freeAbove}
+use Rattle.calculus.specs.Refusal.{Refusal}
+use Rattle.calculus.specs.Bringing.{refused, Brought, longerThan, freeAbove}
 use Rattle.calculus.specs.Shift.{move, shift}
 use Rattle.calculus.specs.Substitution.{subst}
 use Rattle.calculus.specs.Numeral.{numeral}
@@ -65,6 +66,10 @@ pub record Held (ws : List ℕ) (n : ℕ) (t : Term) : Type 0 where
 
 abbrev pub Term-at-exact : Type 0
 Term-at-exact = (ws : List ℕ) (n : ℕ) (t : Term) → (termAt ws n ≡ some t) ↔ Held ws n t
+
+-- A refusal, and the workspace as it was: written out again, so that what is owed does not lean on `bring`.
+abbrev pub unchanged : (workspace : List ℕ) → Refusal → Brought
+unchanged workspace why = record { answer = refused why; workspace = workspace }
 
 -- What passes refusals 6 and 8 of a term that is brought in: no free number is above 255, and a workspace of C words holds it.
 abbrev pub Brought-exact : Type 0

@@ -16,7 +16,8 @@ use Rattle.calculus.specs.Bringing.{refused, returned, bring}
 use Rattle.encoding.specs.Bits.{Combinator}
 use Rattle.encoding.specs.Encoded.{wrongBits, isCombinator}
 use Rattle.encoding.specs.Import.{import}
-use Rattle.encoding.specs.Theorems.{EncodingOf, unchanged, Importing-exact}
+use Rattle.calculus.specs.Theorems.{unchanged}
+use Rattle.encoding.specs.Theorems.{EncodingOf, Importing-exact}
 use Rattle.encoding.proofs.PureLaws.{combinator-accepted}
 use Rattle.encoding.proofs.EncodedLaws.{is-combinator, is-no-combinator, encoded-term, encoding-right, encoding-found}
 

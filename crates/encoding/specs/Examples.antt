@@ -14,7 +14,8 @@ use Rattle.encoding.specs.Bytes.{unpacked, packed}
 use Rattle.encoding.specs.Decoding.{wordsIn, decode}
 use Rattle.encoding.specs.Import.{import}
 use Rattle.encoding.specs.Export.{Exported, export}
-use Rattle.encoding.specs.Theorems.{unchanged, bytesKept}
+use Rattle.calculus.specs.Theorems.{unchanged}
+use Rattle.encoding.specs.Theorems.{bytesKept}
 
 -- The bits 0 and 1.
 abbrev pub o : Bool

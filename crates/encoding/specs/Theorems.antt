@@ -9,10 +9,10 @@ use lib.ListN.{length, replicate}
 use Rattle.calculus.specs.Term.{Term}
 use Rattle.calculus.specs.Words.{applicationKind, kindOf, words, size}
 use Rattle.calculus.specs.Accepted.{Accepted}
-use Rattle.calculus.specs.Theorems.{Closed}
+use Rattle.calculus.specs.Theorems.{Closed, unchanged}
 use Rattle.calculus.specs.Workspace.{wrongWorkspace, termAt}
 use Rattle.calculus.specs.Refusal.{Refusal, WrongWorkspace, TooLong, NoTerm, WrongBits, NoCombinator}
-use Rattle.calculus.specs.Bringing.{refused, returned, Brought}
+use Rattle.calculus.specs.Bringing.{refused, returned}
 use Rattle.encoding.specs.Bits.{bits, Pure, Combinator}
 use Rattle.encoding.specs.Bytes.{byteBits, unpacked, Bytes}
 use Rattle.encoding.specs.Decoding.{decode}
@@ -54,10 +54,7 @@ pub record EncodingOf (t : Term) (bytes : List ℕ) (count : ℕ) : Type 0 where
 abbrev pub Encoding-unique : Type 0
 Encoding-unique = (bytes : List ℕ) (count : ℕ) (t u : Term) → EncodingOf t bytes count → EncodingOf u bytes count → t ≡ u
 
--- A refusal, and what was lent as it was: written out again, so that what is owed does not lean on `bring`.
-abbrev pub unchanged : (workspace : List ℕ) → Refusal → Brought
-unchanged workspace why = record { answer = refused why; workspace = workspace }
-
+-- A refusal to export, and the lent bytes as they were.
 abbrev pub bytesKept : (bytes : List ℕ) → Refusal → Exported
 bytesKept bytes why = record { answer = refused why; bytes = bytes }
 

@@ -9,7 +9,7 @@ use Rattle.calculus.specs.Refusal.{WrongFree, WrongWorkspace, TooLong, WrongLin
 use Rattle.calculus.specs.Bringing.{Brought, returned}
 use Rattle.notation.specs.Grammar.{Line}
 use Rattle.notation.specs.Reading.{readLine}
-use Rattle.notation.specs.Theorems.{unchanged}
+use Rattle.calculus.specs.Theorems.{unchanged}
 
 -- What the grammar gives a line: this term, or none.
 abbrev pub Gives : (line : List ℕ) → Option Term → Type 0

@@ -11,8 +11,9 @@ use Rattle.calculus.specs.Words.{words, size}
 use Rattle.calculus.specs.Everywhere.{Asked, anywhere, pureTerms, Everywhere}
 use Rattle.calculus.specs.Accepted.{indexLimit, Scoped, Accepted}
 use Rattle.calculus.specs.Workspace.{wrongWorkspace}
-use Rattle.calculus.specs.Refusal.{Refusal, WrongFree, WrongWorkspace, TooLong, WrongLine}
-use Rattle.calculus.specs.Bringing.{refused, returned, Brought}
+use Rattle.calculus.specs.Refusal.{WrongFree, WrongWorkspace, TooLong, WrongLine}
+use Rattle.calculus.specs.Theorems.{unchanged}
+use Rattle.calculus.specs.Bringing.{refused, returned}
 use Rattle.notation.specs.Grammar.{Line, lineLeast, lineMost}
 use Rattle.notation.specs.Reader.{lineTerm}
 use Rattle.notation.specs.Reading.{readLine}
@@ -35,10 +36,6 @@ Expressible t = Everywhere expressible tt t
 -- Exactly these terms have a line, if its length has no limit.
 abbrev pub Expressible-exact : Type 0
 Expressible-exact = (t : Term) → ((line : List ℕ) × Line line t) ↔ Expressible t
-
--- A refusal, and the workspace as it was: written out again, so that what is owed does not lean on `bring`.
-abbrev pub unchanged : (workspace : List ℕ) → Refusal → Brought
-unchanged workspace why = record { answer = refused why; workspace = workspace }
 
 -- Past refusal 7, and with a line of 1 to 1,024 bytes.
 pub record LengthsFit (line workspace : List ℕ) : Type 0 where
