@@ -9,7 +9,7 @@ use borrow.Author.Tests.{leb-true, le-leb, eqb-true, eqb-false}
 use Rattle.calculus.specs.Term.{is_default}
 use Rattle.calculus.specs.Words.{tag_of, count_of}
 use Rattle.calculus.specs.Accepted.{tag_limit, argument_limit, IsTag, Tagged, Pattern}
-use Rattle.calculus.proofs.DefaultLaws.{default-told, default_not}
+use Rattle.calculus.proofs.DefaultLaws.{default_told, default_not}
 use Rattle.calculus.specs.Pattern.{is_tag, is_tagged, is_pattern}
 
 pub tag_passes : (t : ℕ) → IsTag t → is_tag t ≡ true
@@ -43,5 +43,5 @@ pub default-payload : (p : ℕ) → is_default (tag_of p) (count_of p) ≡ eqb p
 default-payload p = go (eqb p 0) refl
   where
     go : (b : Bool) → eqb p 0 ≡ b → is_default (tag_of p) (count_of p) ≡ b
-    go true e = let z = eqb-true p 0 e in default-told (tag_of p) (count_of p) (omega arith) (omega arith)
+    go true e = let z = eqb-true p 0 e in default_told (tag_of p) (count_of p) (omega arith) (omega arith)
     go false e = default_not (tag_of p) (count_of p) (λ z. eqb-false p 0 e (omega (arith, z.0, z.1)))

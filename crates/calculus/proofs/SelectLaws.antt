@@ -12,7 +12,7 @@ use Rattle.calculus.specs.Accepted.{StartsAbove, Rising}
 use Rattle.calculus.specs.Substitution.{subst}
 use Rattle.calculus.specs.Contraction.{default, listed, select}
 use Rattle.calculus.specs.Theorems.{Has, SelectExact}
-use Rattle.calculus.proofs.DefaultLaws.{default_is, default-told, default_not, not_default}
+use Rattle.calculus.proofs.DefaultLaws.{default_is, default_told, default_not, not_default}
 
 -- These are not the default's.
 abbrev Other : (t n : ℕ) → Type 0
@@ -30,7 +30,7 @@ above u n b (branch w m c bs) s r (inr h) = let k = above u n b bs r.0 r.1 h in 
 
 has_default : (u : Term) (bs : Branches) → Rising bs → Has 0 0 u bs → default bs ≡ some u
 has_default u end r h = absurd h
-has_default u (branch t n b bs) r (inl h) = rw (default-told t n (sym h.0) (sym h.1), h.2)
+has_default u (branch t n b bs) r (inl h) = rw (default_told t n (sym h.0) (sym h.1), h.2)
 has_default u (branch t n b bs) r (inr h) = let k = above 0 0 u bs r.0 r.1 h in absurd (omega arith)
 
 default_has : (u : Term) (bs : Branches) → default bs ≡ some u → Has 0 0 u bs

@@ -24,11 +24,6 @@ abbrev pub first_met : List (Refusal × Bool) → Option Refusal
 first_met [] = none
 first_met (c ∷ cs) = cond c.1 (some c.0) (first_met cs)
 
--- The answer by checks: the refusal that is met, or else what is returned.
-abbrev pub unless : Option Refusal → (returned : ℕ) → Result
-unless (some why) n = refused why
-unless none n = returned n
-
 -- The same as statements: this refusal is met, and none before it is; or none is met.
 abbrev pub FirstMet : Refusal → List (Refusal × Bool) → Type 0
 FirstMet why [] = ⊥

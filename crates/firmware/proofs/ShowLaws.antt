@@ -30,19 +30,19 @@ module _ (ws vs : List ℕ) (l r : ℕ) where
   abbrev Told : Part → Type 0
   Told p = ◌≡◌ {A = Part} (let n = length (part_words ws vs p) in record { side = side_told n; count = n }) p
 
-  shorter-told : {t u : Term} → term_at ws l ≡ some t → term_at vs r ≡ some u → (b : Bool) → shows_right l r ≡ b
+  shorter_told : {t u : Term} → term_at ws l ≡ some t → term_at vs r ≡ some u → (b : Bool) → shows_right l r ≡ b
       → Told (cond b (record { side = right; count = r }) (record { side = left; count = l }))
-  shorter-told e f true h = rw (length-take-le r vs (held vs r _ f).within, ne_eqb r 0 (some_words vs r f), h)
-  shorter-told e f false h = rw (length-take-le l ws (held ws l _ e).within, ne_eqb l 0 (some_words ws l e), h)
+  shorter_told e f true h = rw (length-take-le r vs (held vs r _ f).within, ne_eqb r 0 (some_words vs r f), h)
+  shorter_told e f false h = rw (length-take-le l ws (held ws l _ e).within, ne_eqb l 0 (some_words ws l e), h)
 
   terms_told : (x y : Option Term) → term_at ws l ≡ x → term_at vs r ≡ y → Told (show_terms l r x y)
   terms_told none y e f = refl
   terms_told (some t) none e f = refl
-  terms_told (some t) (some u) e f = shorter-told e f (shows_right l r) refl
+  terms_told (some t) (some u) e f = shorter_told e f (shows_right l r) refl
 
-  show-told : Told (show ws vs l r)
+  show_told : Told (show ws vs l r)
   unfolding show
-  show-told = by (sized (length ws ∷ length vs ∷ []))
+  show_told = by (sized (length ws ∷ length vs ∷ []))
     where
       by : (b : Bool) → Told (cond b (show_terms l r (term_at ws l) (term_at vs r)) nothing)
       by true = terms_told (term_at ws l) (term_at vs r) refl refl
@@ -52,4 +52,4 @@ module _ (ws vs : List ℕ) (l r : ℕ) where
   pub part-seen : {part : List ℕ} {n : ℕ} → part ≡ part_words ws vs (show ws vs l r) → n ≡ side_number (side_told (length part))
       → ◌≡◌ {A = ℕ × ℕ} (n, length part) (part_seen (show ws vs l r))
   part-seen {part} e f =
-      ap (λ n. (n, length part)) f ∙ ap (λ part. (side_number (side_told (length part)), length part)) e ∙ ap part_seen show-told
+      ap (λ n. (n, length part)) f ∙ ap (λ part. (side_number (side_told (length part)), length part)) e ∙ ap part_seen show_told

@@ -88,8 +88,8 @@ module _ (line workspace : List ℕ) (w : wrong_workspace (length workspace) ≡
     pub read_free : is_term (drop at out) (room_most - at) ≡ false → refuse workspace WrongFree ≡ read_line line workspace
     read_free e = sym ((reading_exact line workspace).wrong-free asked term spelled (unscoped e))
 
-    pub read-over : is_term (drop at out) (room_most - at) ≡ true → length workspace < room_most - at → refuse workspace TooLong ≡ read_line line workspace
-    read-over e h = sym ((reading_exact line workspace).too_long asked term spelled (scoped e) (omega (arith, size_is, h)))
+    pub read_over : is_term (drop at out) (room_most - at) ≡ true → length workspace < room_most - at → refuse workspace TooLong ≡ read_line line workspace
+    read_over e h = sym ((reading_exact line workspace).too_long asked term spelled (scoped e) (omega (arith, size_is, h)))
 
     pub read_left : is_term (drop at out) (room_most - at) ≡ true → room_most - at ≤ length workspace → hold workspace (drop at out) ≡ read_line line workspace
     read_left e h =

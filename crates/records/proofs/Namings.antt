@@ -44,14 +44,14 @@ unfolding counted
 counted-length T zero counts = refl
 counted-length T (suc i) counts = simp length-set (counted-length T i counts)
 
--- The counts after so many records, where the links of the first m fit and there is a count for each.
-module _ (T : Table) (m : ℕ) (fit : everyOf m (links_fit T) ≡ true) (counts : List ℕ) (room : T.n < length counts) where
-  pub links_within : (i : ℕ) → 1 ≤ i → i ≤ m → ((T.at i).first < length counts) × ((T.at i).next < length counts)
+-- The counts after so many records, where every link fits and there is a count for each.
+module _ (T : Table) (fit : everyOf T.n (links_fit T) ≡ true) (counts : List ℕ) (room : T.n < length counts) where
+  pub links_within : (i : ℕ) → 1 ≤ i → i ≤ T.n → ((T.at i).first < length counts) × ((T.at i).next < length counts)
   links_within i l u =
-      let both = (and-eq-true_iff (link_fits T.n i (T.at i).first) (link_fits T.n i (T.at i).next)).0 (every_at m (links_fit T) fit i l u) in
+      let both = (and-eq-true_iff (link_fits T.n i (T.at i).first) (link_fits T.n i (T.at i).next)).0 (every_at T.n (links_fit T) fit i l u) in
       omega (arith, link_within T i (T.at i).first both.0, link_within T i (T.at i).next both.1)
 
-  pub counted-at : (i j : ℕ) → i ≤ m → get_or (counted T i counts) j 0 ≡ get_or counts j 0 + sum_of i (links_to T j)
+  pub counted-at : (i j : ℕ) → i ≤ T.n → get_or (counted T i counts) j 0 ≡ get_or counts j 0 + sum_of i (links_to T j)
   unfolding counted
   counted-at zero j u = omega arith
   counted-at (suc i) j u =
@@ -60,7 +60,7 @@ module _ (T : Table) (m : ℕ) (fit : everyOf m (links_fit T) ≡ true) (counts 
       let both = more-at (more (T.at (suc i)).first (counted T i counts)) (T.at (suc i)).next j (simp length-set (omega (arith, counted-length T i counts))) in
       omega (arith, first, both, counted-at i j (omega arith))
 
-  pub counted_most : (i j : ℕ) → i ≤ m → get_or (counted T i counts) j 0 ≤ get_or counts j 0 + 2 * i
+  pub counted_most : (i j : ℕ) → i ≤ T.n → get_or (counted T i counts) j 0 ≤ get_or counts j 0 + 2 * i
   counted_most i j u =
       omega (arith, counted-at i j u, sum_most i (links_to T j) 2 (λ k. omega (arith, naming_most (T.at k).first j, naming_most (T.at k).next j)))
 
@@ -70,13 +70,13 @@ pub record Turn (T : Table) (before : List ℕ) (i first next : ℕ) (counts : L
   pub next_fits : (next < length (more first counts)) × (get_or (more first counts) next 0 + 1 < 2 ^ 32)
   pub goes_on : more next (more first counts) ≡ counted T (i + 1) before
 
-pub turn : (S : Stored) (before : List ℕ) → Countable S before → (i : ℕ) → i < (view S).n → everyOf (i + 1) (links_fit (view S)) ≡ true
-    → (r : Record) → r ≡ (view S).at (i + 1) → (counts : List ℕ) → counts ≡ counted (view S) i before → Turn (view S) before i r.first r.next counts
+pub turn : (S : Stored) (before : List ℕ) → Countable S before → (i : ℕ) → i < (view S).n → (r : Record) → r ≡ (view S).at (i + 1) → (counts : List ℕ)
+    → counts ≡ counted (view S) i before → Turn (view S) before i r.first r.next counts
 unfolding counted
-turn S before h i u fit r e counts q =
+turn S before h i u r e counts q =
     let T = view S in
-    let within = links_within T (i + 1) fit before h.room (i + 1) (omega arith) (omega arith) in
-    let most = counted_most T (i + 1) fit before h.room i in
+    let within = links_within T h.links-fit before h.room (i + 1) (omega arith) (omega arith) in
+    let most = counted_most T h.links-fit before h.room i in
     let first = (T.at (i + 1)).first in
     let next = (T.at (i + 1)).next in
     let small = sized S h.length_fits in
@@ -106,19 +106,19 @@ pub record Begun (S : Stored) (root : ℕ) (zeros : List ℕ) : Type 0 where
   pub root_fits : (root < length zeros) × (get_or zeros root 0 + 1 < 2 ^ 32)
   pub countable : Countable S (more root zeros)
   pub room : (counts : List ℕ) → counts ≡ counted (view S) (view S).n (more root zeros) → (view S).n < length counts
-  pub namings_are : everyOf (view S).n (links_fit (view S)) ≡ true → (counts : List ℕ) → counts ≡ counted (view S) (view S).n (more root zeros) → (j : ℕ) → get_or counts j 0 ≡ namings (view S) j
+  pub namings_are : (counts : List ℕ) → counts ≡ counted (view S) (view S).n (more root zeros) → (j : ℕ) → get_or counts j 0 ≡ namings (view S) j
 
-pub begun : (S : Stored) (root most : ℕ) → wrong_length S ≡ false → wrong_header S ≡ false
+pub begun : (S : Stored) (root most : ℕ) → wrong_length S ≡ false → wrong_header S ≡ false → everyOf (view S).n (links_fit (view S)) ≡ true
     → root ≡ (view S).root → most ≡ room_most → Begun S root (replicate most 0)
 unfolding namings
-begun S root most h r e q =
+begun S root most h r fit e q =
     record {
       root_fits = fits;
       countable = can;
       room = λ counts f. omega (arith, ap length f, counted-length (view S) (view S).n (more root zeros), can.room);
-      namings_are = λ fit counts f j. rw f (omega (
+      namings_are = λ counts f j. rw f (omega (
         arith,
-        counted-at (view S) (view S).n fit (more root zeros) can.room (view S).n j (omega arith),
+        counted-at (view S) fit (more root zeros) can.room (view S).n j (omega arith),
         more-at zeros root j fits.0,
         zeros_at most j,
         ap (λ l. naming l j) e,
@@ -135,6 +135,7 @@ begun S root most h r e q =
     can =
         record {
           length_fits = h;
+          links-fit = fit;
           room = simp length-set (omega (arith, sized S h, length-replicate {A = ℕ} most 0));
           few = λ j. omega (arith, more-at zeros root j fits.0, zeros_at most j, naming_most root j);
         }

@@ -28,8 +28,8 @@ payload_small (numeral h) = omega arith
 -- So there is a word with it.
 pub has_word : (k v m : ℕ) → value_fits k v ≡ true → numberFits k m ≡ true → Wordable k v m
 has_word k v m h f =
-    let (value_is, number_is) = payloads_as_values.1 k v m h f in
-    let fits : payload_fits k (payload k v m) ≡ true = sym (payloads_as_values.0 k (payload k v m)) ∙ rw (value_is, number_is, h) f in
+    let (value-is, number_is) = payloads_as_values.1 k v m h f in
+    let fits : payload_fits k (payload k v m) ≡ true = sym (payloads_as_values.0 k (payload k v m)) ∙ rw (value-is, number_is, h) f in
     record {
       kind_fits = omega (arith, value_known k v h);
       payload-fits = payload_small ((payloads_exact k (payload k v m)).0 fits);

@@ -1,23 +1,22 @@
--- Records part by part, and which of them lie inside a table.
+-- The forms, and which records lie inside a table.
 use Prim.Native.Nat.{ℕ, suc, ◌+◌, ◌≤◌, ◌<◌}
 use mathlib.Core.Path.{◌≡◌, refl}
 use mathlib.Core.Bool.{Bool, true, false, not}
-use mathlib.Core.Option.{some}
 use native.Mathlib.Nat.{mul-le-mul_left}
 use native.Mathlib.Omega.{arith}
 use lib.Dec.{leb, ltb}
 use lib.ListN.{length}
 use borrow.Author.Tests.{leb-true, leb-false, le-ltb, lt-ltb}
-use Rattle.storage.specs.Records.{Record, Stored, view}
+use Rattle.storage.specs.Records.{Stored, view}
 use Rattle.storage.specs.Header.{wrong_length}
 use Rattle.storage.proofs.RecordLaws.{sized}
+use Rattle.records.specs.declared.Form.{Form}
+use Rattle.records.specs.declared.Form.TheVariants as form
 use Rattle.records.specs.Preconditions.{Inside}
 
--- A record that declares how many children it has, part by part.
-pub declaring_path : {k k' v v' m m' f f' x x' : ℕ} → k ≡ k' → v ≡ v' → m ≡ m' → f ≡ f' → x ≡ x'
-    → ◌≡◌ {A = Record} (record { kind = k; value = v; declared = some m; first = f; next = x })
-    (record { kind = k'; value = v'; declared = some m'; first = f'; next = x' })
-declaring_path p q m r s = λ d. record { kind = p d; value = q d; declared = some (m d); first = r d; next = s d }
+-- The forms. A `match` of one arm tells nothing of what it matched, and this does.
+pub only : (f : Form) → f ≡ form.One
+only form.One = refl
 
 pub ltb_not : (a b : ℕ) → ltb a b ≡ not (leb b a)
 ltb_not a b = go (leb b a) refl

@@ -1,7 +1,6 @@
 -- How links are counted, for refusal 4 ("Numbers for refused calls"): in one pass over the records.
-use Rattle.std.specs.Prelude.{ℕ, zero, suc, ◌+◌, ◌≤◌, ◌<◌, ◌≡◌, Bool, true, false, List, length, get_or, set}
+use Rattle.std.specs.Prelude.{ℕ, zero, suc, ◌+◌, ◌≤◌, ◌<◌, ◌≡◌, true, false, List, length, get_or, set}
 use Rattle.calculus.specs.Words.{workspace_most}
-use Rattle.words.specs.Room.{Room}
 use Rattle.storage.specs.Records.{Table, Stored, view, everyOf}
 use Rattle.storage.specs.Header.{wrong_length}
 use Rattle.storage.specs.Links.{links_fit}
@@ -19,14 +18,9 @@ counted T (suc i) counts = more (T.at (suc i)).next (more (T.at (suc i)).first (
 abbrev pub room_most : ℕ
 room_most = suc workspace_most
 
--- The links of a table that has passed refusal 1 can be counted on, where none has been counted more than once.
+-- The links of a table that has passed refusal 1 can be counted on, where each fits and has been counted once at most.
 pub record Countable (S : Stored) (counts : List ℕ) : Type 0 where
   pub length_fits : wrong_length S ≡ false
+  pub links-fit : everyOf (view S).n (links_fit (view S)) ≡ true
   pub room : (view S).n < length counts
   pub few : (j : ℕ) → get_or counts j 0 ≤ 1
-
--- All links have been counted, where they fit; otherwise the counts are free.
-pub record Counted (T : Table) (fit : Bool) (before after : List ℕ) : Type 0 where
-  pub fits : fit ≡ everyOf T.n (links_fit T)
-  pub counts : fit ≡ true → after ≡ counted T T.n before
-  pub room : Room before after

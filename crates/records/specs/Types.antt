@@ -6,12 +6,10 @@ use Rattle.records.specs.declared.Form.TheVariants as form
 use Rattle.records.specs.declared.Declared as codeDeclared
 use Rattle.records.specs.declared.Declared.TheVariants as declared
 use Rattle.records.specs.declared.Record as codeRecord
-use Rattle.storage.specs.Records.{Record, Table, Form, Stored, view, form1, form2}
-use Rattle.records.specs.Preconditions.{Puttable, Wordable}
+use Rattle.storage.specs.Records.{Record, Table, Form, Stored, view, form1}
 
 abbrev pub form_of : codeForm.Form → Form
 form_of form.One = form1
-form_of form.Two = form2
 
 -- Words in a form.
 abbrev pub stored : codeForm.Form → List ℕ → Stored
@@ -26,8 +24,3 @@ declared_of (declared.Children m) = some m
 
 abbrev pub record_of : codeRecord.Record → Record
 record_of r = record { kind = r.kind; value = r.value; declared = declared_of r.declared; first = r.first; next = r.next }
-
--- A record with so many children can be put in a form: its links fit, and its word exists where the form has one.
-abbrev pub PuttableAs : codeForm.Form → (children : ℕ) → Record → Type 0
-PuttableAs form.One m r = Puttable r
-PuttableAs form.Two m r = Puttable r × Wordable r.kind r.value m

@@ -1,16 +1,18 @@
-// What refusals 3 and 5 ask of every record.
+// What refusals 3, 4 and 5 ask of every record.
 ghost use Rattle.std.specs.Prelude.{◌≡◌, ◌≤◌};
 ghost use Rattle.storage.specs.Records.{everyOf};
 ghost use Rattle.records.specs.Types.{stored, viewed};
 ghost use Rattle.records.specs.Every.{asked, Askable};
 
 use crate::children::record_fits;
+use crate::links::links_fit;
 use crate::values::value_fits;
 use crate::{Form, count};
 
 #[derive(Drop)]
 pub enum Aspect {
     Value,
+    Links,
     Children,
 }
 
@@ -20,6 +22,7 @@ fn holds(table: &[u32], form: Form, aspect: Aspect, i: usize) -> bool
 {
     match aspect {
         Aspect::Value => value_fits(table, form, i),
+        Aspect::Links => links_fit(table, form, i),
         Aspect::Children => record_fits(table, form, i),
     }
 }

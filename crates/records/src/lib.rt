@@ -4,12 +4,10 @@ mod every;
 ghost use Rattle.std.specs.Prelude.{◌≡◌, ◌*◌, ◌^◌, ◌<◌, length, get_or};
 ghost use Rattle.std.proofs.lemmas.List.Edits.{sets};
 ghost use Rattle.calculus.specs.Words.{tag_of};
-ghost use Rattle.storage.specs.Records.{header_count, header_root, record_at, form1, in_form1, form2, in_form2, told};
-ghost use Rattle.storage.specs.Convert.{other_form};
-ghost use Rattle.records.specs.Preconditions.{Inside, Puttable, Wordable};
-ghost use Rattle.records.specs.Types.{form_of, stored, record_of, PuttableAs};
+ghost use Rattle.storage.specs.Records.{header_count, header_root, record_at, form1, in_form1};
+ghost use Rattle.records.specs.Preconditions.{Inside, Puttable};
+ghost use Rattle.records.specs.Types.{form_of, stored, record_of};
 
-use payload::{value, word};
 use words::Word;
 use words::slices::copy;
 
@@ -22,41 +20,13 @@ pub mod values;
 #[derive(Drop)]
 pub enum Form {
     One,
-    Two,
 }
 
 impl Form {
-    // The number of each form, which its header starts with, and the words of a record in it.
+    // The number of form 1, which its header starts with, and the words of a record in it.
     pub const ONE: u32 = 1;
 
-    pub const TWO: u32 = 2;
-
     pub const ONE_WORDS: usize = 4;
-
-    pub const TWO_WORDS: usize = 3;
-
-    // The form that the first word tells.
-    pub fn told(table: &[u32]) -> Self
-        ensures { form_of result ≡ told table.now }
-    {
-        if table.len() == 0 {
-            return Form::One;
-        }
-        if table[0] == Form::TWO {
-            return Form::Two;
-        }
-        Form::One
-    }
-
-    // The form that a table of this form is converted to.
-    pub fn other(self) -> Self
-        ensures { form_of result ≡ other_form (form_of self) }
-    {
-        match self {
-            Form::One => Form::Two,
-            Form::Two => Form::One,
-        }
-    }
 
     // The words of a record.
     pub fn words(self) -> usize
@@ -64,7 +34,6 @@ impl Form {
     {
         match self {
             Form::One => Form::ONE_WORDS,
-            Form::Two => Form::TWO_WORDS,
         }
     }
 
@@ -75,7 +44,6 @@ impl Form {
     {
         match self {
             Form::One => header_one(table),
-            Form::Two => header_two(table),
         }
     }
 
@@ -86,7 +54,6 @@ impl Form {
     {
         match self {
             Form::One => put_header_one(table, n as u32, root as u32),
-            Form::Two => put_header_two(table, n as u32, root as u32),
         }
     }
 }
@@ -115,7 +82,6 @@ impl Record {
     {
         match form {
             Form::One => Record::at_one(table, i),
-            Form::Two => Record::at_two(table, i),
         }
     }
 
@@ -133,48 +99,22 @@ impl Record {
         }
     }
 
-    fn at_two(table: &[u32], i: usize) -> Self
-        requires { Inside (in_form2 table.now) i }
-        ensures { record_of result ≡ record_at (in_form2 table.now) i }
-    {
-        let from = Form::TWO_WORDS * i;
-        let word = Word(table[from]);
-        Record {
-            kind: word.kind(),
-            value: value(word),
-            declared: Declared::Children(word.arity()),
-            first: index_at(table, from + 1),
-            next: index_at(table, from + 2),
-        }
-    }
-
-    // Puts the record, which has so many children, at an index.
-    pub fn put(self, table: &mut [u32], form: Form, i: usize, children: usize)
-        requires { Inside (stored form table.old) i × PuttableAs form children (record_of self) }
-        ensures { table.new ≡ sets table.old ((form_of form).record_words * i) ((form_of form).record_as children (record_of self)) }
+    // Puts the record at an index.
+    pub fn put(self, table: &mut [u32], form: Form, i: usize)
+        requires { Inside (stored form table.old) i × Puttable (record_of self) }
+        ensures { table.new ≡ sets table.old ((form_of form).record_words * i) ((form_of form).record_as (record_of self)) }
     {
         match form {
             Form::One => self.put_one(table, i),
-            Form::Two => self.put_two(table, i, children),
         }
     }
 
-    // Form 1 does not keep the number of children.
     fn put_one(self, table: &mut [u32], i: usize)
         requires { Inside (in_form1 table.old) i × Puttable (record_of self) }
-        ensures { table.new ≡ sets table.old (form1.record_words * i) (form1.record_as 0 (record_of self)) }
+        ensures { table.new ≡ sets table.old (form1.record_words * i) (form1.record_as (record_of self)) }
     {
         let words = [self.kind, self.value, self.first as u32, self.next as u32];
         copy(&words, 0, Form::ONE_WORDS, table, Form::ONE_WORDS * i);
-    }
-
-    fn put_two(self, table: &mut [u32], i: usize, children: usize)
-        requires { Inside (in_form2 table.old) i × Puttable (record_of self) × Wordable self.kind self.value children }
-        ensures { table.new ≡ sets table.old (form2.record_words * i) (form2.record_as children (record_of self)) }
-    {
-        let head = word(self.kind, self.value, children).0;
-        let words = [head, self.first as u32, self.next as u32];
-        copy(&words, 0, Form::TWO_WORDS, table, Form::TWO_WORDS * i);
     }
 
     // The tag of a branch.
@@ -201,21 +141,6 @@ fn put_header_one(table: &mut [u32], n: u32, root: u32)
 {
     let words = [Form::ONE, n, root, 0];
     copy(&words, 0, Form::ONE_WORDS, table, 0);
-}
-
-fn header_two(table: &[u32]) -> bool
-    requires { Inside (in_form2 table.now) 0 }
-    ensures { result ≡ form2.header_fits table.now }
-{
-    table[0] == Form::TWO
-}
-
-fn put_header_two(table: &mut [u32], n: u32, root: u32)
-    requires { Inside (in_form2 table.old) 0 }
-    ensures { table.new ≡ sets table.old 0 (form2.header_words n root) }
-{
-    let words = [Form::TWO, n, root];
-    copy(&words, 0, Form::TWO_WORDS, table, 0);
 }
 
 // The word at a position, as an index or a number of records.
@@ -245,6 +170,4 @@ pub fn root(table: &[u32]) -> usize
 fn constants()
     ensures one { Form.ONE ≡ form1.number }
     ensures one_words { Form.ONE_WORDS ≡ form1.record_words }
-    ensures two { Form.TWO ≡ form2.number }
-    ensures two_words { Form.TWO_WORDS ≡ form2.record_words }
 {}

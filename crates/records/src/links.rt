@@ -1,13 +1,14 @@
 // Refusal 4: the two link rules.
-ghost use Rattle.std.specs.Prelude.{◌≡◌, false, ◌+◌, ◌^◌, ◌<◌, eqb, length, get_or, replicate};
+ghost use Rattle.std.specs.Prelude.{◌≡◌, true, false, ◌+◌, ◌^◌, ◌<◌, eqb, length, get_or, replicate};
 ghost use Rattle.records.specs.Preconditions.{Inside};
 ghost use Rattle.storage.specs.Records.{everyOf};
 ghost use Rattle.storage.specs.Header.{wrong_length, wrong_header};
 ghost use Rattle.words.specs.Room.{Room};
-ghost use Rattle.storage.specs.Links.{link_fits, links_fit, wrong_link};
-ghost use Rattle.records.specs.Counting.{more, room_most, Countable, Counted};
+ghost use Rattle.storage.specs.Links.{link_fits, links_fit, namings, wrong_link};
+ghost use Rattle.records.specs.Counting.{more, counted, room_most, Countable};
 ghost use Rattle.records.specs.Types.{stored, viewed};
 
+use crate::every::{Aspect, every};
 use crate::{Form, Record, count, root};
 use words::Word;
 
@@ -28,7 +29,7 @@ fn link_fits(n: usize, i: usize, link: usize) -> bool
 }
 
 // Whether both links of record i fit.
-fn links_fit(table: &[u32], form: Form, i: usize) -> bool
+pub fn links_fit(table: &[u32], form: Form, i: usize) -> bool
     requires { Inside (stored form table.now) i }
     ensures { result ≡ links_fit (viewed form table.now) i }
 {
@@ -48,23 +49,19 @@ fn count_link(counts: &mut [u32], link: usize)
     counts[link] += 1;
 }
 
-// Counts the links of every record, up to the first that does not fit; whether all fit.
-fn count_links(table: &[u32], form: Form, counts: &mut [u32]) -> bool
+// Counts the links of every record.
+fn count_links(table: &[u32], form: Form, counts: &mut [u32])
     requires { Countable (stored form table.now) counts.old }
-    ensures { Counted (viewed form table.now) result counts.old counts.new }
+    ensures { counts.new ≡ counted (viewed form table.now) (viewed form table.now).n counts.old }
 {
     let n = count(table);
     let mut i = 0;
     while i < n {
         i += 1;
-        if !links_fit(table, form, i) {
-            return false;
-        }
         let record = Record::at(table, form, i);
         count_link(counts, record.first);
         count_link(counts, record.next);
     }
-    true
 }
 
 // Whether each of the first n indices after 0 is counted once.
@@ -82,17 +79,27 @@ fn all_once(counts: &[u32], n: usize) -> bool
     true
 }
 
-// The links are counted in a room that is lent with zeros, the ends of chains at 0.
+// Whether every record is named by exactly one link. The ends of chains are counted at 0.
+fn named_once(table: &[u32], form: Form, counts: &mut [u32]) -> bool
+    requires table_value { (wrong_length (stored form table.now) ≡ false) × (wrong_header (stored form table.now) ≡ false) × (everyOf (viewed form table.now).n (links_fit (viewed form table.now)) ≡ true) }
+    requires counts_value { counts.old ≡ replicate room_most 0 }
+    ensures { (result ≡ everyOf (viewed form table.now).n (λ i. eqb (namings (viewed form table.now) i) 1)) × Room counts.old counts.new }
+{
+    count_link(counts, root(table));
+    count_links(table, form, counts);
+    all_once(counts, count(table))
+}
+
+// The links are counted in a room that is lent with zeros.
 pub fn wrong_links(table: &[u32], form: Form, room: &mut [u32]) -> bool
     requires table_value { (wrong_length (stored form table.now) ≡ false) × (wrong_header (stored form table.now) ≡ false) }
     requires room_value { room.old ≡ replicate room_most 0 }
     ensures { (result ≡ wrong_link (viewed form table.now)) × Room room.old room.new }
 {
-    count_link(room, root(table));
-    if !count_links(table, form, room) {
+    if !every(table, form, Aspect::Links) {
         return true;
     }
-    !all_once(room, count(table))
+    !named_once(table, form, room)
 }
 
 // Does nothing. Its contract says that the constant is the number that the definitions give its name.

@@ -8,7 +8,7 @@ use native.Mathlib.Omega.{arith}
 use Rattle.calculus.specs.Decide.{both₃, is_tag?, starts_above?, rising?, everywhere?, tagged?, scoped?, accepted?}
 use Rattle.calculus.specs.Read.{take_term, take_terms, take_branches, read_lam, read_app, read_con, read_case, read_branch, item, items, one_term, read}
 use Rattle.calculus.specs.Workspace.{term_at}
-use Rattle.storage.specs.Records.{view, in_form1, told}
+use Rattle.storage.specs.Records.{view, in_form1}
 use Rattle.storage.specs.Meaning.{term_of, meant_term, meant_terms, meant_branch, meant_branches, meant, meaning}
 use Rattle.storage.specs.Header.{wrong_length, wrong_header}
 use Rattle.calculus.specs.Payload.{payload_fits}
@@ -22,7 +22,7 @@ use Rattle.storage.specs.Examples.{table, applied, LoadingExamples, WritingExamp
 use Rattle.storage.proofs.Written.PrefixStanding.{fills_first, record-fills}
 
 pub loading_examples : LoadingExamples
-unfolding told load_stored meaning meant meant_term meant_terms meant_branch meant_branches term_of wrong_length wrong_header payload_fits value_fits wrong_value namings wrong_link children_fit wrong_children bind everywhere? scoped? Dec.and dec_le dec_lt both₃
+unfolding load_stored meaning meant meant_term meant_terms meant_branch meant_branches term_of wrong_length wrong_header payload_fits value_fits wrong_value namings wrong_link children_fit wrong_children bind everywhere? scoped? Dec.and dec_le dec_lt both₃
 loading_examples =
     record {
       order = λ S C. refl;
@@ -37,7 +37,7 @@ loading_examples =
       no_record = (refl, refl);
       records_2048 = (refl, refl);
       records_2049 = (refl, refl);
-      form_3 = (refl, refl);
+      form_2 = (refl, refl);
       form_0 = (refl, refl);
       last_header_word = (refl, refl);
       root_outside = (refl, refl);

@@ -3,15 +3,16 @@ use Prim.Native.Nat.{ℕ, ◌+◌, ◌-◌}
 use mathlib.Core.Path.{◌≡◌, sym, ap, ◌∙◌}
 use mathlib.Core.Bool.{true, false, and-eq-true_iff}
 use mathlib.Core.List.{List, ◌++◌}
-use mathlib.Core.Logic.{◌↔◌, inl, inr}
+use mathlib.Core.Logic.{inl, inr}
+use native.Mathlib.Omega.{arith}
 use lib.ListN.{length, replicate}
 use borrow.Author.Rules.{rules}
 use borrow.Author.Tests.{not-false}
 use Rattle.calculus.specs.Term.{term, Term}
 use Rattle.calculus.specs.Words.{words, size}
 use Rattle.calculus.specs.Refusal.{Refusal}
-use Rattle.calculus.specs.Bringing.{refused, returned, first_met, unless, FirstMet, NoneMet, refuse, place, bring_unless}
-use Rattle.calculus.proofs.BringingLaws.{settled, first-met, none_met, refused_exact, returned_exact}
+use Rattle.calculus.specs.Bringing.{refused, returned, FirstMet, NoneMet, refuse, place, bring_unless}
+use Rattle.calculus.proofs.BringingLaws.{settled, first-met, none_met}
 use Rattle.calculus.specs.Workspace.{wrong_workspace, padded}
 use Rattle.storage.specs.Records.{Stored, view, is_record}
 use Rattle.storage.specs.Meaning.{Means, meaning}
@@ -21,7 +22,7 @@ use Rattle.storage.specs.Links.{wrong_link}
 use Rattle.storage.specs.Children.{wrong_children}
 use Rattle.storage.specs.FreeNumbers.{wrong_free}
 use Rattle.storage.specs.Load.{checks, load_stored}
-use Rattle.storage.specs.Theorems.{Sound, Meant, LoadingExact}
+use Rattle.storage.specs.Theorems.{Sound, Meant, LoadsExactly, LoadingExact}
 use Rattle.storage.proofs.Meaning.MeaningLaws.{meaning-complete}
 use Rattle.storage.proofs.Meaning.SoundMeans.{sound-means}
 
@@ -61,6 +62,9 @@ passes_sound S C p =
 pub unmet_means : (S : Stored) (C : ℕ) → NoneMet (checks S C) → Meant (view S)
 unmet_means S C h = sound-means (view S) (passes_sound S C (passes S C h))
 
+never : ◌≡◌ {A = ℕ} 0 1 → ⊥
+never e = omega arith
+
 module _ (S : Stored) (workspace : List ℕ) where
   pub load_refused : (k : Refusal) → FirstMet k (checks S (length workspace)) → load_stored S workspace ≡ refuse workspace k
   unfolding load_stored
@@ -73,35 +77,50 @@ module _ (S : Stored) (workspace : List ℕ) where
       ap (λ o. bring_unless o (meaning (view S)) workspace) (none_met (checks S (length workspace)) h)
       ∙ ap (place workspace) (meaning-complete (view S) t (passes S (length workspace) h).links-fit m)
 
-  -- The answer by the checks: the term has as many words as there are records.
-  load-answered : (load_stored S workspace).answer ≡ unless (first_met (checks S (length workspace))) (view S).n
-  load-answered =
-      elim (settled (checks S (length workspace))) [
-        | inl met ↦ ap (λ r. r.answer) (load_refused met.0 met.1) ∙ sym (ap (λ o. unless o (view S).n) (first-met met.0 (checks S (length workspace)) met.1))
-        | inr unmet ↦ let t = unmet_means S (length workspace) unmet in
-            ap (λ r. r.answer) (load_returned unmet t.meant t.means) ∙ ap returned t.length_is ∙ sym (ap (λ o. unless o (view S).n) (none_met (checks S (length workspace)) unmet))
-      ]
+  exact_refused : (k : Refusal) → FirstMet k (checks S (length workspace)) → LoadsExactly S workspace
+  exact_refused k met =
+      let first = first-met k (checks S (length workspace)) met in
+      let answered : (load_stored S workspace).answer ≡ refused k = ap (λ r. r.answer) (load_refused k met) in
+      record {
+        refuses = λ j. (
+          λ e. let same : k ≡ j = cc in rw same at met,
+          λ f. let other = first-met j (checks S (length workspace)) f in let same : k ≡ j = cc in answered ∙ ap refused same,
+        );
+        unchanged = λ j e. ap (λ r. r.workspace) (load_refused k met);
+        returns = λ l. (
+          λ e. absurd (never (cc)),
+          λ h. let other = none_met (checks S (length workspace)) h.0 in absurd (never (cc)),
+        );
+        holds = λ l e. absurd (never (cc));
+      }
 
-  refuses : (why : Refusal) → ((load_stored S workspace).answer ≡ refused why) ↔ FirstMet why (checks S (length workspace))
-  refuses = refused_exact (checks S (length workspace)) (view S).n (load_stored S workspace).answer load-answered
-
-  returns : (l : ℕ) → ((load_stored S workspace).answer ≡ returned l) ↔ (NoneMet (checks S (length workspace)) × ((view S).n ≡ l))
-  returns = returned_exact (checks S (length workspace)) (view S).n (load_stored S workspace).answer load-answered
+  exact_returned : NoneMet (checks S (length workspace)) → Meant (view S) → LoadsExactly S workspace
+  exact_returned unmet t =
+      let None-first = none_met (checks S (length workspace)) unmet in
+      let loaded = load_returned unmet t.meant t.means in
+      let answered : (load_stored S workspace).answer ≡ returned (size t.meant) = ap (λ r. r.answer) loaded in
+      record {
+        refuses = λ k. (
+          λ e. absurd (never (cc)),
+          λ f. let other = first-met k (checks S (length workspace)) f in absurd (never (cc)),
+        );
+        unchanged = λ k e. absurd (never (cc));
+        returns = λ l. (
+          λ e. let same : size t.meant ≡ l = cc in (unmet, sym t.length_is ∙ same),
+          λ h. answered ∙ ap returned (t.length_is ∙ h.1),
+        );
+        holds = λ l e. let same : size t.meant ≡ l = cc in (
+          t.meant,
+          t.means,
+          t.accepted,
+          same,
+          ap (λ r. r.workspace) loaded ∙ ap (λ n. words t.meant ++ replicate (length workspace - n) 0) same,
+        );
+      }
 
 pub loading_exact : LoadingExact
 loading_exact S workspace =
-    record {
-      refuses = refuses S workspace;
-      unchanged = λ why e. ap (λ r. r.workspace) (load_refused S workspace why ((refuses S workspace why).0 e));
-      returns = returns S workspace;
-      holds = λ l e.
-          let unmet = (returns S workspace l).0 e in
-          let t = unmet_means S (length workspace) unmet.0 in
-          let same : size t.meant ≡ l = t.length_is ∙ unmet.1 in (
-            t.meant,
-            t.means,
-            t.accepted,
-            same,
-            ap (λ r. r.workspace) (load_returned S workspace unmet.0 t.meant t.means) ∙ ap (λ n. words t.meant ++ replicate (length workspace - n) 0) same,
-          );
-    }
+    elim (settled (checks S (length workspace))) [
+      | inl s ↦ exact_refused S workspace s.0 s.1
+      | inr s ↦ exact_returned S workspace s (unmet_means S (length workspace) s)
+    ]

@@ -9,7 +9,7 @@ use borrow.Author.Tests.{leb-true, leb-false, le-leb, lt-leb, eqb-true, ne_eqb}
 use Rattle.calculus.specs.Words.{constructor_kind, case_kind, numeral_kind, count_base, tag_of, count_of}
 use Rattle.calculus.specs.Accepted.{argument_limit, branch_limit, numeral_limit, index_limit}
 use Rattle.calculus.specs.Skip.{following}
-use Rattle.calculus.proofs.WordLaws.{tag_of-pack, count_of-pack, pack_of_parts}
+use Rattle.calculus.proofs.WordLaws.{tag_of-pack, count_of-pack}
 use Rattle.calculus.specs.Pattern.{is_pattern}
 use Rattle.calculus.specs.Payload.{payload_fits}
 use Rattle.calculus.proofs.PayloadLaws.{no_kind}
@@ -32,7 +32,7 @@ case_number p = go (leb p branch_limit) refl
     go true e = rw (le-leb 1 (suc p) (omega arith), le-leb (suc p) (suc branch_limit) (omega (arith, leb-true p branch_limit e)))
     go false e = rw (le-leb 1 (suc p) (omega arith), lt-leb (suc p) (suc branch_limit) (omega (arith, leb-false p branch_limit e)))
 
-pub value_and_number : (k p : ℕ) → (value_fits k (value_of k p) && numberFits k (following k p)) ≡ payload_fits k p
+value_and_number : (k p : ℕ) → (value_fits k (value_of k p) && numberFits k (following k p)) ≡ payload_fits k p
 unfolding value_fits payload_fits value_of following
 value_and_number zero p = and_true (leb p index_limit)
 value_and_number (suc zero) p = and_true (eqb p 0)
@@ -45,7 +45,7 @@ value_and_number (suc (suc (suc (suc (suc (suc (suc k))))))) p =
     let l : numeral_kind < suc (suc (suc (suc (suc (suc (suc k)))))) = omega arith in
     rw (no_value _ _ l) (sym (no_kind _ p l))
 
-pub value_back : (k v m : ℕ) → value_fits k v ≡ true → numberFits k m ≡ true → (value_of k (payload k v m) ≡ v) × (following k (payload k v m) ≡ m)
+value_back : (k v m : ℕ) → value_fits k v ≡ true → numberFits k m ≡ true → (value_of k (payload k v m) ≡ v) × (following k (payload k v m) ≡ m)
 unfolding value_fits value_of following
 value_back zero v m h f = (refl, sym (eqb-true m 0 f))
 value_back (suc zero) v m h f = (refl, sym (eqb-true m 1 f))
@@ -59,18 +59,6 @@ value_back (suc (suc (suc (suc zero)))) v m h f =
 value_back (suc (suc (suc (suc (suc zero))))) v m h f = (refl, sym (eqb-true m 1 f))
 value_back (suc (suc (suc (suc (suc (suc zero)))))) v m h f = (refl, sym (eqb-true m 0 f))
 value_back (suc (suc (suc (suc (suc (suc (suc k))))))) v m h f = absurd (false≢true (sym (no_value (suc (suc (suc (suc (suc (suc (suc k))))))) v (omega arith)) ∙ h))
-
--- The payload of the value and of the number in it is the payload itself.
-pub payload-back : (k p : ℕ) → k ≤ numeral_kind → payload k (value_of k p) (following k p) ≡ p
-unfolding value_of following
-payload-back zero p h = refl
-payload-back (suc zero) p h = refl
-payload-back (suc (suc zero)) p h = refl
-payload-back (suc (suc (suc zero))) p h = pack_of_parts p
-payload-back (suc (suc (suc (suc zero)))) p h = omega arith
-payload-back (suc (suc (suc (suc (suc zero))))) p h = refl
-payload-back (suc (suc (suc (suc (suc (suc zero)))))) p h = refl
-payload-back (suc (suc (suc (suc (suc (suc (suc k))))))) p h = absurd (omega arith)
 
 pub payloads_as_values : PayloadsAsValues
 payloads_as_values = (value_and_number, value_back)

@@ -8,9 +8,9 @@ use lib.Dec.{leb, ltb, eqb}
 use lib.ListN.{length, get_or}
 use borrow.Author.Tests.{leb-true, le-leb, ltb-false, le-ltb, eqb-true, eq-eqb, not-false}
 use Rattle.calculus.specs.Words.{workspace_most}
-use Rattle.storage.specs.Records.{Record, entry, declaring, Stored, view, form1, in_form1, form2, in_form2}
+use Rattle.storage.specs.Records.{Record, entry, Stored, view, form1, in_form1}
 use Rattle.storage.specs.Header.{wrong_length, wrong_header}
-use Rattle.storage.specs.Refusals.{LengthExact, HeaderExact, TooLongExact}
+use Rattle.storage.specs.Refusals.{RecordsExact, LengthExact, HeaderExact, TooLongExact}
 use Rattle.storage.proofs.Tests.{is_record_true, record_is_record}
 
 -- Records that are equal part by part, but for what they declare.
@@ -26,9 +26,6 @@ parts e =
 
 pub entry_path : {k k' v v' f f' x x' : ℕ} → k ≡ k' → v ≡ v' → f ≡ f' → x ≡ x' → entry k v f x ≡ entry k' v' f' x'
 entry_path p q r s = λ d. entry (p d) (q d) (r d) (s d)
-
-pub declaring_path : {w w' f f' x x' : ℕ} → w ≡ w' → f ≡ f' → x ≡ x' → declaring w f x ≡ declaring w' f' x'
-declaring_path p q r = λ d. declaring (p d) (q d) (r d)
 
 -- Tests that pass, from the refusal that they keep away.
 neither : (a b : Bool) → (a || b) ≡ false → b ≡ false
@@ -48,6 +45,9 @@ module _ (S : Stored) where
   unfolding wrong_header
   rooted h = is_record_true (view S) (view S).root ((and-eq-true_iff (S.form.header_fits S.words) _).0 (not-false _ h)).1
 
+pub records_exact : RecordsExact
+records_exact ws i = (refl, refl, refl, refl, refl, refl, refl)
+
 pub length_exact : LengthExact
 unfolding wrong_length
 length_exact S = (
@@ -60,23 +60,13 @@ length_exact S = (
 
 pub header_exact : HeaderExact
 unfolding wrong_header
-header_exact =
-    record {
-      in-form1 = λ ws. (
-        λ h.
-            let words = (and-eq-true_iff (eqb (get_or ws 0 0) 1) (eqb (get_or ws 3 0) 0)).0 ((and-eq-true_iff (form1.header_fits ws) _).0 (not-false _ h)).0 in
-            let root = rooted (in_form1 ws) h in
-            (eqb-true _ 1 words.0, root.0, root.1, eqb-true _ 0 words.1),
-        λ h. rw (eq-eqb _ 1 h.0, eq-eqb _ 0 h.3) (ap not (record_is_record (view (in_form1 ws)) _ h.1 h.2)),
-      );
-      in-form2 = λ ws. (
-        λ h.
-            let first = ((and-eq-true_iff (form2.header_fits ws) _).0 (not-false _ h)).0 in
-            let root = rooted (in_form2 ws) h in
-            (eqb-true _ 2 first, root.0, root.1),
-        λ h. rw (eq-eqb _ 2 h.0) (ap not (record_is_record (view (in_form2 ws)) _ h.1 h.2)),
-      );
-    }
+header_exact ws = (
+  λ h.
+      let words = (and-eq-true_iff (eqb (get_or ws 0 0) 1) (eqb (get_or ws 3 0) 0)).0 ((and-eq-true_iff (form1.header_fits ws) _).0 (not-false _ h)).0 in
+      let root = rooted (in_form1 ws) h in
+      (eqb-true _ 1 words.0, root.0, root.1, eqb-true _ 0 words.1),
+  λ h. rw (eq-eqb _ 1 h.0, eq-eqb _ 0 h.3) (ap not (record_is_record (view (in_form1 ws)) _ h.1 h.2)),
+)
 
 pub too_long_exact : TooLongExact
 too_long_exact T C = (ltb-false C T.n, le-ltb C T.n)

@@ -1,5 +1,4 @@
--- Loading what was written gives the term again, and writing what was loaded gives the table again exactly when it is of form 1 and its records are in
--- prefix order.
+-- Loading what was written gives the term again, and writing what was loaded gives the table again exactly when its records are in prefix order.
 use Prim.Native.Nat.{ℕ, suc, ◌+◌, ◌*◌, ◌≤◌}
 use mathlib.Core.Path.{◌≡◌, refl, sym, ap, subst, ◌∙◌}
 use mathlib.Core.Bool.{and-eq-true_iff}
@@ -10,7 +9,7 @@ use lib.ListN.{length, get_or}
 use borrow.Author.Tests.{ltb-false, eqb-true}
 use Rattle.calculus.specs.Term.{term, Term}
 use Rattle.calculus.specs.Words.{size, workspace_most}
-use Rattle.storage.specs.Records.{form1, record_at, in_form1, told, as_told, view, entry}
+use Rattle.storage.specs.Records.{form1, record_at, in_form1, view, entry}
 use Rattle.storage.specs.Meaning.{Means}
 use Rattle.storage.specs.Load.{load}
 use Rattle.storage.specs.Write.{records, table_of}
@@ -27,7 +26,6 @@ use Rattle.storage.proofs.Written.WriteLaws.{write-returned, write-filled}
 use Rattle.storage.proofs.Written.WrittenTable.{written-in-order, written-means, written-passes}
 
 pub load-after-write : LoadAfterWrite
-unfolding told
 load-after-write t rest table target a h e h' u =
     let written = write-returned t rest table a h e in
     let most : size t ≤ workspace_most = omega (arith, workspace_short (length target) h') in
@@ -49,23 +47,18 @@ in-order-table table t C p m size_is order =
     (record { kind = eqb-true _ _ header.0; value = sym size_is; first = stands.0; next = eqb-true _ _ header.1 }, stands.1)
 
 pub write-after-load : WriteAfterLoad
-unfolding told
-write-after-load table workspace out l answered room =
+write-after-load table workspace out l answered same_length =
     let C = length workspace in
-    let S = as_told table in
-    let unmet = ((loading_exact S workspace).returns l).0 answered in
-    let held = (loading_exact S workspace).holds l answered in
-    let p = passes S C unmet.0 in
+    let unmet = ((loading_exact (in_form1 table) workspace).returns l).0 answered in
+    let held = (loading_exact (in_form1 table) workspace).holds l answered in
+    let p = passes (in_form1 table) C unmet.0 in
     let t = held.0 in
-    let fits : l ≤ C = omega (arith, ltb-false C (view S).n p.short_enough, unmet.1) in
+    let fits : l ≤ C = omega (arith, ltb-false C (view (in_form1 table)).n p.short_enough, unmet.1) in
+    let room : length out ≡ form1.record_words * (l + 1) = omega (arith, (sized (in_form1 table) p.length_fits).2, unmet.1) in
     let written = write-filled t C l (load table workspace).workspace out held.2 held.3 held.4 p.workspace_fits fits room in (
       ap (λ r. r.answer) written,
       rw written (
-        λ e. subst (λ ws. (told ws ≡ form1) × InPrefixOrder (view (as_told ws))) e (refl, written-in-order t),
-        λ (form, order).
-            let same : S ≡ in_form1 table = ap (λ F. record { form = F; words = table }) form in
-            sym
-            (in-order-table table t C (subst (λ X. Passes X C) same p) (subst (λ X. Means (view X) term (view X).root t) same held.1)
-            (held.3 ∙ sym unmet.1) (subst (λ X. InPrefixOrder (view X)) same order)),
+        λ e. subst (λ ws. InPrefixOrder (view (in_form1 ws))) e (written-in-order t),
+        λ order. sym (in-order-table table t C p held.1 (held.3 ∙ sym unmet.1) order),
       ),
     )

@@ -1,6 +1,6 @@
 -- Which values, and which numbers that are declared, pass refusal 3, kind by kind.
 use Prim.Native.Nat.{ℕ, zero, suc, ◌≤◌}
-use mathlib.Core.Path.{◌≡◌, refl, sym, ◌∙◌}
+use mathlib.Core.Path.{◌≡◌, refl}
 use mathlib.Core.Bool.{true, false≢true, and-eq-true_iff}
 use mathlib.Core.Option.{Option, some, none}
 use native.Mathlib.Omega.{arith}
@@ -9,12 +9,9 @@ use borrow.Author.Tests.{leb-true, le-leb, eqb-true}
 use Rattle.calculus.specs.Words.{numeral_kind}
 use Rattle.calculus.specs.Accepted.{argument_limit, branch_limit, numeral_limit, index_limit}
 use Rattle.calculus.specs.Payload.{payload_fits}
-use Rattle.calculus.proofs.PayloadLaws.{payloads_exact}
 use Rattle.calculus.proofs.PatternLaws.{tag_passes, tag_fits, pattern_passes, pattern_fits}
-use Rattle.storage.specs.Records.{in_form2, view}
 use Rattle.storage.specs.Values.{value_fits, numberFits, declared_fits}
-use Rattle.storage.specs.Refusals.{Valued, variable, abstraction, application, constructor, case, branch, numeral, Declarable, nothing, by_variable, by_abstraction, by_application, by_constructor, by_case, by_branch, by_numeral, ValuesExact, WordsExact}
-use Rattle.storage.proofs.PayloadLaws.{value_and_number}
+use Rattle.storage.specs.Refusals.{Valued, variable, abstraction, application, constructor, case, branch, numeral, Declarable, nothing, by_variable, by_abstraction, by_application, by_constructor, by_case, by_branch, by_numeral, ValuesExact}
 use Rattle.storage.proofs.Fits.{valued, valued-passes, known_kind}
 
 value_passes : {k v : ℕ} → Valued k v → value_fits k v ≡ true
@@ -72,16 +69,3 @@ values_exact T = (
       (value_in_range _ _ known (F.value-fits i l u), declarable _ _ known (F.declared-fits i l u)),
   λ h. valued-passes T (record { value-fits = λ i l u. value_passes (h i l u).0; declared-fits = λ i l u. declared_passes (h i l u).1 }),
 )
-
--- The word of a record in form 2 has a payload that fits exactly if the record passes.
-pub words_exact : WordsExact
-words_exact ws =
-    let T = view (in_form2 ws) in (
-      λ h i l u.
-          let F = valued T h in
-          (payloads_exact _ _).0 (sym (value_and_number _ _) ∙ (and-eq-true_iff _ _).1 (F.value-fits i l u, F.declared-fits i l u)),
-      λ h.
-          let both : (i : ℕ) → 1 ≤ i → i ≤ T.n → (value_fits (T.at i).kind (T.at i).value ≡ true) × (declared_fits (T.at i).kind (T.at i).declared ≡ true) =
-          λ i l u. (and-eq-true_iff _ _).0 (value_and_number _ _ ∙ (payloads_exact _ _).1 (h i l u)) in
-          valued-passes T (record { value-fits = λ i l u. (both i l u).0; declared-fits = λ i l u. (both i l u).1 }),
-    )

@@ -95,7 +95,7 @@ pub record LoadingExamples : Type 0 where
   pub no_record : Refusing 1 (table ((1, 0, 0, 0) ∷ [])) fresh
   pub records_2048 : Refusing 8 (1 ∷ 2048 ∷ 1 ∷ 0 ∷ replicate 8192 0) fresh
   pub records_2049 : Refusing 1 (1 ∷ 2049 ∷ 1 ∷ 0 ∷ replicate 8196 0) fresh
-  pub form_3 : Refusing 2 (table ((3, 1, 1, 0) ∷ (0, 0, 0, 0) ∷ [])) fresh
+  pub form_2 : Refusing 2 (table ((2, 1, 1, 0) ∷ (0, 0, 0, 0) ∷ [])) fresh
   pub form_0 : Refusing 2 (table ((0, 1, 1, 0) ∷ (0, 0, 0, 0) ∷ [])) fresh
   pub last_header_word : Refusing 2 (table ((1, 1, 1, 1) ∷ (0, 0, 0, 0) ∷ [])) fresh
   pub root_outside : Refusing 2 (table ((1, 1, 2, 0) ∷ (0, 0, 0, 0) ∷ [])) fresh
@@ -146,8 +146,8 @@ pub record LoadingExamples : Type 0 where
   pub free_number_256 : Refusing 6 (table ((1, 2, 1, 0) ∷ (1, 0, 2, 0) ∷ (0, 257, 0, 0) ∷ [])) fresh
   -- Tables that meet two refusals, neighbours in the order of the checks: the earlier one is answered.
   pub workspace_before_length : Refusing 7 (1 ∷ 0 ∷ 1 ∷ []) (replicate 15 9)
-  pub length_before_header : Refusing 1 (table ((3, 1, 1, 0) ∷ [])) fresh
-  pub header_before_too_long : Refusing 2 (3 ∷ 17 ∷ 1 ∷ 0 ∷ replicate 68 0) fresh
+  pub length_before_header : Refusing 1 (table ((2, 1, 1, 0) ∷ [])) fresh
+  pub header_before_too_long : Refusing 2 (2 ∷ 17 ∷ 1 ∷ 0 ∷ replicate 68 0) fresh
   pub too_long_before_values : Refusing 8 (1 ∷ 17 ∷ 1 ∷ 0 ∷ 7 ∷ replicate 67 0) fresh
   pub values_before_links : Refusing 3 (table ((1, 1, 1, 0) ∷ (7, 0, 1, 0) ∷ [])) fresh
   pub links_before_children : Refusing 4 (table ((1, 2, 1, 0) ∷ (0, 0, 2, 5) ∷ (0, 0, 0, 0) ∷ [])) fresh

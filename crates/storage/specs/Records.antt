@@ -1,12 +1,9 @@
 -- A stored table as records ("The stored table"). A record has a kind, a value, its first child and its next sibling; links are indices, and 0 is
 -- no record. It may declare how many children it has. What records mean, and what is refused of them, is said of any table of records; a
 -- form is a way to keep such a table as words.
-use Rattle.std.specs.Prelude.{ℕ, zero, suc, ◌+◌, ◌*◌, ◌≤◌, ◌≡◌, Bool, true, false, cond, ◌&&◌, List, [], ◌∷◌, ◌++◌, leb, eqb, get_or}
-use Rattle.std.proofs.Math.Option.{Option, some, none}
+use Rattle.std.specs.Prelude.{ℕ, zero, suc, ◌+◌, ◌*◌, ◌≤◌, ◌≡◌, Bool, true, false, ◌&&◌, List, [], ◌∷◌, ◌++◌, leb, eqb, get_or}
+use Rattle.std.proofs.Math.Option.{Option, none}
 use Rattle.std.proofs.Common.{arith}
-use Rattle.calculus.specs.Words.{word, kind_of, payload_of}
-use Rattle.calculus.specs.Skip.{arity}
-use Rattle.storage.specs.Payload.{value_of, payload}
 
 pub record Record : Type 0 where
   pub kind : ℕ
@@ -15,12 +12,9 @@ pub record Record : Type 0 where
   pub first : ℕ
   pub next : ℕ
 
--- A record that declares nothing, and one that is told by a word: its kind, its value, and as many children as items follow the word.
+-- A record that declares nothing.
 abbrev pub entry : (kind value first next : ℕ) → Record
 entry k v f x = record { kind = k; value = v; declared = none; first = f; next = x }
-
-abbrev pub declaring : (word first next : ℕ) → Record
-declaring w f x = record { kind = kind_of w; value = value_of (kind_of w) (payload_of w); declared = some (arity w); first = f; next = x }
 
 -- n records, numbered from 1, and the index of the root.
 pub record Table : Type 0 where
@@ -46,15 +40,15 @@ sum_of zero f = 0
 sum_of (suc n) f = sum_of n f + f (suc n)
 
 -- A form: its number and how many words a record has; whether the header is one of this form, and the record whose words start at a position; and
--- the words of a header, and of a record with so many children. Record 0 is the header; in every form it starts with the form's number, n and the
--- root's index, so that a record has three words at least. None has more than four.
+-- the words of a header and of a record. Record 0 is the header; in every form it starts with the form's number, n and the root's index, so that
+-- a record has three words at least. None has more than four.
 pub record Form : Type 0 where
   pub number : ℕ
   pub record_words : ℕ
   pub header_fits : List ℕ → Bool
   pub record_from : List ℕ → (position : ℕ) → Record
   pub header_words : (n root : ℕ) → List ℕ
-  pub record_as : (children : ℕ) → Record → List ℕ
+  pub record_as : Record → List ℕ
   pub three : 3 ≤ record_words
   pub four : record_words ≤ 4
 
@@ -84,7 +78,7 @@ form1 =
       header_fits = λ ws. eqb (get_or ws 0 0) 1 && eqb (get_or ws 3 0) 0;
       record_from = λ ws p. entry (get_or ws p 0) (get_or ws (p + 1) 0) (get_or ws (p + 2) 0) (get_or ws (p + 3) 0);
       header_words = λ n root. 1 ∷ n ∷ root ∷ 0 ∷ [];
-      record_as = λ m r. r.kind ∷ r.value ∷ r.first ∷ r.next ∷ [];
+      record_as = λ r. r.kind ∷ r.value ∷ r.first ∷ r.next ∷ [];
       three = omega arith;
       four = omega arith;
     }
@@ -92,34 +86,10 @@ form1 =
 abbrev pub in_form1 : List ℕ → Stored
 in_form1 ws = record { form = form1; words = ws }
 
--- Form 2: three words a record, its word, first child and next; the word declares how many children there are. The header is 2, n, the root's index.
-abbrev pub form2 : Form
-form2 =
-    record {
-      number = 2;
-      record_words = 3;
-      header_fits = λ ws. eqb (get_or ws 0 0) 2;
-      record_from = λ ws p. declaring (get_or ws p 0) (get_or ws (p + 1) 0) (get_or ws (p + 2) 0);
-      header_words = λ n root. 2 ∷ n ∷ root ∷ [];
-      record_as = λ m r. word r.kind (payload r.kind r.value m) ∷ r.first ∷ r.next ∷ [];
-      three = omega arith;
-      four = omega arith;
-    }
-
-abbrev pub in_form2 : List ℕ → Stored
-in_form2 ws = record { form = form2; words = ws }
-
--- The first word tells the form: 2 tells form 2, any other word form 1, and so does no word at all.
-unfoldable pub told : List ℕ → Form
-told ws = cond (eqb (get_or ws 0 0) form2.number) form2 form1
-
-abbrev pub as_told : List ℕ → Stored
-as_told ws = record { form = told ws; words = ws }
-
--- The words of records in form 1, one record after the other. Form 1 does not keep how many children a record has.
+-- The words of records in form 1, one record after the other.
 abbrev pub records_words : List Record → List ℕ
 records_words [] = []
-records_words (r ∷ rs) = form1.record_as 0 r ++ records_words rs
+records_words (r ∷ rs) = form1.record_as r ++ records_words rs
 
 -- What `step` makes of a record from what was made at its first child and at its next sibling; `end` is made at link 0. At most `bound` deep.
 unfoldable pub hanging : {A : Type 0} → Table → (end : A) (step : ℕ → A → A → A) (bound link : ℕ) → A

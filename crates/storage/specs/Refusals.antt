@@ -2,45 +2,25 @@
 -- numbers, orders and relations what passes refusals 1 to 5 and 8 ("The stored table", "Numbers for refused calls").
 use Rattle.std.specs.Prelude.{ℕ, suc, ◌+◌, ◌*◌, ◌≤◌, ◌<◌, ◌≡◌, true, false, ◌&&◌, List, [], ◌∷◌, ◌↔◌, length, get_or}
 use Rattle.std.proofs.Math.Option.{Option, some, none}
-use Rattle.calculus.specs.Words.{variable_kind, abstraction_kind, application_kind, constructor_kind, case_kind, branch_kind, numeral_kind, kind_of, payload_of, tag_of, count_of, workspace_most}
+use Rattle.calculus.specs.Words.{variable_kind, abstraction_kind, application_kind, constructor_kind, case_kind, branch_kind, numeral_kind, tag_of, count_of, workspace_most}
 use Rattle.calculus.specs.Accepted.{argument_limit, branch_limit, numeral_limit, index_limit, IsTag, Pattern}
 use Rattle.calculus.specs.Skip.{following}
-use Rattle.calculus.specs.Payload.{payload_fits, Payload}
-use Rattle.storage.specs.Records.{Record, Table, form1, form2, told, Stored, view, in_form1, in_form2}
+use Rattle.calculus.specs.Payload.{payload_fits}
+use Rattle.storage.specs.Records.{Record, Table, Stored, view, in_form1}
 use Rattle.storage.specs.Header.{wrong_length, wrong_header, too_long}
 use Rattle.storage.specs.Payload.{value_of, payload}
 use Rattle.storage.specs.Values.{value_fits, numberFits, wrong_value}
 use Rattle.storage.specs.Links.{wrong_link}
 use Rattle.storage.specs.Children.{wrong_children}
 
--- The first word tells the form: 2 tells form 2, and every other word, and no word, tells form 1.
-abbrev pub ToldExact : Type 0
-ToldExact =
-    ((ws : List ℕ) → told (2 ∷ ws) ≡ form2) × ((w : ℕ) (ws : List ℕ) → (w ≡ 2 → ⊥) → told (w ∷ ws) ≡ form1) × (told [] ≡ form1)
-
--- What a word of this kind and payload says of its record: the value, and how many children it declares.
-pub data Declares : (kind payload value : ℕ) (declared : Option ℕ) → Type 0 where
-  variable : {p : ℕ} → Declares variable_kind p p (some 0)
-  abstraction : {p : ℕ} → Declares abstraction_kind p p (some 1)
-  application : {p : ℕ} → Declares application_kind p p (some 2)
-  constructor : {t m : ℕ} → m < 16 → Declares constructor_kind (16 * t + m) t (some m)
-  case : {p : ℕ} → Declares case_kind p 0 (some (suc p))
-  branch : {p : ℕ} → Declares branch_kind p p (some 1)
-  numeral : {p : ℕ} → Declares numeral_kind p p (some 0)
-  no_kind : {p : ℕ} → Declares 7 p p (some 0)
-
--- The records of a table: n and the root's index are words of the header. In form 1 each record is four words, its kind, value, first child and next, and
--- none declares its children. In form 2 it is three, a word of a kind and a payload, first child and next, and it has the value and declares
--- the children that its word says.
-pub record RecordsExact : Type 0 where
-  pub in-form1 : (ws : List ℕ) (i : ℕ) →
-      let T : Table = view (in_form1 ws) in
-      (T.n ≡ get_or ws 1 0) × (T.root ≡ get_or ws 2 0) × ((T.at i).kind ≡ get_or ws (4 * i) 0) × ((T.at i).value ≡ get_or ws (4 * i + 1) 0)
-      × ((T.at i).first ≡ get_or ws (4 * i + 2) 0) × ((T.at i).next ≡ get_or ws (4 * i + 3) 0) × ((T.at i).declared ≡ none)
-  pub in-form2 : (ws : List ℕ) (i k p : ℕ) → k < 8 → get_or ws (3 * i) 0 ≡ p * 8 + k →
-      let T : Table = view (in_form2 ws) in
-      (T.n ≡ get_or ws 1 0) × (T.root ≡ get_or ws 2 0) × ((T.at i).kind ≡ k)
-      × ((T.at i).first ≡ get_or ws (3 * i + 1) 0) × ((T.at i).next ≡ get_or ws (3 * i + 2) 0) × Declares k p (T.at i).value (T.at i).declared
+-- The records of a table in form 1: n and the root's index are words of the header, each record is four words, its kind, value, first child and next, and
+-- none declares its children.
+abbrev pub RecordsExact : Type 0
+RecordsExact =
+    (ws : List ℕ) (i : ℕ) →
+    let T : Table = view (in_form1 ws) in
+    (T.n ≡ get_or ws 1 0) × (T.root ≡ get_or ws 2 0) × ((T.at i).kind ≡ get_or ws (4 * i) 0) × ((T.at i).value ≡ get_or ws (4 * i + 1) 0)
+    × ((T.at i).first ≡ get_or ws (4 * i + 2) 0) × ((T.at i).next ≡ get_or ws (4 * i + 3) 0) × ((T.at i).declared ≡ none)
 
 -- What passes refusal 1: the header's count n is from 1 to 2,048, and the length is that of n + 1 records.
 abbrev pub LengthExact : Type 0
@@ -49,11 +29,11 @@ LengthExact =
     let n : ℕ = get_or S.words 1 0 in
     (wrong_length S ≡ false) ↔ ((1 ≤ n) × (n ≤ workspace_most) × (length S.words ≡ S.form.record_words * (n + 1)))
 
--- What passes refusal 2: the root is from 1 to n; the header's first word is 1 and its last word 0 in form 1, and its first word is 2 in form 2.
-pub record HeaderExact : Type 0 where
-  pub in-form1 : (ws : List ℕ) → (wrong_header (in_form1 ws) ≡ false)
-      ↔ ((get_or ws 0 0 ≡ 1) × (1 ≤ get_or ws 2 0) × (get_or ws 2 0 ≤ get_or ws 1 0) × (get_or ws 3 0 ≡ 0))
-  pub in-form2 : (ws : List ℕ) → (wrong_header (in_form2 ws) ≡ false) ↔ ((get_or ws 0 0 ≡ 2) × (1 ≤ get_or ws 2 0) × (get_or ws 2 0 ≤ get_or ws 1 0))
+-- What passes refusal 2, in form 1: the header's first word is 1, its root is from 1 to n, and its last word is 0.
+abbrev pub HeaderExact : Type 0
+HeaderExact =
+    (ws : List ℕ) → (wrong_header (in_form1 ws) ≡ false)
+    ↔ ((get_or ws 0 0 ≡ 1) × (1 ≤ get_or ws 2 0) × (get_or ws 2 0 ≤ get_or ws 1 0) × (get_or ws 3 0 ≡ 0))
 
 -- What passes refusal 8: n is at most the length of the workspace.
 abbrev pub TooLongExact : Type 0
@@ -84,12 +64,6 @@ abbrev pub ValuesExact : Type 0
 ValuesExact =
     (T : Table) → (wrong_value T ≡ false)
     ↔ ((i : ℕ) → 1 ≤ i → i ≤ T.n → Valued (T.at i).kind (T.at i).value × Declarable (T.at i).kind (T.at i).declared)
-
--- In form 2 it is every record's word that has one of these kinds, with a payload in its range.
-abbrev pub WordsExact : Type 0
-WordsExact =
-    (ws : List ℕ) → (wrong_value (view (in_form2 ws)) ≡ false)
-    ↔ ((i : ℕ) → 1 ≤ i → i ≤ get_or ws 1 0 → Payload (kind_of (get_or ws (3 * i) 0)) (payload_of (get_or ws (3 * i) 0)))
 
 -- A word's payload fits its kind exactly if the value in it does and the number of items that follow the word; and of a value and a number of children that
 -- fit there is a payload, which has them again. So refusal 3 of records that declare their children is that of their words.

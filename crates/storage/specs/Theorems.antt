@@ -1,4 +1,4 @@
--- What is owed about what tables mean, loading, writing and converting: each statement is a type with a name, and its proof in proofs/ has that type.
+-- What is owed about what tables mean, loading and writing: each statement is a type with a name, and its proof in proofs/ has that type.
 use Rattle.std.specs.Prelude.{ℕ, ◌+◌, ◌-◌, ◌*◌, ◌≤◌, ◌≡◌, Bool, true, false, List, [], ◌∷◌, ◌++◌, ◌↔◌, length, replicate}
 use Rattle.std.proofs.Math.Option.{some}
 use Rattle.calculus.specs.Term.{Sort, term, Exp, Term}
@@ -8,7 +8,7 @@ use Rattle.calculus.specs.Workspace.{wrong_workspace}
 use Rattle.calculus.specs.Refusal.{Refusal, WrongLength, WrongHeader, WrongValue, WrongLink, WrongChildren, WrongFree, WrongWorkspace, TooLong, NoTerm}
 use Rattle.calculus.specs.Theorems.{Held}
 use Rattle.calculus.specs.Bringing.{refused, returned, FirstMet, NoneMet}
-use Rattle.storage.specs.Records.{Table, form1, told, Stored, view, as_told, is_record}
+use Rattle.storage.specs.Records.{Table, form1, Stored, view, in_form1, is_record}
 use Rattle.storage.specs.Meaning.{Means, meaning}
 use Rattle.storage.specs.Header.{wrong_length, wrong_header, too_long}
 use Rattle.storage.specs.Values.{wrong_value}
@@ -18,7 +18,6 @@ use Rattle.storage.specs.FreeNumbers.{wrong_free}
 use Rattle.storage.specs.Load.{load_stored, load}
 use Rattle.storage.specs.PrefixOrder.{InPrefixOrder}
 use Rattle.storage.specs.Write.{table_of, Written, write}
-use Rattle.storage.specs.Convert.{other_form, kept, wrong_output, convert_stored, convert}
 
 -- A table of records, in any form, whose root is one of them and that meets none of refusals 3 to 6.
 pub record Sound (T : Table) : Type 0 where
@@ -101,73 +100,9 @@ LoadAfterWrite =
     × ((load (write (words t ++ rest) (size t) table).table target).answer ≡ returned (size t))
     × ((load (write (words t ++ rest) (size t) table).table target).workspace ≡ words t ++ replicate (length target - size t) 0)
 
--- Writing what was loaded gives the table again exactly when this is of form 1 and its records were in prefix order, whatever the part that is written to held.
+-- Writing what was loaded gives the table again exactly when its records were in prefix order, whatever the part that is written to held.
 abbrev pub WriteAfterLoad : Type 0
 WriteAfterLoad =
-    (table workspace out : List ℕ) (l : ℕ) → (load table workspace).answer ≡ returned l → length out ≡ form1.record_words * (l + 1)
+    (table workspace out : List ℕ) (l : ℕ) → (load table workspace).answer ≡ returned l → length out ≡ length table
     → ((write (load table workspace).workspace l out).answer ≡ returned l)
-    × (((write (load table workspace).workspace l out).table ≡ table) ↔ ((told table ≡ form1) × InPrefixOrder (view (as_told table))))
-
--- Converting refuses exactly what it must, in the rules' order, 1, 2, 3, 4, 5, 6 and last 1 for the output, and a refusal changes nothing; otherwise the output is
--- the table in the other form, and the number of records is returned. This holds in every form.
-abbrev pub convert_in_order : Stored → (output : List ℕ) → List (Refusal × Bool)
-convert_in_order S output =
-    (WrongLength, wrong_length S)
-    ∷ (WrongHeader, wrong_header S)
-    ∷ (WrongValue, wrong_value (view S))
-    ∷ (WrongLink, wrong_link (view S))
-    ∷ (WrongChildren, wrong_children (view S))
-    ∷ (WrongFree, wrong_free (view S))
-    ∷ (WrongLength, wrong_output S output)
-    ∷ []
-
-pub record ConvertsExactly (S : Stored) (output : List ℕ) : Type 0 where
-  pub refuses : (why : Refusal) → ((convert_stored S output).answer ≡ refused why) ↔ FirstMet why (convert_in_order S output)
-  pub unchanged : (why : Refusal) → (convert_stored S output).answer ≡ refused why → (convert_stored S output).table ≡ output
-  pub returns : (n : ℕ) → ((convert_stored S output).answer ≡ returned n) ↔ (NoneMet (convert_in_order S output) × ((view S).n ≡ n))
-  pub leaves : (n : ℕ) → (convert_stored S output).answer ≡ returned n → (convert_stored S output).table ≡ kept (other_form S.form) (view S)
-
-abbrev pub ConvertingExact : Type 0
-ConvertingExact = (S : Stored) (output : List ℕ) → ConvertsExactly S output
-
--- What was converted is the one table of the other form that meets no refusal and has the same root and the same records at the same indices, but for what these
--- declare.
-pub record SameRecords (T U : Table) : Type 0 where
-  pub number : T.n ≡ U.n
-  pub root : T.root ≡ U.root
-  pub kinds : (i : ℕ) → 1 ≤ i → i ≤ T.n → (T.at i).kind ≡ (U.at i).kind
-  pub values : (i : ℕ) → 1 ≤ i → i ≤ T.n → (T.at i).value ≡ (U.at i).value
-  pub firsts : (i : ℕ) → 1 ≤ i → i ≤ T.n → (T.at i).first ≡ (U.at i).first
-  pub nexts : (i : ℕ) → 1 ≤ i → i ≤ T.n → (T.at i).next ≡ (U.at i).next
-
--- A table in a form meets none of refusals 1 to 6.
-pub record Unrefused (S : Stored) : Type 0 where
-  pub length_fits : wrong_length S ≡ false
-  pub header-fits : wrong_header S ≡ false
-  pub sound : Sound (view S)
-
-abbrev pub ConvertedExact : Type 0
-ConvertedExact =
-    (table output : List ℕ) (n : ℕ) → (convert table output).answer ≡ returned n
-    → (other : List ℕ) → ((convert table output).table ≡ other)
-    ↔ ((told other ≡ other_form (told table)) × Unrefused (as_told other) × SameRecords (view (as_told table)) (view (as_told other)))
-
--- A converted table means what the table means.
-abbrev pub ConvertedMeans : Type 0
-ConvertedMeans =
-    (table output : List ℕ) (n : ℕ) (t : Term) → (convert table output).answer ≡ returned n →
-    let T : Table = view (as_told table) in
-    let U : Table = view (as_told (convert table output).table) in
-    Means T term T.root t ↔ Means U term U.root t
-
--- It is loaded as the table is, into every workspace, with the same refusals.
-abbrev pub LoadAfterConvert : Type 0
-LoadAfterConvert =
-    (table output workspace : List ℕ) (n : ℕ) → (convert table output).answer ≡ returned n
-    → load (convert table output).table workspace ≡ load table workspace
-
--- Converting back gives the same numbers, whatever the part that they are put into held.
-abbrev pub ConvertAfterConvert : Type 0
-ConvertAfterConvert =
-    (table output back : List ℕ) (n : ℕ) → (convert table output).answer ≡ returned n → length back ≡ length table
-    → convert (convert table output).table back ≡ record { answer = returned n; table = table }
+    × (((write (load table workspace).workspace l out).table ≡ table) ↔ InPrefixOrder (view (in_form1 table)))

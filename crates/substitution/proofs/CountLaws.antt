@@ -131,8 +131,8 @@ module _ {src : List ℕ} {body args n : ℕ} (h : Substitutable src body args n
   abbrev xs : Terms
   xs = first_terms n (drop args src)
 
-  length-told : (d w : ℕ) → d ≤ count_base * workspace_most → length (rewritten (substituting xs) d w) ≡ cond (ltb (place n d w) n) (length_of (place n d w)) 1
-  length-told d w few = go (ltb (place n d w) n) refl
+  length_told : (d w : ℕ) → d ≤ count_base * workspace_most → length (rewritten (substituting xs) d w) ≡ cond (ltb (place n d w) n) (length_of (place n d w)) 1
+  length_told d w few = go (ltb (place n d w) n) refl
     where
       go : (b : Bool) → ltb (place n d w) n ≡ b → length (rewritten (substituting xs) d w) ≡ cond b (length_of (place n d w)) 1
       go true e = chosen_length h p d w few refl (ltb-true _ _ e)
@@ -142,7 +142,7 @@ module _ {src : List ℕ} {body args n : ℕ} (h : Substitutable src body args n
   unfolding substituted
   substituted_weighs =
       sym (ap length (subst_starts _ (drop body src) h.body_starts xs))
-      ∙ weigh_flat n (substituting xs) length_of (count_base * workspace_most) length-told (drop body src) (0 ∷ []) 0 (omega arith, tt) (omega (arith, length-drop body src, h.short))
+      ∙ weigh_flat n (substituting xs) length_of (count_base * workspace_most) length_told (drop body src) (0 ∷ []) 0 (omega arith, tt) (omega (arith, length-drop body src, h.short))
 
   -- The length is that of the body, without the words replaced, and with what stands for them.
   pub substituted_counts : size (substituted src body args n) + sum_to n (λ j. occurrences n j (0 ∷ []) (drop body src))

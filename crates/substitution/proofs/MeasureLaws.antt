@@ -23,8 +23,8 @@ use Rattle.substitution.proofs.WalkLaws.{starts_some}
 use Rattle.substitution.proofs.Walking.{Walking, walking_start, walking_done, walking_within, walking_number, walking_next, nothing_left}
 
 -- One more for a place.
-told-set : (occurs : List ℕ) (k j : ℕ) → k < length occurs → get_or (set occurs k (get_or occurs k 0 + 1)) j 0 ≡ get_or occurs j 0 + cond (eqb k j) 1 0
-told-set occurs k j h = go (ℕ_discrete k j)
+told_set : (occurs : List ℕ) (k j : ℕ) → k < length occurs → get_or (set occurs k (get_or occurs k 0 + 1)) j 0 ≡ get_or occurs j 0 + cond (eqb k j) 1 0
+told_set occurs k j h = go (ℕ_discrete k j)
   where
     go : Dec (k ≡ j) → get_or (set occurs k (get_or occurs k 0 + 1)) j 0 ≡ get_or occurs j 0 + cond (eqb k j) 1 0
     go (yes e) = rw (eq-eqb k j e) (rw (← e) (get_or-set_same occurs k (get_or occurs k 0 + 1) 0 h))
@@ -121,8 +121,8 @@ module _ {src : List ℕ} {body n : ℕ} {room₀ room occurs : List ℕ} {i pen
     counting_next {k} e l entered =
         let inside : k < length occurs = omega (arith, l, v.few, v.places) in
         counting_turn
-        (λ j h. told-set occurs k j inside ∙ ap (λ q. get_or occurs j 0 + cond (eqb q j) 1 0) e)
-        (λ j. omega (arith, told-set occurs k j inside, one (eqb k j)))
+        (λ j h. told_set occurs k j inside ∙ ap (λ q. get_or occurs j 0 + cond (eqb q j) 1 0) e)
+        (λ j. omega (arith, told_set occurs k j inside, one (eqb k j)))
         (length-set occurs k _)
         (drop-set-lt n occurs k _ l)
         entered

@@ -1,14 +1,14 @@
 -- What judging comes to: the refusal that a check meets, what later checks come to, and the words read.
 use Prim.Native.Nat.{ℕ, ◌≤◌}
-use mathlib.Core.Path.{◌≡◌, sym, ap, ◌∙◌}
+use mathlib.Core.Path.{◌≡◌, refl, sym, ap, ◌∙◌}
 use mathlib.Core.Bool.{Bool}
 use mathlib.Core.List.{List}
-use mathlib.Core.Option.{some, none, none-ne-some}
+use mathlib.Core.Option.{Option, some, none, none-ne-some}
 use native.Mathlib.Omega.{arith}
 use lib.ListN.{length, replicate, length-replicate}
 use lib.Seq.{slice}
 use Rattle.calculus.specs.Refusal.{Refusal}
-use Rattle.calculus.specs.Bringing.{Result, refused, returned, first_met, unless}
+use Rattle.calculus.specs.Bringing.{Result, refused, returned, first_met}
 use Rattle.words.specs.Placed.{Placed}
 use Rattle.words.specs.Room.{Room}
 use Rattle.words.proofs.PlacedLaws.{placed_length, placed_start}
@@ -16,7 +16,19 @@ use Rattle.words.proofs.RoomLaws.{room_of_length, room_length}
 use Rattle.storage.specs.Records.{Table}
 use Rattle.records.specs.Counting.{room_most}
 use Rattle.transcription.specs.Reading.{term_words}
-use Rattle.tables.specs.Judging.{Judged}
+use Rattle.tables.specs.Judging.{unless, Judged}
+
+never : ◌≡◌ {A = ℕ} 0 1 → ⊥
+never e = omega arith
+
+-- What an answer tells of the checks.
+pub unless_refused : (met : Option Refusal) (n : ℕ) (why : Refusal) → refused why ≡ unless met n → met ≡ some why
+unless_refused (some met) n why e = let same : met ≡ why = cc in ap some same
+unless_refused none n why e = absurd (never (cc))
+
+pub unless_returned : (met : Option Refusal) (n l : ℕ) → returned l ≡ unless met n → (met ≡ none) × (l ≡ n)
+unless_returned (some met) n l e = absurd (never (cc))
+unless_returned none n l e = let same : l ≡ n = cc in (refl, same)
 
 -- The room is lent with zeros.
 pub room_zeros : {room : List ℕ} → room ≡ replicate room_most 0 → length room ≡ room_most

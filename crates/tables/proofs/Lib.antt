@@ -4,5 +4,4 @@ pub mod JudgingLaws
 pub mod LoadCode
 pub mod EntriesLaws
 pub mod WriteCode
-pub mod ConvertCode
 pub mod Fields

@@ -12,7 +12,7 @@ use Rattle.calculus.specs.Words.{words, workspace_most}
 use Rattle.calculus.specs.Refusal.{Refusal}
 use Rattle.calculus.specs.Workspace.{wrong_workspace}
 use Rattle.calculus.specs.Bringing.{Result, refused, returned, first_met, NoneMet, refuse, hold, bring_unless}
-use Rattle.calculus.proofs.BringingLaws.{none_first, unless_refused, unless_returned}
+use Rattle.calculus.proofs.BringingLaws.{none_first}
 use Rattle.words.specs.Placed.{Copies}
 use Rattle.words.proofs.RoomLaws.{room_length}
 use Rattle.storage.specs.Records.{Stored, view}
@@ -24,6 +24,7 @@ use Rattle.storage.specs.Load.{table_checks, checks, load_stored}
 use Rattle.tables.specs.Judging.{Judged}
 use Rattle.storage.specs.Meaning.{meaning}
 use Rattle.storage.specs.Theorems.{Meant}
+use Rattle.tables.proofs.JudgingLaws.{unless_refused, unless_returned}
 use Rattle.storage.proofs.LoadLaws.{Passes, passes, unmet_means, load_returned}
 use Rattle.tables.proofs.ReadingMeaning.{means_spelled}
 
@@ -35,11 +36,11 @@ module _ (S : Stored) (workspace : List ℕ) (w : wrong_workspace (length worksp
   pub judged_refuses : (why : Refusal) → answer ≡ refused why → refuse workspace why ≡ load_stored S workspace
   unfolding load_stored
   judged_refuses why e =
-      sym (ap (λ o. bring_unless o (meaning (view S)) workspace) (first ∙ unless_refused (first_met (table_checks S (length workspace))) (view S).n why (sym j.answers ∙ e)))
+      sym (ap (λ o. bring_unless o (meaning (view S)) workspace) (first ∙ unless_refused (first_met (table_checks S (length workspace))) (view S).n why (sym e ∙ j.answers)))
 
   module _ (end : ℕ) (e : answer ≡ returned end) (room : length before ≡ room_most) where
-    told : (first_met (table_checks S (length workspace)) ≡ none) × ((view S).n ≡ end)
-    told = unless_returned (first_met (table_checks S (length workspace))) (view S).n end (sym j.answers ∙ e)
+    told : (first_met (table_checks S (length workspace)) ≡ none) × (end ≡ (view S).n)
+    told = unless_returned (first_met (table_checks S (length workspace))) (view S).n end (sym e ∙ j.answers)
 
     unmet : NoneMet (checks S (length workspace))
     unmet = none_first (checks S (length workspace)) (first ∙ told.0)
@@ -67,5 +68,5 @@ module _ (S : Stored) (workspace : List ℕ) (w : wrong_workspace (length worksp
 
     pub judged_loads : hold workspace (slice 0 end after) ≡ load_stored S workspace
     judged_loads =
-        ap (hold workspace) (ap (λ n. slice 0 n after) (sym told.1) ∙ j.reads told.0 ∙ spelled)
+        ap (hold workspace) (ap (λ n. slice 0 n after) told.1 ∙ j.reads told.0 ∙ spelled)
         ∙ sym (load_returned S workspace unmet meant.meant meant.means)

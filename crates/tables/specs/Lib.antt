@@ -1,4 +1,3 @@
--- What the contracts of loading, writing and converting cite beside the definitions of stored tables.
+-- What the contracts of loading and writing cite beside the definitions of stored tables.
 pub mod Types
 pub mod Judging
-pub mod Converting

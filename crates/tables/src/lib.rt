@@ -1,25 +1,20 @@
-// Loading a stored table, writing one and converting one.
-mod converting;
+// Loading a stored table and writing one.
+pub mod judging;
 
 ghost use Rattle.std.specs.Prelude.{◌≡◌};
 ghost use Rattle.words.specs.Types.{brought_of};
 ghost use Rattle.storage.specs.Load.{load};
 ghost use Rattle.storage.specs.Write.{write};
-ghost use Rattle.storage.specs.Convert.{convert};
 ghost use Rattle.tables.specs.Types.{written_of};
 
-use converting::convert_judged;
 use judging::judge;
 use records::Form;
 use records::links::ROOM;
 use terms::is_term;
 use transcription::writing::put_table;
-use words::Word;
 use words::refusal::Refusal;
 use words::result::Result;
 use words::workspace::{hold, wrong_workspace};
-
-pub mod judging;
 
 // Puts the term that a table means into a workspace, with zeros after it. A refusal changes nothing: the words stand in an array of their own until every
 // check has passed.
@@ -30,7 +25,7 @@ pub fn load(table: &[u32], workspace: &mut [u32]) -> Result
         return Result::Refused(Refusal::WrongWorkspace);
     }
     let mut words = [0u32; ROOM];
-    match judge(table, Form::told(table), workspace.len(), &mut words) {
+    match judge(table, Form::One, workspace.len(), &mut words) {
         Result::Refused(refusal) => Result::Refused(refusal),
         Result::Returned(end) => hold(&words, 0, end, workspace),
     }
@@ -52,17 +47,4 @@ pub fn write(workspace: &[u32], length: usize, table: &mut [u32]) -> Result
     }
     put_table(&workspace[..length], table);
     Result::Returned(length)
-}
-
-// Puts a table in the other form, with its records in their old order, and returns their number. A refusal changes nothing. Judged for the longest workspace, no
-// table is too long.
-pub fn convert(table: &[u32], output: &mut [u32]) -> Result
-    ensures { written_of result output.new ≡ convert table.now output.old }
-{
-    let form = Form::told(table);
-    let mut words = [0u32; ROOM];
-    match judge(table, form, Word::WORKSPACE_MOST, &mut words) {
-        Result::Refused(refusal) => Result::Refused(refusal),
-        Result::Returned(n) => convert_judged(table, form, n, output),
-    }
 }

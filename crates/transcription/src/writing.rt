@@ -73,9 +73,8 @@ fn put_records(ws: &[u32], table: &mut [u32])
         if top == LEVELS {
             return;
         }
-        let items = Word(ws[i]).arity();
-        entry(ws, i, levels[top] - 1).put(table, Form::One, i + 1, items);
-        top = descend(&mut levels, top, items);
+        entry(ws, i, levels[top] - 1).put(table, Form::One, i + 1);
+        top = descend(&mut levels, top, Word(ws[i]).arity());
         i += 1;
     }
 }

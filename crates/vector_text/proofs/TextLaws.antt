@@ -40,9 +40,9 @@ module _ (text : List ℕ) (from value i : ℕ) where
     unfolding digits
     digits-stop h = rw (drop-cons text i 0 inside, ← is, le-leb no_digit d h)
 
-    pub digits-over : d < no_digit → number_most < value → digits from value i (drop i text) ≡ number_read value from i
+    pub digits_over : d < no_digit → number_most < value → digits from value i (drop i text) ≡ number_read value from i
     unfolding digits
-    digits-over h over = rw (drop-cons text i 0 inside, ← is, lt-leb no_digit d h, lt-ltb number_most value over)
+    digits_over h over = rw (drop-cons text i 0 inside, ← is, lt-leb no_digit d h, lt-ltb number_most value over)
 
     pub digits-next : d < no_digit → value ≤ number_most → digits from value i (drop i text) ≡ digits from (value * 10 + d) (i + 1) (drop (i + 1) text)
     unfolding digits

@@ -14,9 +14,9 @@ use Rattle.vectors.specs.declared.vector.Tally.{Tally}
 
 -- A line's end.
 module _ (text : List ℕ) (i : ℕ) where
-  pub end-over : length text ≤ i → end_from i (drop i text) ≡ i
+  pub end_over : length text ≤ i → end_from i (drop i text) ≡ i
   unfolding end_from
-  end-over over = rw (drop_of_length-le text over)
+  end_over over = rw (drop_of_length-le text over)
 
   module _ (inside : i < length text) where
     pub end_here : get_or text i 0 ≡ newline → end_from i (drop i text) ≡ i

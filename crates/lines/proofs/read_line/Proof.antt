@@ -16,7 +16,7 @@ use Rattle.calculus.specs.Workspace.{wrong_workspace}
 use Rattle.notation.proofs.ReadingLaws.{reading_exact}
 use Rattle.calculus.specs.Bringing.{hold}
 use Rattle.terms.specs.IsTerm.{is_term}
-use Rattle.lines.proofs.FoundLaws.{read_long, read_none, inside, read_free, read-over, read_left}
+use Rattle.lines.proofs.FoundLaws.{read_long, read_none, inside, read_free, read_over, read_left}
 use Rattle.lines.proofs.read_line.Statement.{statement}
 use Rattle.lines.proofs.read_line.Tie as tie
 
@@ -88,7 +88,7 @@ returns-3 : tie.Need-returns-3
 returns-3 c = let a = c.before.before.before.before.before in read_free (line a) (workspace a) (fits a) (short a) (out a) (at a) (full a) (found a) (part a ∙ sym c.before.is-term.ensures ∙ not-true _ c.if3.true)
 
 returns-4 : tie.Need-returns-4
-returns-4 c = let a = c.before.before.before.before.before.before in read-over (line a) (workspace a) (fits a) (short a) (out a) (at a) (full a) (found a) (tested c.before) (omega arith)
+returns-4 c = let a = c.before.before.before.before.before.before in read_over (line a) (workspace a) (fits a) (short a) (out a) (at a) (full a) (found a) (tested c.before) (omega arith)
 
 hold-requires : tie.Need-hold-requires
 hold-requires c κs =

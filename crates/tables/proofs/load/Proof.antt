@@ -1,17 +1,14 @@
--- `load` meets its contract, in the form that the first word tells: a refusal is answered, and words that were read are put into the workspace.
+-- `load` meets its contract: a refusal is answered, and words that were read are put into the workspace.
 use Prim.Native.Nat.{ℕ}
-use mathlib.Core.Path.{◌≡◌, sym, ap, ◌∙◌}
+use mathlib.Core.Path.{◌≡◌, refl, sym, ap, ◌∙◌}
 use mathlib.Core.Bool.{false}
-use mathlib.Core.List.{List}
 use lib.ListN.{length, length-replicate}
 use borrow.Author.Rules.{rules}
 use Rattle.calculus.specs.Workspace.{wrong_workspace}
 use Rattle.words.specs.Types.{result_of}
-use Rattle.storage.specs.Load.{load_stored, load}
-use Rattle.records.specs.declared.Form.{Form}
+use Rattle.storage.specs.Records.{in_form1}
 use Rattle.records.specs.Counting.{room_most}
-use Rattle.records.specs.Types.{form_of, stored}
-use Rattle.storage.specs.Records.{told}
+use Rattle.storage.specs.Load.{load_stored}
 use Rattle.tables.proofs.LoadCode.{judged_refuses, judged_fits, judged_loads}
 use Rattle.tables.proofs.load.Statement.{statement}
 use Rattle.tables.proofs.load.Tie as tie
@@ -19,36 +16,28 @@ use Rattle.tables.proofs.load.Tie as tie
 workspace-passed : (c : tie.Else1) → wrong_workspace (length c.before.before.before.before.args.workspace.now) ≡ false
 workspace-passed c = sym c.before.wrong-workspace.ensures ∙ c.if1.false
 
-as-told : (form : Form) (table workspace : List ℕ) → form_of form ≡ told table → load_stored (stored form table) workspace ≡ load table workspace
-as-told form table workspace e = ap (λ F. load_stored (record { form = F; words = table }) workspace) e
-
 returns : tie.Need-returns
 unfolding load_stored
 returns c = rw (← c.before.wrong-workspace.ensures, c.if1.true)
 
+judge-requires : tie.Need-judge-requires
+judge-requires c κs = refl
+
 hold-requires : tie.Need-hold-requires
 hold-requires c κs =
-    let judged = c.before.before.before.before.before in
-    let form = judged.before.before in
-    let start = form.before.before.before.before.before.args in
-    judged_fits (stored form.told.result start.table.now) start.workspace.now (workspace-passed form.before) judged.judge.ensures _ (ap result_of c.before.before.before.end.given.1) (length-replicate {A = ℕ} room_most 0)
+    let start = c.before.before.before.before.before.before.before.before.before.before.before.args in
+    judged_fits (in_form1 start.table.now) start.workspace.now (workspace-passed c.before.before.before.before.before.before.before) c.before.before.before.before.before.judge.ensures _ (ap result_of c.before.before.before.end.given.1) (length-replicate {A = ℕ} room_most 0)
 
 returns-2 : tie.Need-returns-2
 returns-2 c =
-    let judged = c.before.before.before in
-    let form = judged.before.before in
-    let start = form.before.before.before.before.before.args in
-    judged_refuses (stored form.told.result start.table.now) start.workspace.now (workspace-passed form.before) judged.judge.ensures _ (ap result_of c.before.refusal.given.1)
-    ∙ as-told form.told.result start.table.now start.workspace.now form.told.ensures
+    let start = c.before.before.before.before.before.before.before.before.before.args in
+    judged_refuses (in_form1 start.table.now) start.workspace.now (workspace-passed c.before.before.before.before.before) c.before.before.before.judge.ensures _ (ap result_of c.before.refusal.given.1)
 
 returns-3 : tie.Need-returns-3
 returns-3 c =
-    let judged = c.before.before.before.before.before.before.before.before in
-    let form = judged.before.before in
-    let start = form.before.before.before.before.before.args in
+    let start = c.before.before.before.before.before.before.before.before.before.before.before.before.before.before.args in
     c.before.before.hold.ensures
-    ∙ judged_loads (stored form.told.result start.table.now) start.workspace.now (workspace-passed form.before) judged.judge.ensures _ (ap result_of c.before.before.before.before.before.before.end.given.1) (length-replicate {A = ℕ} room_most 0)
-    ∙ as-told form.told.result start.table.now start.workspace.now form.told.ensures
+    ∙ judged_loads (in_form1 start.table.now) start.workspace.now (workspace-passed c.before.before.before.before.before.before.before.before.before.before) c.before.before.before.before.before.before.before.before.judge.ensures _ (ap result_of c.before.before.before.before.before.before.end.given.1) (length-replicate {A = ℕ} room_most 0)
 
 pub load_spec : {M : Type 1} → statement M
 load_spec =
@@ -56,8 +45,7 @@ load_spec =
     (tie.spec
     (λ c κs. search rules)
     returns
-    (λ c κs. search rules)
-    (λ c κs. search rules)
+    judge-requires
     (λ c. search rules)
     (λ c. search rules)
     (λ c. search rules)

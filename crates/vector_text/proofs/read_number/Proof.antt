@@ -5,7 +5,7 @@ use native.Mathlib.Omega.{arith}
 use lib.ListN.{length, drop}
 use borrow.Author.Tests.{lt-ltb}
 use Rattle.vector_text.specs.Text.{digits, number_at}
-use Rattle.vector_text.proofs.TextLaws.{digits-end, digits-stop, digits-over, digits-next, number_of}
+use Rattle.vector_text.proofs.TextLaws.{digits-end, digits-stop, digits_over, digits-next, number_of}
 use borrow.Author.Rules.{rules}
 use Rattle.vector_text.proofs.read_number.Statement.{statement}
 use Rattle.vector_text.proofs.read_number.Tie as tie
@@ -45,7 +45,7 @@ number-read-requires-3 : tie.Need-number-read-requires-3 invariant-loop decrease
 number-read-requires-3 c κs = search rules
 
 returns-3 : tie.Need-returns-3 invariant-loop decreases-loop
-returns-3 c = c.number-read3.ensures ∙ sym (digits-over _ _ _ _ c.before.before.before.before.before.loop-test.true c.before.before.before.digit-of.result c.before.before.before.digit-of.ensures c.before.before.if2.false c.before.if3.true) ∙ c.before.before.before.before.before.before.loop.invariant.2 ∙ sym (number_of _ _ _ c.before.before.before.before.before.before.before.before.if1.false c.before.before.before.before.before.before.before.past-space.ensures.0)
+returns-3 c = c.number-read3.ensures ∙ sym (digits_over _ _ _ _ c.before.before.before.before.before.loop-test.true c.before.before.before.digit-of.result c.before.before.before.digit-of.ensures c.before.before.if2.false c.before.if3.true) ∙ c.before.before.before.before.before.before.loop.invariant.2 ∙ sym (number_of _ _ _ c.before.before.before.before.before.before.before.before.if1.false c.before.before.before.before.before.before.before.past-space.ensures.0)
 
 mul-value : tie.Need-overflow-mul-value invariant-loop decreases-loop
 mul-value c = search rules

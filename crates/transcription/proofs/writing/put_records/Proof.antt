@@ -38,13 +38,11 @@ lowest : (c : tie.Else1 invariant-loop decreases-loop) → 1 ≤ c.before.before
 lowest c = omega (arith, c.before.before.loop.invariant.levels_left, c.before.before.before.before.before.before.before.before.requires.0)
 
 entry-requires : tie.Need-entry-requires invariant-loop decreases-loop
-entry-requires c κs =
-    let turn = c.before.before in
-    (turn.before.loop-test.true, turn.before.before.before.before.before.before.before.before.requires.0)
+entry-requires c κs = (c.before.loop-test.true, c.before.before.before.before.before.before.before.before.requires.0)
 
 put-requires : tie.Need-put-requires invariant-loop decreases-loop
 put-requires c κs =
-    let l = c.before.before.before.before.before.before in
+    let l = c.before.before.before.before in
     let start = l.before.before.before.before.before.before in
     let rest = drop l.loop.i start.args.ws.now in
     let short = start.requires.0 in
@@ -55,7 +53,10 @@ put-requires c κs =
     )
 
 slice-aggregate-descend : tie.Need-slice-aggregate-descend invariant-loop decreases-loop
-slice-aggregate-descend c = sym c.before.before.before.before.before.before.before.before.before.before.loop.invariant.levels_length
+slice-aggregate-descend c = sym c.before.before.before.before.before.before.before.before.loop.invariant.levels_length
+
+shared-slice-read-t23 : tie.Need-shared-slice-read-t23 invariant-loop decreases-loop
+shared-slice-read-t23 c = c.before.before.before.before.before.before.before.before.loop-test.true
 
 descend-requires : tie.Need-descend-requires invariant-loop decreases-loop
 descend-requires c κs =
@@ -69,12 +70,12 @@ descend-requires c κs =
 loop-again : tie.Need-loop-preserved invariant-loop decreases-loop
 loop-again c =
     let down = c.before.descend in
-    let put = c.before.before.before.before.before.put in
-    let read = c.before.before.before.before.before.before.before.entry in
-    let told = c.before.before.before.before.before.before.before.before.arity in
+    let w = c.before.before.arity.ensures in
     let turn = c.before.before.before.before.before.before.before.before.before.before in
+    let put = c.before.before.before.before.before.before.before.put in
+    let read = c.before.before.before.before.before.before.before.before.before.entry in
     putting_more _ _ _ _ _ _ turn.before.loop-test.true (inside turn) turn.before.before.loop.invariant _ _ _ _ read.ensures put.ensures (lowest turn)
-    (rw (← told.ensures) down.ensures)
+    (rw (← w) down.ensures)
 
 returns-2 : tie.Need-returns-2 invariant-loop decreases-loop
 returns-2 c = putting_end _ _ _ _ _ _ c.loop-test.false c.before.loop.invariant
@@ -90,16 +91,16 @@ put-records-spec =
     loop-holds
     (λ c. c.before.before.loop.invariant.table_length)
     returns
-    (λ c. search rules)
-    (λ c. c.before.before.loop-test.true)
-    (λ c κs. search rules)
-    (λ c. omega (arith, inside c.before.before))
-    (λ c. inside c.before.before)
-    (λ c. item c.before.before)
+    (λ c. omega (arith, inside c))
+    (λ c. inside c)
+    (λ c. item c)
     entry-requires
     (λ c. omega arith)
     put-requires
     slice-aggregate-descend
+    (λ c. omega arith)
+    shared-slice-read-t23
+    (λ c κs. search rules)
     descend-requires
     (λ c. omega arith)
     (λ c. omega arith)

@@ -4,7 +4,7 @@ use mathlib.Core.Path.{◌≡◌, refl, sym, ◌∙◌}
 use native.Mathlib.Omega.{arith}
 use lib.ListN.{length, drop}
 use Rattle.vectors.specs.Vector.{end_from, line_end}
-use Rattle.vectors.proofs.TallyLaws.{end-over, end_here, end-next}
+use Rattle.vectors.proofs.TallyLaws.{end_over, end_here, end-next}
 use borrow.Author.Rules.{rules}
 use Rattle.vectors.proofs.vector.line_end.Statement.{statement}
 use Rattle.vectors.proofs.vector.line_end.Tie as tie
@@ -34,7 +34,7 @@ loop-again : tie.Need-loop-preserved invariant-loop decreases-loop
 loop-again c = (omega arith, omega arith, sym (end-next _ _ c.before.before.loop-test.true c.if1.false) ∙ c.before.before.before.loop.invariant.2)
 
 returns-2 : tie.Need-returns-2 invariant-loop decreases-loop
-returns-2 c = (sym (end-over _ _ c.loop-test.false) ∙ c.before.loop.invariant.2, omega arith, omega arith)
+returns-2 c = (sym (end_over _ _ c.loop-test.false) ∙ c.before.loop.invariant.2, omega arith, omega arith)
 
 pub line-end-spec : {M : Type 1} → statement M
 line-end-spec =
