@@ -26,6 +26,7 @@ settled (c ∷ cs) = go c.1 refl (settled cs)
     go false e (inr s) = inr (e, s)
 
 pub first-met : (k : Refusal) (cs : List (Refusal × Bool)) → FirstMet k cs → first_met cs ≡ some k
+first-met k [] x = elim x [ ]
 first-met k (c ∷ cs) (inl h) = rw h.0 (ap some h.1)
 first-met k (c ∷ cs) (inr h) = rw h.0 (first-met k cs h.1)
 
