@@ -1,7 +1,7 @@
 -- A record's value and number of children, and the payload of its word: which fit, and that either is found again in the other.
 use Prim.Native.Nat.{ℕ, zero, suc, ◌≤◌, ◌<◌}
 use mathlib.Core.Path.{◌≡◌, refl, sym, ◌∙◌}
-use mathlib.Core.Bool.{Bool, true, false, false≢true, ◌&&◌, and_true, and-eq-true_iff}
+use mathlib.Core.Bool.{Bool, true, false, false≢true, ◌&&◌, and-true, and-eq-true_iff}
 use native.Mathlib.Decide.{dec_le}
 use native.Mathlib.Omega.{arith}
 use lib.Dec.{leb, eqb}
@@ -34,13 +34,13 @@ case_number p = go (leb p branch_limit) refl
 
 value_and_number : (k p : ℕ) → (value_fits k (value_of k p) && numberFits k (following k p)) ≡ payload_fits k p
 unfolding value_fits payload_fits value_of following
-value_and_number zero p = and_true (leb p index_limit)
-value_and_number (suc zero) p = and_true (eqb p 0)
-value_and_number (suc (suc zero)) p = and_true (eqb p 0)
+value_and_number zero p = and-true (leb p index_limit)
+value_and_number (suc zero) p = and-true (eqb p 0)
+value_and_number (suc (suc zero)) p = and-true (eqb p 0)
 value_and_number (suc (suc (suc zero))) p = refl
 value_and_number (suc (suc (suc (suc zero)))) p = case_number p
-value_and_number (suc (suc (suc (suc (suc zero))))) p = and_true (is_pattern (tag_of p) (count_of p))
-value_and_number (suc (suc (suc (suc (suc (suc zero)))))) p = and_true (leb p numeral_limit)
+value_and_number (suc (suc (suc (suc (suc zero))))) p = and-true (is_pattern (tag_of p) (count_of p))
+value_and_number (suc (suc (suc (suc (suc (suc zero)))))) p = and-true (leb p numeral_limit)
 value_and_number (suc (suc (suc (suc (suc (suc (suc k))))))) p =
     let l : numeral_kind < suc (suc (suc (suc (suc (suc (suc k)))))) = omega arith in
     rw (no_value _ _ l) (sym (no_kind _ p l))

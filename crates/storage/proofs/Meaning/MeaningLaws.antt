@@ -97,21 +97,21 @@ module _ {T : Table} (L : Linked T) where
       let enough = less T i _ b k.1 (omega arith) (L.first_ahead i k.0 k.1) in
       if-true (is_record T i) _ _ (record_is_record T i k.0 k.1)
       ∙ if-false (eqb (T.at i).kind case_kind) _ _ (ne_eqb (T.at i).kind case_kind (λ e. (node-plain n).no-case (sym k.2 ∙ e)))
-      ∙ rw (meant-complete m b enough.0 enough.1, k.2) (node_made n)
+      ∙ rw (meant-complete {s = terms} m b enough.0 enough.1, k.2) (node_made n)
   meant-complete {i = i} (case_of k z m ms) (suc b) l h =
       let r = term-inside m in
       let later = ahead_later T i _ (L.first_ahead i k.0 k.1) r.0 in
       let enough = less T (T.at i).first _ b r.1 (omega arith) (L.next_ahead (T.at i).first r.0 r.1) in
       if-true (is_record T i) _ _ (record_is_record T i k.0 k.1)
       ∙ if-true (eqb (T.at i).kind case_kind) _ _ (eq-eqb _ _ k.2)
-      ∙ rw (z, meant-complete m b enough.0 (omega arith), meant-complete ms b enough.0 enough.1)
+      ∙ rw (z, meant-complete {s = term} m b enough.0 (omega arith), meant-complete {s = branches} ms b enough.0 enough.1)
   meant-complete no_term (suc b) l h = refl
   meant-complete {i = i} (a_term m ms) (suc b) l h =
       let r = term-inside m in
       let here = far-chain T.n i (suc b) r.0 h in
       let enough = less T i _ b r.1 (omega arith) (L.next_ahead i r.0 r.1) in
       if-false (eqb i 0) _ _ (ne_eqb i 0 (λ z. omega arith))
-      ∙ rw (meant-complete m b enough.0 (omega arith), meant-complete ms b enough.0 enough.1)
+      ∙ rw (meant-complete {s = term} m b enough.0 (omega arith), meant-complete {s = terms} ms b enough.0 enough.1)
   meant-complete no_branch (suc b) l h = refl
   meant-complete {i = i} (a_branch k m ms) (suc b) l h =
       let here = far-chain T.n i (suc b) k.0 h in
@@ -119,7 +119,7 @@ module _ {T : Table} (L : Linked T) where
       if-false (eqb i 0) _ _ (ne_eqb i 0 (λ z. omega arith))
       ∙ if-true (is_record T i && eqb (T.at i).kind branch_kind) _ _
       ((and-eq-true_iff (is_record T i) (eqb (T.at i).kind branch_kind)).1 (record_is_record T i k.0 k.1, eq-eqb _ _ k.2))
-      ∙ rw (meant-complete m b enough.0 enough.1, meant-complete ms b enough.0 (less T i _ b k.1 (omega arith) (L.next_ahead i k.0 k.1)).1)
+      ∙ rw (meant-complete {s = terms} m b enough.0 enough.1, meant-complete {s = branches} ms b enough.0 (less T i _ b k.1 (omega arith) (L.next_ahead i k.0 k.1)).1)
 
 pub meaning-complete : MeaningComplete
 unfolding meaning
