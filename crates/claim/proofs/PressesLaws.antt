@@ -9,22 +9,22 @@ use Rattle.calculus.specs.Rounds.{Shown, shows, with_spent, at_once, after, roun
 use Rattle.claim.specs.Answer.{Answer, Memory, Call, Pressed}
 use Rattle.claim.specs.Press.{press}
 use Rattle.claim.specs.Presses.{final, history, spent_of, spent_in, note_budget, budget_from, budget_in_one_go, note_shown, shown_from, last_shown}
-use Rattle.claim.specs.Claim.{Contains, Reply, reply_of, Progress, replies_to, EachLeaves, InOneGo}
+use Rattle.claim.specs.Claim.{Contains, Reply, reply_of, Progress, reply_to, advance, replies_to, EachLeaves, InOneGo}
 use Rattle.calculus.proofs.RoundsLaws.{Walk, here, walked, rounds_walk}
 use Rattle.claim.proofs.PressLaws.{Stands, Answered, turned_down, made, answered, concluded, stands_first, stands_concluded, stands_next, reply_answered, leaves_answered}
 
 pub replies_answered : {C : ℕ} {s : Progress} {m : Memory} → Stands C s m → (calls : List Call)
     → map (λ e. reply_of e.1) (history m calls) ≡ replies_to C s calls
 replies_answered h [] = refl
-replies_answered h (c ∷ cs) =
+replies_answered {C} {s} h (c ∷ cs) =
     let a = answered h c in
-    ap₂ ◌∷◌ (reply_answered a) (replies_answered (stands_next h a) cs)
+    ap₂ ◌∷◌ (reply_answered a) (replies_answered {s = advance C s c (reply_to C s c)} (stands_next h a) cs)
 
 pub each_leaves : {C : ℕ} {s : Progress} {m : Memory} → Stands C s m → (calls : List Call) → EachLeaves m calls
 each_leaves h [] = tt
-each_leaves h (c ∷ cs) =
+each_leaves {C} {s} h (c ∷ cs) =
     let a = answered h c in
-    (leaves_answered a, each_leaves (stands_next h a) cs)
+    (leaves_answered a, each_leaves {s = advance C s c (reply_to C s c)} (stands_next h a) cs)
 
 -- Where a list gets from the first terms t and u, by what it spent, the budget in one go, the last answer and the memory it leaves: nowhere if
 -- every press was refused, and otherwise where rounds in one go get.
@@ -61,11 +61,11 @@ module _ {C : ℕ} {t u : Term} {start : Memory} (left_holds : Contains C t star
       })
 
   -- A press after that.
-  reached_answered : {spent : ℕ} {found : Option ℕ} {last : Option Shown} {m : Memory} {c : Call} {r : Reply} {p : Pressed}
-      → Reached C t u start spent found last m → (here : At C t u start spent m) → Answered C here.standing m c r p
+  reached_answered : {spent : ℕ} {found : Option ℕ} {last : Option Shown} {m : Memory} → Reached C t u start spent found last m
+      → (here : At C t u start spent m) → {c : Call} {r : Reply} {p : Pressed} → Answered C here.standing m c r p
       → Reached C t u start (spent + spent_of p.answer) (note_budget spent found c p.answer) (note_shown last p.answer) p.memory
   reached_answered {spent} h a (turned_down why) = rw (add-zero spent) h
-  reached_answered {spent} {m = m} {c = c} h a (made e) =
+  reached_answered {spent} h a {c} (made e) =
       let s = a.standing in
       let o = rounds C c.budget s.left s.right in
       let whole : after spent o ≡ rounds C (spent + c.budget) t u = sym (rounds_walk at_once a.walk c.budget) in
@@ -83,7 +83,7 @@ module _ {C : ℕ} {t u : Term} {start : Memory} (left_holds : Contains C t star
   reached_from {spent} {m = m} h (c ∷ cs) =
       let a = at h in
       rw (← add_assoc spent (spent_of (press m c).answer) (spent_in (history (press m c).memory cs)))
-      (reached_from (reached_answered h a (answered a.stands c)) cs)
+      (reached_from {spent = spent + spent_of (press m c).answer} (reached_answered h a (answered a.stands c)) cs)
 
   -- Where a list gets.
   pub reached_by : (calls : List Call)
