@@ -1,5 +1,5 @@
 -- The reader finds the term of a line: bytes that spell an item put its words in front of what is read behind them.
-use Prim.Native.Nat.{ℕ, suc, ◌+◌, ◌*◌, ◌≤◌}
+use Prim.Native.Nat.{ℕ, zero, suc, ◌+◌, ◌*◌, ◌≤◌}
 use mathlib.Core.Path.{◌≡◌, refl, sym, ◌∙◌, ap}
 use mathlib.Core.List.{List, [], ◌∷◌, ◌++◌, append_assoc, append-nil}
 use mathlib.Core.Option.{Option, some, none, bind}
@@ -25,6 +25,7 @@ Fits anywhere n = Unit {0}
 Fits last n = n ≡ 0
 
 pub mul_one : (d p : ℕ) → 1 ≤ d → p ≤ d * p
+mul_one zero p h = elim h [ ]
 mul_one (suc d) p h = omega arith
 
 scan-digits : {ds : List ℕ} {p v : ℕ} (d : ℕ) (rest : List ℕ) {n : ℕ} {ns ws : List ℕ} → d ≤ 9 → p ≤ index_limit → Digits ds p v

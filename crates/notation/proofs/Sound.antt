@@ -75,8 +75,8 @@ apply_suc (suc n) ws = ap (λ (vs : List ℕ). word application_kind 0 ∷ vs) (
 gather : {p : Place} {bs cs ns ws : List ℕ} {n : ℕ} {f : Term} → Spells items p bs f → Fits p n → After cs n ns ws → Whole (bs ++ cs) ns (apply n (words f ++ ws))
 gather s h nothing_more = whole (as_last s) nothing_more
 gather s h (closed r) = whole (as_last s) (closed r)
-gather {p = anywhere} {bs = bs} {f = f} s h (more {bs = cs} {cs = ds} {ws = ws} {n = n} {a = a} u g r) =
-    rw (apply_suc n (words f ++ (words a ++ ws)), ← append_assoc (words f) (words a) ws, ← append_assoc bs (space ∷ cs) ds) (gather (applied s u) g r)
+gather {p = anywhere} {bs = bs} {f = f} s h (more {p = p} {bs = cs} {cs = ds} {ws = ws} {n = n} {a = a} u g r) =
+    rw (apply_suc n (words f ++ (words a ++ ws)), ← append_assoc (words f) (words a) ws, ← append_assoc bs (space ∷ cs) ds) (gather {p = p} (applied s u) g r)
 gather {p = last} s h (more u g r) = absurd (omega arith)
 
 started_whole : {bs ns ws : List ℕ} {n : ℕ} → Started bs n ns ws → Whole bs ns (apply n ws)
