@@ -1,4 +1,6 @@
 // Terms encoded in the binary lambda calculus: imported into a workspace, and exported from one.
+#![tactic(auto)]
+
 mod combinator;
 mod putting;
 mod scan;

@@ -10,7 +10,7 @@ use words::Word;
 use words::slices::store;
 
 // The bits end early or are left over, or they are a term of so many words.
-#[derive(Drop)]
+#[derive(Clone, Copy)]
 pub enum Scanned {
     Wrong,
     Whole(usize),

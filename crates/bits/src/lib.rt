@@ -1,4 +1,6 @@
 // Bits in lent bytes, highest first in each byte: read for the words of an encoding, and put.
+#![tactic(auto)]
+
 pub mod reading;
 pub mod writing;
 pub mod zeros;

@@ -13,7 +13,7 @@ const BYTE_BASE: u64 = 256;
 const WINDOW_BYTES: usize = 8;
 
 // What bits start with: nothing, since they end early; one of the two words that have no index; or a variable's.
-#[derive(Drop)]
+#[derive(Clone, Copy)]
 pub enum Token {
     Early,
     Abstraction,

@@ -1,5 +1,7 @@
 // The unit's calls for C: only numbers, slices of numbers and lent numbers are passed. A call returns 0, or the number of its refusal, which changes nothing that
 // was lent; showing returns the side that is shown.
+#![tactic(auto)]
+
 ghost use Rattle.std.specs.Prelude.{◌≡◌, ◌≤◌};
 ghost use Rattle.calculus.specs.Words.{workspace_most};
 ghost use Rattle.claim.specs.State.{fresh};

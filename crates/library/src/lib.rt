@@ -1,4 +1,6 @@
 // The library of numerals in masked memory: the words of each numeral, one entry after the other.
+#![tactic(auto)]
+
 ghost use Rattle.std.specs.Prelude.{◌≡◌, ◌≤◌, ◌+◌, length};
 ghost use Rattle.calculus.specs.Words.{words, size};
 ghost use Rattle.calculus.specs.Accepted.{numeral_limit};

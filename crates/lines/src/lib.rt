@@ -1,4 +1,6 @@
 // Reading a line: a term typed in the notation, brought into a workspace.
+#![tactic(auto)]
+
 ghost use Rattle.std.specs.Prelude.{◌≡◌};
 ghost use Rattle.words.specs.Types.{brought_of};
 ghost use Rattle.notation.specs.Reading.{read_line};

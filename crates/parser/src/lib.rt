@@ -1,5 +1,7 @@
 // The words of the term of a line, found in one pass over its bytes from the last to the first. They fill an array from its end, so that they come out in
 // prefix order; the applications of a term are its spaces, and all of these are behind the place where its first item starts.
+#![tactic(auto)]
+
 ghost use Rattle.std.specs.Prelude.{◌≡◌, List, ◌++◌, ℕ, ◌≤◌, ◌<◌, ◌-◌, length, take, drop};
 ghost use Rattle.words.specs.Room.{Room};
 ghost use Rattle.notation.specs.Grammar.{space, opening, closing, backslash, line_most};
@@ -26,7 +28,7 @@ pub const ROOM: usize = LINE_MOST + 1;
 // What is known behind a byte. The words read so far are those of `out` from `at` on; `stack` from `top` on has the spaces of the terms around this one,
 // which has `count`. One more digit in front is worth `power`: 0 where an item starts, 1 where one has to end, and more within a number, whose value so far
 // is `value`.
-#[derive(Drop)]
+#[derive(Clone, Copy)]
 pub struct Scan {
     pub at: usize,
     pub top: usize,
@@ -36,14 +38,14 @@ pub struct Scan {
 }
 
 // What a byte leads to: outside the grammar, or on.
-#[derive(Drop)]
+#[derive(Clone, Copy)]
 pub enum Step {
     Outside,
     On(Scan),
 }
 
 // What a line comes to: outside the grammar, or the words from a position on.
-#[derive(Drop)]
+#[derive(Clone, Copy)]
 pub enum Parsed {
     Outside,
     From(usize),

@@ -6,14 +6,14 @@ use crate::state::Session;
 use rounds::Shown;
 use words::refusal::Refusal;
 
-#[derive(Drop)]
+#[derive(Clone, Copy)]
 pub enum Answer {
     Refused(Refusal),
     Shown(Shown),
 }
 
 // The answer with the session as the press leaves it.
-#[derive(Drop)]
+#[derive(Clone, Copy)]
 pub struct Pressed {
     pub answer: Answer,
     pub session: Session,

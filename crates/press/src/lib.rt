@@ -1,4 +1,6 @@
 // A press on two workspaces.
+#![tactic(auto)]
+
 ghost use Rattle.std.specs.Prelude.{◌≡◌, ◌+◌, ◌≤◌, length};
 ghost use Rattle.calculus.specs.Rounds.{rounds};
 ghost use Rattle.redex.specs.Held.{held};

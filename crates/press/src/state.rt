@@ -6,7 +6,7 @@ ghost use Rattle.press.specs.Types.{session_of};
 use turn::Verdict;
 
 // Total spent, both lengths and the last verdict.
-#[derive(Drop)]
+#[derive(Clone, Copy)]
 pub struct Session {
     pub total: u32,
     pub left: usize,

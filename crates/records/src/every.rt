@@ -9,7 +9,7 @@ use crate::links::links_fit;
 use crate::values::value_fits;
 use crate::{Form, count};
 
-#[derive(Drop)]
+#[derive(Clone, Copy)]
 pub enum Aspect {
     Value,
     Links,

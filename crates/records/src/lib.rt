@@ -1,4 +1,6 @@
 // Records of a stored table by value ("The stored table"), the forms in which their words are kept, and the refusals that are about header and records.
+#![tactic(auto)]
+
 mod every;
 
 ghost use Rattle.std.specs.Prelude.{◌≡◌, ◌*◌, ◌^◌, ◌<◌, length, get_or};
@@ -17,7 +19,7 @@ pub mod links;
 pub mod payload;
 pub mod values;
 
-#[derive(Drop)]
+#[derive(Clone, Copy)]
 pub enum Form {
     One,
 }
@@ -59,13 +61,13 @@ impl Form {
 }
 
 // How many children a record declares, if it does.
-#[derive(Drop)]
+#[derive(Clone, Copy)]
 pub enum Declared {
     Nothing,
     Children(usize),
 }
 
-#[derive(Drop)]
+#[derive(Clone, Copy)]
 pub struct Record {
     pub kind: u32,
     pub value: u32,

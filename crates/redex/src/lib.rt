@@ -1,4 +1,6 @@
 // A redex taken apart, and the plan of its contraction: its rule, what the rule puts, and the length of the next term.
+#![tactic(auto)]
+
 ghost use Rattle.std.specs.Prelude.{◌≡◌, ◌≤◌, ◌<◌, length};
 ghost use Rattle.calculus.specs.Words.{workspace_most};
 ghost use Rattle.words.specs.Room.{Room};
@@ -10,7 +12,7 @@ use words::{Word, extent, skip};
 
 // A body that arguments are put into: where it starts and the word that its rewriting stops at, the arguments up to `after` (which means nothing where
 // none is put for a word before `stop`) and their number.
-#[derive(Drop)]
+#[derive(Clone, Copy)]
 pub struct Body {
     pub start: usize,
     pub stop: usize,
@@ -20,7 +22,7 @@ pub struct Body {
 }
 
 // The rule by which a redex contracts, with what it puts: a body with its arguments, or the entry of a numeral.
-#[derive(Drop)]
+#[derive(Clone, Copy)]
 pub enum Rule {
     Beta(Body),
     Case(Body),
@@ -28,7 +30,7 @@ pub enum Rule {
 }
 
 // A redex found once: its rule, where it starts, where the words start that stay behind the contractum, and the length of the next term.
-#[derive(Drop)]
+#[derive(Clone, Copy)]
 pub struct Redex {
     pub rule: Rule,
     pub at: usize,
@@ -38,7 +40,7 @@ pub struct Redex {
 
 // What a search among the branches of a case finds: the body of the one that lists the tag, or that of the default, with the number of branches behind
 // it, or that there is none.
-#[derive(Drop)]
+#[derive(Clone, Copy)]
 pub enum Found {
     Nothing,
     Listed(usize, u32),

@@ -1,4 +1,6 @@
 // What the bytes ask ("The verdict program"): budget, C, and two tables, each behind its word count.
+#![tactic(auto)]
+
 ghost use Rattle.std.specs.Prelude.{◌≡◌, ◌≤◌, length};
 ghost use Rattle.request.specs.Request.{table_limit, input_most};
 ghost use Rattle.request.specs.Parse.{table_at, Parses};
@@ -21,21 +23,21 @@ const C: usize = WORD_BYTES;
 const LEFT: usize = 2 * WORD_BYTES;
 
 // Where a table stands in the bytes: the position of its first word, and its words.
-#[derive(Drop)]
+#[derive(Clone, Copy)]
 pub struct Table {
     pub at: usize,
     pub words: usize,
 }
 
 // The table behind a word count, if it may stand there.
-#[derive(Drop)]
+#[derive(Clone, Copy)]
 enum Found {
     Table(Table),
     Nothing,
 }
 
 // The request that bytes are, if they are one.
-#[derive(Drop)]
+#[derive(Clone, Copy)]
 pub enum Parsed {
     Request {
         budget: u32,

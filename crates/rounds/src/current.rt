@@ -7,7 +7,7 @@ use search::Plan;
 use turn::resume::before;
 
 // A side's term between two rounds: it has `length` words, and no redex starts before `from`.
-#[derive(Drop)]
+#[derive(Clone, Copy)]
 pub struct Current {
     pub length: usize,
     pub from: usize,

@@ -1,4 +1,6 @@
 // The rounds of a press, on two workspaces that hold terms.
+#![tactic(auto)]
+
 ghost use Rattle.std.specs.Prelude.{◌≡◌, length};
 ghost use Rattle.calculus.specs.Rounds.{shown_position, rounds};
 ghost use Rattle.turn.specs.Types.{verdict_of, comparison_of};
@@ -16,7 +18,7 @@ use words::Word;
 mod current;
 
 // What a press shows: the verdict, spent, both lengths and the position, where the terms differ with Different and otherwise 0.
-#[derive(Drop)]
+#[derive(Clone, Copy)]
 pub struct Shown {
     pub verdict: Verdict,
     pub spent: u32,

@@ -1,4 +1,6 @@
 // The search for the leftmost redex of the term in a workspace, and the plan of its contraction.
+#![tactic(auto)]
+
 mod ends;
 pub mod seen;
 
@@ -11,7 +13,7 @@ use redex::Redex;
 use seen::{Seen, plan_at};
 
 // What a term does next: nothing where it is normal, or the contraction of its leftmost redex.
-#[derive(Drop)]
+#[derive(Clone, Copy)]
 pub enum Plan {
     Normal,
     Contract(Redex),

@@ -13,7 +13,7 @@ use words::Word;
 use words::pattern::is_default;
 
 // What is seen at a position: nothing that contracts, a case that is stuck and whose ends inside are not known yet, or a redex with its plan.
-#[derive(Drop)]
+#[derive(Clone, Copy)]
 pub enum Seen {
     Nothing,
     Stuck,

@@ -1,4 +1,6 @@
 // A press on a session that is lent: each press renews the session in place.
+#![tactic(auto)]
+
 ghost use Rattle.std.specs.Prelude.{◌≡◌};
 ghost use Rattle.claim.specs.Press.{press};
 ghost use Rattle.press.specs.Types.{memory_of, call_of, pressed_of};

@@ -1,4 +1,6 @@
 // One contraction of the term in a workspace, as it was planned.
+#![tactic(auto)]
+
 mod tail;
 
 ghost use Rattle.words.specs.Placed.{Placed};

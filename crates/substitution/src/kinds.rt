@@ -9,7 +9,7 @@ use words::kind::Kind;
 
 // What stands for a word, the argument at a place or, where the place is the count of arguments, a word; how many items follow it, and how many binders
 // stand around these and not around the word.
-#[derive(Drop)]
+#[derive(Clone, Copy)]
 pub struct Visited {
     pub place: usize,
     pub word: Word,

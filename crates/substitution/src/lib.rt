@@ -1,4 +1,6 @@
 // Simultaneous substitution over lent words, and the one shift of free indices that it is made of ("Contraction").
+#![tactic(auto)]
+
 mod kinds;
 pub mod measure;
 

@@ -12,7 +12,7 @@ use walk::scope::{Scope, enter};
 use words::Word;
 
 // The end of a body, how often each argument stands for a word of it, and the binders around its last word.
-#[derive(Drop)]
+#[derive(Clone, Copy)]
 pub struct Measured {
     pub end: usize,
     pub occurs: [usize; PLACES],

@@ -1,4 +1,6 @@
 // Loading a stored table and writing one.
+#![tactic(auto)]
+
 pub mod judging;
 
 ghost use Rattle.std.specs.Prelude.{◌≡◌};

@@ -11,11 +11,11 @@ use words::payload::payload_fits;
 
 // So many terms, then so many branches whose tags rise, the first one at least `least`, all under so many binders: four numbers in one word, the terms
 // lowest.
-#[derive(Drop)]
+#[derive(Clone, Copy)]
 pub struct Frame(pub u32);
 
 // What a word comes to at a frame: it may not stand there, or it leads to the frame of what follows it.
-#[derive(Drop)]
+#[derive(Clone, Copy)]
 pub enum Entered {
     Nowhere,
     Inside(Frame),

@@ -1,4 +1,6 @@
 // Whether words are one whole accepted term, found by a scan from the left over frames: the check behind refusal 10.
+#![tactic(auto)]
+
 mod frame;
 
 ghost use Rattle.std.specs.Prelude.{◌≡◌, ◌≤◌, length};

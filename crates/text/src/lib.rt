@@ -1,4 +1,6 @@
 // Bytes and text for the programs: words in bytes, and numbers in base ten.
+#![tactic(auto)]
+
 ghost use Rattle.std.specs.Prelude.{◌≡◌};
 ghost use Rattle.text.specs.Bytes.{word_bytes};
 ghost use Rattle.text.specs.Decimal.{digits_most};

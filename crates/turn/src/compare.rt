@@ -5,7 +5,7 @@ ghost use Rattle.turn.specs.Compare.{Compares};
 ghost use Rattle.turn.specs.Types.{comparison_of};
 
 // Two terms are equal, or differ first at a word position, counted from 0.
-#[derive(Drop)]
+#[derive(Clone, Copy)]
 pub enum Comparison {
     Equal,
     Differ(usize),

@@ -1,4 +1,6 @@
 // One round: what two terms are answered at once, what each side would do otherwise, and what the round then comes to. Nothing of the terms is changed.
+#![tactic(auto)]
+
 ghost use Rattle.std.specs.Prelude.{◌≡◌, max, take};
 ghost use Rattle.calculus.specs.Rounds.{verdict_number, contractions, round, shown_position};
 ghost use Rattle.std.proofs.Math.Option.{none, get_or};
@@ -13,7 +15,7 @@ use search::Plan;
 pub mod compare;
 pub mod resume;
 
-#[derive(Drop)]
+#[derive(Clone, Copy)]
 pub enum Verdict {
     Same,
     Different,
@@ -35,21 +37,21 @@ impl Verdict {
 }
 
 // What a round comes to: it ends in a verdict, or makes so many contractions.
-#[derive(Drop)]
+#[derive(Clone, Copy)]
 pub enum Round {
     Ends(Verdict),
     Goes(u32),
 }
 
 // What two terms are answered before either is contracted: a verdict, or nothing yet.
-#[derive(Drop)]
+#[derive(Clone, Copy)]
 pub enum Early {
     Ends(Verdict),
     Open,
 }
 
 // The answer, with the two terms compared.
-#[derive(Drop)]
+#[derive(Clone, Copy)]
 pub struct Asked {
     pub compared: Comparison,
     pub early: Early,

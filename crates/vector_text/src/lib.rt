@@ -1,5 +1,7 @@
 // Reading a vector's line: keywords, numbers and lists of words, each behind at most one space. Where what is wanted does not come next, reading goes
 // on nowhere: no later read finds anything, and the vector fails.
+#![tactic(auto)]
+
 pub mod lent;
 
 ghost use Rattle.std.specs.Prelude.{◌≡◌, ◌≤◌, length};
@@ -15,28 +17,28 @@ use words::slices::fill;
 pub const NOWHERE: usize = usize::MAX;
 
 // A number of 32 bits in base ten, and where reading goes on.
-#[derive(Drop)]
+#[derive(Clone, Copy)]
 pub struct Number {
     pub value: u32,
     pub next: usize,
 }
 
 // A size or a length.
-#[derive(Drop)]
+#[derive(Clone, Copy)]
 pub struct Setting {
     pub value: usize,
     pub next: usize,
 }
 
 // How many words now stand at the start of a lent part.
-#[derive(Drop)]
+#[derive(Clone, Copy)]
 pub struct List {
     pub count: usize,
     pub next: usize,
 }
 
 // Equal words of a list, one after the other.
-#[derive(Drop)]
+#[derive(Clone, Copy)]
 pub struct Item {
     pub times: usize,
     pub word: u32,
@@ -240,7 +242,7 @@ pub fn read_list(text: &[u8], at: usize, into: &mut [u32]) -> List
 
 // Lent words beside the list that comes next: whether they are the list's and then a tail of equal words, how many the list has, and where reading
 // goes on.
-#[derive(Drop)]
+#[derive(Clone, Copy)]
 pub struct Compared {
     pub equal: bool,
     pub count: usize,

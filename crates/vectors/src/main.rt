@@ -3,6 +3,8 @@
 //
 // `rt check vectors` proves and runs it; afterwards `target/bin/vectors < crates/vectors/stdin` runs it again. The interpreter of `rt try` stops it at its
 // limit of steps.
+#![tactic(auto)]
+
 use crate::vector::tally_all;
 use libc::{STDIN_FILENO, STDOUT_FILENO};
 

@@ -35,7 +35,7 @@ pub const ROOM: usize = Word::WORKSPACE_MOST + 1;
 pub const JUNK: u32 = 7;
 
 // Between two calls.
-#[derive(Drop)]
+#[derive(Clone, Copy)]
 pub struct State {
     // Where the line is read on, or nowhere once something was not as it says.
     pub at: usize,
@@ -48,14 +48,14 @@ pub struct State {
 }
 
 // The session that the first call gets.
-#[derive(Drop)]
+#[derive(Clone, Copy)]
 pub struct Opened {
     pub session: Session,
     pub next: usize,
 }
 
 // The lengths that a call gets, and its scratch's.
-#[derive(Drop)]
+#[derive(Clone, Copy)]
 pub struct Given {
     pub left: usize,
     pub right: usize,
@@ -64,14 +64,14 @@ pub struct Given {
 }
 
 // The verdict that is expected.
-#[derive(Drop)]
+#[derive(Clone, Copy)]
 pub struct Named {
     pub verdict: Verdict,
     pub next: usize,
 }
 
 // What lies in both workspaces and the scratch beside what should: whether it is that, and the lengths of the terms.
-#[derive(Drop)]
+#[derive(Clone, Copy)]
 pub struct Lent {
     pub equal: bool,
     pub left: usize,

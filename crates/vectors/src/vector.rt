@@ -10,7 +10,7 @@ use libc::STDOUT_FILENO;
 use vector_text::{NOWHERE, after};
 
 // How many vectors there are, and how many of them pass.
-#[derive(Drop)]
+#[derive(Clone, Copy)]
 pub struct Tally {
     pub vectors: usize,
     pub passed: usize,

@@ -1,4 +1,6 @@
 // Reads a request from standard input, and prints its line.
+#![tactic(auto)]
+
 use libc::{STDIN_FILENO, STDOUT_FILENO};
 use request::INPUT_MOST;
 use verdict_text::PRINTED_MOST;

@@ -1,4 +1,6 @@
 // The verdict program's work on slices: bytes in, the printed line out.
+#![tactic(auto)]
+
 ghost use Rattle.verdict_line.specs.Line.{printed};
 ghost use Rattle.words.specs.Placed.{Placed};
 

@@ -1,4 +1,6 @@
 // The line that the verdict program prints.
+#![tactic(auto)]
+
 ghost use Rattle.std.specs.Prelude.{◌≡◌, ◌≤◌, ◌+◌, length};
 ghost use Rattle.turn.specs.Types.{verdict_of};
 ghost use Rattle.rounds.specs.Types.{shown_of};
@@ -16,7 +18,7 @@ const VERDICT_MOST: usize = 9;
 // The most bytes of a line: a verdict, four numbers behind a space, and the newline.
 pub const PRINTED_MOST: usize = VERDICT_MOST + 4 * (1 + DIGITS_MOST) + 1;
 
-#[derive(Drop)]
+#[derive(Clone, Copy)]
 pub enum Line {
     Input,
     Refuses(u32),

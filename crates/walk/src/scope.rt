@@ -3,7 +3,7 @@ ghost use Rattle.std.specs.Prelude.{◌≡◌};
 ghost use Rattle.walk.specs.Scopes.{Enters, entered};
 
 // Where a walk stands: how many items come next, under how many binders, and from where on its room holds the scopes that were left with items.
-#[derive(Drop)]
+#[derive(Clone, Copy)]
 pub struct Scope {
     pub pending: usize,
     pub depth: u32,

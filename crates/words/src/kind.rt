@@ -1,6 +1,6 @@
 // The kinds of words by name, in the order of the maker's service notes.
 
-#[derive(Drop)]
+#[derive(Clone, Copy)]
 pub enum Kind {
     Application,
     Abstraction,

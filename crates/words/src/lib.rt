@@ -1,5 +1,7 @@
 // The word of a term: payload × 8 + kind ("Terms and words"), and where an item ends. The constants of `Word` are the only places of the code where
 // the kinds and the upper limits of the word rules stand as numbers.
+#![tactic(auto)]
+
 ghost use Rattle.std.specs.Prelude.{◌≡◌, ◌++◌, ◌≤◌, ◌<◌, ◌+◌, ◌-◌, length, take, drop, replicate};
 ghost use Rattle.calculus.specs.Words.{variable_kind, abstraction_kind, application_kind, constructor_kind, case_kind, branch_kind, numeral_kind, workspace_least, workspace_most, library_words, kind_base, count_base};
 ghost use Rattle.calculus.specs.Words.{word, kind_of, payload_of, tag_of, count_of};
@@ -20,7 +22,7 @@ pub mod slices;
 pub mod workspace;
 
 // A word by value. A workspace holds its number, so a word read there is `Word(w)`.
-#[derive(Drop)]
+#[derive(Clone, Copy)]
 pub struct Word(pub u32);
 
 impl Word {

@@ -2,7 +2,7 @@
 use crate::refusal::Refusal;
 
 // A refusal, or a number: of a term's words, a table's records or an encoding's bits.
-#[derive(Drop)]
+#[derive(Clone, Copy)]
 pub enum Result {
     Refused(Refusal),
     Returned(usize),

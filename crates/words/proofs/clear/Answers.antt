@@ -1,0 +1,10 @@
+-- `clear` meets its contract.
+use Rattle.words.proofs.PlacedLaws.{fill_end}
+use lib.ListN.{length}
+use lib.Seq.{length-sets}
+use mathlib.Core.Path.{◌∙◌, ap}
+use native.Mathlib.Omega.{arith}
+use Rattle.words.proofs.clear.Goals as goal
+
+pub returns : goal.returns
+returns c = c.fill.ensures ∙ fill_end _ _ 0 c.requires
