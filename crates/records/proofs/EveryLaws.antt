@@ -1,7 +1,7 @@
 -- Loops that test every index from 1 to n, and tests that agree.
 use Prim.Native.Nat.{ℕ, zero, suc, ◌+◌, ◌≤◌}
 use mathlib.Core.Path.{◌≡◌, refl, ap, ap₂, ◌∙◌}
-use mathlib.Core.Bool.{Bool, true, false, ◌&&◌, and_false}
+use mathlib.Core.Bool.{Bool, true, false, ◌&&◌, and-false}
 use mathlib.Core.Logic.{inl, inr}
 use native.Mathlib.Nat.{eq-or-lt_of_le}
 use native.Mathlib.Numerals.{add-one}
@@ -16,7 +16,7 @@ pub every_fails : (n : ℕ) (p : ℕ → Bool) (i : ℕ) → 1 ≤ i → i ≤ n
 every_fails zero p i l u e = absurd (omega arith)
 every_fails (suc n) p i l u e =
     elim (eq-or-lt_of_le u) [
-      | inl q ↦ ap (λ b. everyOf n p && b) (rw q at e) ∙ and_false (everyOf n p)
+      | inl q ↦ ap (λ b. everyOf n p && b) (rw q at e) ∙ and-false (everyOf n p)
       | inr v ↦ ap (λ b. b && p (suc n)) (every_fails n p i l (omega arith) e)
     ]
 

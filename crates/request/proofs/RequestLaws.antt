@@ -1,7 +1,7 @@
 -- The request that bytes are, by where its parts stand.
 use Prim.Native.Nat.{ℕ, zero, suc, ◌+◌, ◌*◌, ◌-◌, ◌/◌, ◌%◌, ◌≤◌, ◌<◌}
 use mathlib.Core.Path.{◌≡◌, refl, sym, ◌∙◌, ap, ap₂, subst}
-use mathlib.Core.Bool.{Bool, true, false, cond, ◌&&◌, and_false, and-eq-true_iff}
+use mathlib.Core.Bool.{Bool, true, false, cond, ◌&&◌, and-false, and-eq-true_iff}
 use mathlib.Core.List.{List}
 use mathlib.Core.Option.{Option, some, none, bind}
 use native.Mathlib.Omega.{arith}
@@ -53,11 +53,11 @@ count_missing bytes at h = rw (lt-leb (at + word_bytes) (length bytes) h)
 
 pub too_many : (bytes : List ℕ) (at : ℕ) → table_limit < word_at bytes at → table_at bytes at ≡ found.Nothing
 unfolding table_at
-too_many bytes at h = rw (lt-leb (word_at bytes at) table_limit h, and_false)
+too_many bytes at h = rw (lt-leb (word_at bytes at) table_limit h, and-false)
 
 pub words_missing : (bytes : List ℕ) (at : ℕ) → length bytes < at + word_bytes + word_bytes * word_at bytes at → table_at bytes at ≡ found.Nothing
 unfolding table_at
-words_missing bytes at h = rw (lt-leb (at + word_bytes + word_bytes * word_at bytes at) (length bytes) h, and_false, and_false)
+words_missing bytes at h = rw (lt-leb (at + word_bytes + word_bytes * word_at bytes at) (length bytes) h, and-false, and-false)
 
 abbrev table_behind : List ℕ → ℕ → Table
 table_behind bytes at = record { at = at + word_bytes; words = word_at bytes at }

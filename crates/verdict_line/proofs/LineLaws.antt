@@ -1,7 +1,7 @@
 -- What is printed fits, and the line of a workspace that is lent in part.
 use Prim.Native.Nat.{ℕ, ◌≤◌, ◌<◌, min}
 use mathlib.Core.Path.{◌≡◌, sym, ◌∙◌}
-use mathlib.Core.Bool.{and_false}
+use mathlib.Core.Bool.{and-false}
 use mathlib.Core.List.{List}
 use mathlib.Core.Option.{some}
 use native.Mathlib.Omega.{arith}
@@ -29,7 +29,7 @@ printed_fits {before} bytes p size =
 -- A workspace above the limit is refused, whatever its length.
 too_large : (table ws : List ℕ) → workspace_most < length ws → (load table ws).answer ≡ refused WrongWorkspace
 unfolding load_stored
-too_large table ws h = rw (lt-leb (length ws) workspace_most h, and_false)
+too_large table ws h = rw (lt-leb (length ws) workspace_most h, and-false)
 
 too_large_line : (q : Request) → workspace_most < q.C → judged (some q) ≡ refuses (number WrongWorkspace)
 too_large_line q h = rw (too_large q.left (replicate q.C 0) (rw length-replicate h))

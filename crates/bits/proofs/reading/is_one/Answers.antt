@@ -1,0 +1,9 @@
+-- `is_one` meets its contract.
+use Prim.Native.Nat.{◌/◌}
+use Rattle.bits.proofs.WindowLaws.{bit_at}
+use borrow.Author.Rules.{rules}
+use native.Mathlib.Omega.{arith}
+use Rattle.bits.proofs.reading.is_one.Goals as goal
+
+pub returns : goal.returns
+returns c = bit_at c.args.at c.args.bytes.now c.requires

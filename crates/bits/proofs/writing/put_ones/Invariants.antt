@@ -1,0 +1,16 @@
+use Prim.Native.Nat.{◌+◌, ◌-◌, ◌≤◌}
+use Rattle.bits.proofs.PutLaws.{kept-length, put_none, rest_zero, put-more, put_all, bytes_length}
+use Rattle.encoding.specs.Bytes.{unpacked, packed}
+use lib.ListN.{length, take, replicate}
+use mathlib.Core.Bool.{true}
+use mathlib.Core.List.{◌++◌}
+use mathlib.Core.Path.{◌≡◌}
+use native.Mathlib.Omega.{arith}
+use Rattle.bits.proofs.writing.put_ones.Given as goal
+
+abbrev pub invariant-loop-left : goal.invariant-loop-left
+invariant-loop-left l =
+    (l.left ≤ l.count) × (l.at ≡ l.from + (l.count - l.left)) × (l.bytes ≡ packed (length l.initial.bytes) (take l.from (unpacked l.initial.bytes) ++ replicate (l.count - l.left) true))
+
+abbrev pub decreases-loop-left : goal.decreases-loop-left
+decreases-loop-left l = l.left

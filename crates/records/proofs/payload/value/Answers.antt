@@ -1,0 +1,20 @@
+-- `value` meets its contract: in each arm the kind is known, and `value_of` computes there.
+use Rattle.storage.specs.Payload.{value_of}
+use borrow.Author.Rules.{rules}
+use borrow.Author.Tests.{ne_eqb}
+use mathlib.Core.Path.{sym, ◌∙◌}
+use Rattle.records.proofs.payload.value.Goals as goal
+
+pub returns-in-3 : goal.returns-in-3
+unfolding value_of
+returns-in-3 c = rw (sym c.kind.ensures ∙ c.in-3.is) c.tag.ensures
+
+pub returns-in-4 : goal.returns-in-4
+unfolding value_of
+returns-in-4 c = rw (sym c.kind.ensures ∙ c.in-4.is)
+
+pub returns-in_default : goal.returns-in_default
+unfolding value_of
+returns-in_default c =
+    let r = c.in_default.in_default-own.rest in
+    rw (← c.kind.ensures, ne_eqb _ 3 r.0.1, ne_eqb _ 4 r.1) c.payload.ensures

@@ -1,0 +1,14 @@
+use Prim.Native.Nat.{◌-◌, ◌≤◌}
+use Rattle.text.proofs.Storing.{store_next}
+use lib.ListN.{length, drop, length-set}
+use lib.Seq.{sets, drop-length}
+use mathlib.Core.Path.{◌≡◌, refl, ◌∙◌}
+use native.Mathlib.Numerals.{add-one}
+use native.Mathlib.Omega.{arith}
+use Rattle.text.proofs.bytes.widen.Given as goal
+
+abbrev pub invariant-loop-i : goal.invariant-loop-i
+invariant-loop-i l = (l.i ≤ length l.bytes) × (length l.words ≡ length l.initial.words) × (sets l.words l.i (drop l.i l.bytes) ≡ sets l.initial.words 0 l.bytes)
+
+abbrev pub decreases-loop-i : goal.decreases-loop-i
+decreases-loop-i l = length l.bytes - l.i

@@ -1,0 +1,17 @@
+use Prim.Native.Nat.{◌-◌, ◌≤◌, ◌<◌}
+use Rattle.text.proofs.DecodeLaws.{length-words_from, get_d_words_from}
+use Rattle.text.proofs.Storing.{store_next}
+use Rattle.text.specs.Decode.{words_from}
+use Rattle.words.proofs.PlacedLaws.{sets_whole}
+use lib.ListN.{length, drop, length-set}
+use lib.Seq.{sets, drop-length}
+use mathlib.Core.Path.{◌≡◌, refl, sym, ◌∙◌}
+use native.Mathlib.Numerals.{add-one}
+use native.Mathlib.Omega.{arith}
+use Rattle.text.proofs.bytes.words_from.Given as goal
+
+abbrev pub invariant-loop-i : goal.invariant-loop-i
+invariant-loop-i l = (l.i ≤ length l.initial.words) × (length l.words ≡ length l.initial.words) × (sets l.words l.i (drop l.i (words_from (length l.initial.words) l.bytes l.at)) ≡ sets l.initial.words 0 (words_from (length l.initial.words) l.bytes l.at))
+
+abbrev pub decreases-loop-i : goal.decreases-loop-i
+decreases-loop-i l = length l.initial.words - l.i
