@@ -8,18 +8,31 @@ use mathlib.Core.Path.{refl, ap, ◌∙◌}
 use native.Mathlib.Omega.{arith}
 use Rattle.parser.proofs.begin.Goals as goal
 
--- MISSING
 pub returns-in-32-clause-step_within : goal.returns-in-32-clause-step_within
-returns-in-32-clause-step_within c = ?
+returns-in-32-clause-step_within c =
+    let start = c in
+    let a = c.args in ((
+        record { at = omega arith; top = c.requires.2; value = omega arith; power = omega arith; wanted = λ e. refl },
+        begin_space a.b a.s.count (drop a.s.top a.stack.now) (drop a.s.at a.out.now) (omega arith),
+      ))
 
--- MISSING
 pub returns-in-92-clause-step_within : goal.returns-in-92-clause-step_within
-returns-in-92-clause-step_within c = ?
+returns-in-92-clause-step_within c =
+    let start = c in
+    let a = c.args in
+    let told = c.on_backslash.ensures in ((
+        told.0.0 _ c.requires.2,
+        told.0.1 a.stack.now ∙ ap (λ (s : Sign). on_begun s (begun_by a.s a.stack.now a.out.now)) (sign_lambda a.b (omega arith)),
+      ))
 
--- MISSING
 pub returns-in-40-clause-step_within : goal.returns-in-40-clause-step_within
-returns-in-40-clause-step_within c = ?
+returns-in-40-clause-step_within c =
+    let start = c in
+    let a = c.args in
+    let told = c.on_opening.ensures in
+    ((told.0.0, told.0.1 ∙ ap (λ (s : Sign). on_begun s (begun_by a.s a.stack.now a.out.now)) (sign_opens a.b (omega arith))))
 
--- MISSING
 pub returns-in_default-clause-step_within : goal.returns-in_default-clause-step_within
-returns-in_default-clause-step_within c = ?
+returns-in_default-clause-step_within c =
+    let a = c.args in
+    ((tt, begin_none a.b (begun_by a.s a.stack.now a.out.now) (λ e. omega arith) (λ e. omega arith) (λ e. omega arith)))

@@ -9,6 +9,14 @@ use mathlib.Core.Path.{refl}
 use native.Mathlib.Omega.{arith}
 use Rattle.parser.proofs.on_backslash.Goals as goal
 
--- MISSING
 pub returns-clause-by_index : goal.returns-clause-by_index
-returns-clause-by_index c = ?
+returns-clause-by_index c =
+    let start = c in
+    let a = c.args in
+    let put = c.put_applications-at in
+    let within : put.result ≤ length a.out.now = omega (arith, c.requires) in ((
+        λ D h. record { at = omega (arith, c.requires); top = h; value = omega arith; power = omega arith; wanted = λ e. refl },
+        λ stack.
+            begin_lambda a.s.count put.result (drop a.s.top stack) (drop a.s.at a.out.now) put.new.0 (put-behind a.out.now _ _ within put.ensures.1)
+            (omega (arith, c.requires)) (omega (arith, c.requires)),
+      ))

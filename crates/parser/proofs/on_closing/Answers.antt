@@ -8,10 +8,15 @@ use mathlib.Core.Path.{refl}
 use native.Mathlib.Omega.{arith}
 use Rattle.parser.proofs.on_closing.Goals as goal
 
--- MISSING
 pub returns-then-s-ne1-clause-by_index : goal.returns-then-s-ne1-clause-by_index
-returns-then-s-ne1-clause-by_index c = ?
+returns-then-s-ne1-clause-by_index c =
+    let a = c.args in
+    ((λ R w. tt, λ out. close_none a.s.power a.s.value a.s.count (drop a.s.top a.stack.now) (drop a.s.at out) (λ e. omega arith)))
 
--- MISSING
 pub returns-clause-by_index : goal.returns-clause-by_index
-returns-clause-by_index c = ?
+returns-clause-by_index c =
+    let a = c.args in ((
+        λ R w. record { at = w.at; top = omega arith; value = omega arith; power = omega arith; wanted = λ e. refl },
+        λ out.
+            close_some a.s.power a.s.value a.s.count a.s.top a.stack.now (drop a.s.at out) (omega arith) (omega arith) (omega arith),
+      ))

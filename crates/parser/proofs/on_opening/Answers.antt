@@ -8,10 +8,18 @@ use mathlib.Core.Path.{refl}
 use native.Mathlib.Omega.{arith}
 use Rattle.parser.proofs.on_opening.Goals as goal
 
--- MISSING
 pub returns-then-top-stack-clause-step_within : goal.returns-then-top-stack-clause-step_within
-returns-then-top-stack-clause-step_within c = ?
+returns-then-top-stack-clause-step_within c =
+    let a = c.args in
+    ((tt, begin_open_none a.s.count a.s.top a.stack.now (drop a.s.at a.out.now) (omega arith)))
 
--- MISSING
 pub returns-clause-step_within : goal.returns-clause-step_within
-returns-clause-step_within c = ?
+returns-clause-step_within c =
+    let start = c in
+    let a = c.args in
+    let put = c.put_applications-at in
+    let within : put.result ≤ length a.out.now = omega (arith, c.requires) in ((
+        record { at = omega (arith, c.requires); top = omega (arith, c.requires); value = omega arith; power = omega arith; wanted = λ e. refl },
+        begin_open a.s.count put.result a.s.top a.stack.now (drop a.s.at a.out.now) put.new.0 (omega (arith, c.requires))
+            (put-behind a.out.now _ _ within put.ensures.1),
+      ))

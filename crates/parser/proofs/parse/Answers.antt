@@ -22,8 +22,20 @@ on_byte-requires c =
     (rw (v.stack_full, v.out_full) v.within, parsing_room v (omega arith))
 
 -- What the byte in front leads to.
+stepped : (c : goal.In-Outside) → let l = c.loop-i in
+    stepped_of c.on_byte.result c.on_byte.new.stack c.on_byte.new.out ≡ scan (drop (l.i - 1) c.args.line.now)
+stepped c =
+    let l = c.loop-i in
+    c.on_byte.ensures.step_within.1 ∙ sym (scan_byte c.args.line.now l.i (omega arith) l.invariant.inside l.invariant.scanned)
+
+pub returns-in-Outside-clause-out_after : goal.returns-in-Outside-clause-out_after
+returns-in-Outside-clause-out_after c =
+    (line_words_none c.args.line.now (c.loop-i.i - 1)
+      (sym (rw c.enum_told-1.given.1 at (stepped c))))
+
+-- What the byte in front leads to.
 stepped-2 : (c : goal.In-On) → let l = c.loop-i in
-    stepped_of c.on_byte.result c.on_byte.new.1.1.0 c.on_byte.new.1.1.1.0 ≡ scan (drop (l.i - 1) c.args.line.now)
+    stepped_of c.on_byte.result c.on_byte.new.stack c.on_byte.new.out ≡ scan (drop (l.i - 1) c.args.line.now)
 stepped-2 c =
     let l = c.loop-i in
     c.on_byte.ensures.step_within.1 ∙ sym (scan_byte c.args.line.now l.i (omega arith) l.invariant.inside l.invariant.scanned)
@@ -45,6 +57,21 @@ loop-i-preserved c =
 pub settle-requires : goal.settle-requires
 settle-requires c = let v = c.loop-i.invariant in (omega (arith, parsing_count v), omega (arith, v.out_full, v.within), omega (arith, v.within))
 
+whole : (c : goal.Then-top-ne-ROOM) → let l = c.loop-i in scan (line c) ≡ some (state_of l.s l.stack l.out)
+whole c = let l = c.loop-i in let z : l.i ≡ 0 = omega arith in rw z at l.invariant.scanned
+
+-- The whole line is scanned, and what starts in front of it is settled.
+abbrev line : goal.Then-top-ne-ROOM → List ℕ
+line c = c.args.line.now
+
+pub returns-then-top-ne-ROOM-clause-out_after : goal.returns-then-top-ne-ROOM-clause-out_after
+returns-then-top-ne-ROOM-clause-out_after c =
+    let over = c in
+    let l = c.loop-i in
+    let on = c.p-1.given.1 in
+    let kept = rw on at c.settle.ensures.settled.0 in (finish_open c.p-1.given.0.0.top l.stack _ (omega (arith, kept, l.invariant.within, l.invariant.stack_full))
+          ∙ line_words_settled (line over) (whole over) (rw on at (c.settle.ensures.settled.1 l.stack)))
+
 pub put_applications-requires : goal.put_applications-requires
 put_applications-requires c =
     let over = c in
@@ -52,18 +79,29 @@ put_applications-requires c =
     let kept = rw c.p-1.given.1 at c.settle.ensures.settled.0 in
     (omega (arith, kept, parsing_count v), omega (arith, kept, v.out_full))
 
--- MISSING
-pub returns-in-Outside-clause-out_after : goal.returns-in-Outside-clause-out_after
-returns-in-Outside-clause-out_after c = ?
+whole-2 : (c : goal.In-Outside-settle) → let l = c.loop-i in scan (line-2 c) ≡ some (state_of l.s l.stack l.out)
+whole-2 c = let l = c.loop-i in let z : l.i ≡ 0 = omega arith in rw z at l.invariant.scanned
 
--- MISSING
-pub returns-then-top-ne-ROOM-clause-out_after : goal.returns-then-top-ne-ROOM-clause-out_after
-returns-then-top-ne-ROOM-clause-out_after c = ?
+-- The whole-2 line-2 is scanned, and what starts in front of it is settled.
+abbrev line-2 : goal.In-Outside-settle → List ℕ
+line-2 c = c.args.line.now
 
--- MISSING
 pub returns-in-Outside-settle-clause-out_after : goal.returns-in-Outside-settle-clause-out_after
-returns-in-Outside-settle-clause-out_after c = ?
+returns-in-Outside-settle-clause-out_after c =
+    let over = c in (line_words_unsettled (line-2 over) (whole-2 over) (rw c.enum_told-in-Outside-settle-1.given.1 at (c.settle.ensures.settled.1 c.loop-i.stack)))
 
--- MISSING
+whole-3 : (c : goal.After-slice_known-in-On-settle-1) → let l = c.loop-i in scan (line-3 c) ≡ some (state_of l.s l.stack l.out)
+whole-3 c = let l = c.loop-i in let z : l.i ≡ 0 = omega arith in rw z at l.invariant.scanned
+
+-- The whole-3 line-3 is scanned, and what starts in front of it is settled.
+abbrev line-3 : goal.After-slice_known-in-On-settle-1 → List ℕ
+line-3 c = c.args.line.now
+
 pub returns-else-top-ne-ROOM-clause-out_after : goal.returns-else-top-ne-ROOM-clause-out_after
-returns-else-top-ne-ROOM-clause-out_after c = ?
+returns-else-top-ne-ROOM-clause-out_after c =
+    let over = c in
+    let l = c.loop-i in
+    let on = c.p-1.given.1 in
+    let put = c.put_applications in (rw (put-behind c.settle.new.out _ put.result (omega (arith, rw on at c.settle.ensures.settled.0)) put.ensures.1)
+          (finish-closed c.p-1.given.0.0.top l.stack _ (omega (arith, l.invariant.stack_full))
+          ∙ line_words_settled (line-3 over) (whole-3 over) (rw on at (c.settle.ensures.settled.1 l.stack))))

@@ -46,7 +46,7 @@ start-3 c =
 all : (c : goal.After-count)
     → let args = c.args in
     let T = viewed args.form args.table.now in
-    c.count_links.new.1.1.0 ≡ counted T T.n (more c.root.result args.counts.now)
+    c.count_links.new.counts ≡ counted T T.n (more c.root.result args.counts.now)
 all c =
     let args = c.args in
     let T = viewed args.form args.table.now in
@@ -67,7 +67,7 @@ start-4 c =
 all-2 : (c : goal.After-all_once)
     → let args = c.args in
     let T = viewed args.form args.table.now in
-    c.count_links.new.1.1.0 ≡ counted T T.n (more c.root.result args.counts.now)
+    c.count_links.new.counts ≡ counted T T.n (more c.root.result args.counts.now)
 all-2 c =
     let args = c.args in
     let T = viewed args.form args.table.now in
