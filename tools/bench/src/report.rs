@@ -232,6 +232,7 @@ fn introduction() -> String {
     format!(
         "# Benchmarks\n\n\
          - Machine: {machine}.\n\
+         - Rattle kit: `{kit}`.\n\
          - `verdict` is the unit's program. Its peers, in Rust by {compiler} at opt-level 3, read and \
          print the same. `flat` keeps flat words, as the unit does, compares and searches both from \
          the first word in every round and contracts through a scratch. `graph` keeps trees of \
@@ -244,7 +245,8 @@ fn introduction() -> String {
         counted = grouped(COUNTED as usize),
         c = grouped(C as usize),
         machine = machine(),
-        compiler = compiler(),
+        kit = version("rt", "version"),
+        compiler = version("rustc", "--version"),
     )
 }
 
@@ -374,10 +376,11 @@ fn machine() -> String {
     )
 }
 
-fn compiler() -> String {
-    let output = Command::new("rustc").arg("--version").output();
+/// What a command says it is, or its name where it cannot be asked.
+fn version(command: &str, asked: &str) -> String {
+    let output = Command::new(command).arg(asked).output();
     let version = output.map(|output| String::from_utf8_lossy(&output.stdout).trim().to_string());
-    version.unwrap_or("rustc".to_string())
+    version.unwrap_or(command.to_string())
 }
 
 #[cfg(test)]
