@@ -5,7 +5,7 @@ use native.Mathlib.Omega.{arith}
 use Rattle.bits.proofs.writing.put_ones.Goals as goal
 
 pub loop-left-init : goal.loop-left-init
-loop-left-init c = (omega arith, omega arith, put_none c.args.bytes.now c.args.from c.args.count c.requires.count_bound.0 c.requires.bytes_value c.type_inv.bytes)
+loop-left-init c = (omega arith, omega arith, put_none c.args.bytes.now c.args.from c.args.count c.requires.count_bound.0 c.requires.rest_zero c.type_inv.bytes)
 
 pub returns-then-left-room : goal.returns-then-left-room
 returns-then-left-room c =
@@ -15,10 +15,10 @@ pub loop-left-preserved : goal.loop-left-preserved
 loop-left-preserved c =
     (omega arith, omega arith, put-more c.args.bytes.now c.args.from c.args.count c.requires.count_bound.0 c.loop-left.invariant.0 c.loop-left.invariant.1 c.loop-left.invariant.2 _ (omega arith) c.put_in_byte-in-loop-left.ensures)
 
-pub put_in_byte-requires-clause-bytes_value : goal.put_in_byte-requires-clause-bytes_value
-put_in_byte-requires-clause-bytes_value c =
+pub put_in_byte-requires-clause-rest_zero : goal.put_in_byte-requires-clause-rest_zero
+put_in_byte-requires-clause-rest_zero c =
     rest_zero c.args.bytes.now c.args.from c.args.count c.requires.count_bound.0 c.loop-left.invariant.0 c.loop-left.invariant.1 c.loop-left.invariant.2
 
-pub put_in_byte-requires-in-loop-left-clause-bytes_value : goal.put_in_byte-requires-in-loop-left-clause-bytes_value
-put_in_byte-requires-in-loop-left-clause-bytes_value c =
+pub put_in_byte-requires-in-loop-left-clause-rest_zero : goal.put_in_byte-requires-in-loop-left-clause-rest_zero
+put_in_byte-requires-in-loop-left-clause-rest_zero c =
     rest_zero c.args.bytes.now c.args.from c.args.count c.requires.count_bound.0 c.loop-left.invariant.0 c.loop-left.invariant.1 c.loop-left.invariant.2
