@@ -18,6 +18,8 @@ use Rattle.notation.proofs.Sound.{apply_suc}
 -- One application is put: what the others and the end come to stays.
 pub put_one : (l : List ℕ) (n i : ℕ) → 0 < n → 0 < i → i ≤ length l
     → apply (n - 1) (drop (i - 1) (set l (i - 1) (word application_kind 0))) ≡ apply n (drop i l)
+put_one l zero i g h k = elim g [ ]
+put_one l (suc n) zero g h k = elim h [ ]
 put_one l (suc n) (suc i) g h k = let e : suc n - 1 ≡ n = omega arith in let f : suc i - 1 ≡ i = omega arith in
     rw (e, f, drop-set l i (word application_kind 0) (omega arith)) (sym (apply_suc n (drop (suc i) l)))
 
