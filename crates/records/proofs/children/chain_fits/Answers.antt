@@ -1,14 +1,10 @@
 -- `chain_fits` meets its contract. The invariant: the answer is that for the rest of the chain.
 use Rattle.records.proofs.Walks.{walk_inside, Walked, walked}
-use Rattle.records.specs.Preconditions.{Walkable}
-use Rattle.records.specs.Types.{stored, viewed}
-use Rattle.storage.proofs.Hanging.{chain-end}
+use Rattle.records.specs.Types.{stored}
 use Rattle.storage.proofs.RecordLaws.{parts}
-use Rattle.storage.specs.Children.{chain_fits, chain_from}
 use Rattle.storage.specs.Records.{record_at}
-use borrow.Author.Tests.{not-true, not-false}
 use lib.ListN.{length}
-use mathlib.Core.Path.{◌≡◌, refl, ap}
+use mathlib.Core.Path.{refl, ap}
 use native.Mathlib.Nat.{pos_of_ne-zero}
 use native.Mathlib.Omega.{arith}
 use Rattle.records.proofs.children.chain_fits.Goals as goal
@@ -22,8 +18,7 @@ here c = walked _ _ _ c.loop-at.invariant.0 (pos_of_ne-zero c.loop-at-test.true)
 pub returns-then-not-may_stand : goal.returns-then-not-may_stand
 returns-then-not-may_stand c =
     let stands = c.may_stand in
-    let turn = c in
-    rw (← c.loop-at.invariant.1, (here turn).goes_on, ← stands.ensures, c.if-not-may_stand.true)
+    rw (← c.loop-at.invariant.1, (here c).goes_on, ← stands.ensures, c.if-not-may_stand.true)
 
 pub at-at-requires : goal.at-at-requires
 at-at-requires c = walk_inside _ _ c.loop-at.invariant.0
@@ -39,7 +34,6 @@ loop-at-smaller c = rw (parts c.at-at.ensures).next (omega (arith, ap length (he
 
 pub loop-at-preserved : goal.loop-at-preserved
 loop-at-preserved c =
-    let turn = c in
     let stands = c.may_stand in
     rw (parts c.at-at.ensures).next
-    ((here-2 turn).after, rw (← c.loop-at.invariant.1, (here-2 turn).goes_on, ← stands.ensures, c.if-not-may_stand.false))
+    ((here-2 c).after, rw (← c.loop-at.invariant.1, (here-2 c).goes_on, ← stands.ensures, c.if-not-may_stand.false))

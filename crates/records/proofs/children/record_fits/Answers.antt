@@ -4,8 +4,6 @@ use Rattle.records.specs.Preconditions.{Walkable}
 use Rattle.records.specs.Types.{stored}
 use Rattle.storage.proofs.RecordLaws.{parts}
 use Rattle.storage.specs.Children.{children_fit}
-use borrow.Author.Rules.{rules}
-use borrow.Author.Tests.{not-true, not-false}
 use mathlib.Core.Path.{ap}
 use Rattle.records.proofs.children.record_fits.Goals as goal
 
@@ -22,9 +20,6 @@ pub returns-then-not-number_fits : goal.returns-then-not-number_fits
 unfolding children_fit
 returns-then-not-number_fits c =
     let fits = c.number_fits in
-    let passed = c in
-    let agreed = c in
-    let number = c in
     let r = parts c.at-record.ensures in
     rw (← r.first, ← c.chain_length-number.ensures, ← ap (λ x. x.declared) c.at-record.ensures, ← c.agrees.ensures, c.if-not-agrees.false, ← r.kind, ← fits.ensures, c.if-not-number_fits.true)
 
@@ -38,9 +33,6 @@ pub returns : goal.returns
 unfolding children_fit
 returns c =
     let fits = c.number_fits in
-    let passed = c in
-    let agreed = c in
-    let number = c in
     let r = parts c.at-record.ensures in
     rw (← r.first, ← c.chain_length-number.ensures, ← ap (λ x. x.declared) c.at-record.ensures, ← c.agrees.ensures, c.if-not-agrees.false, ← r.kind, ← fits.ensures, c.if-not-number_fits.false)
     c.sorts_fit.ensures

@@ -1,8 +1,6 @@
 -- `sorts_fit` meets its contract: each return knows the tests before it.
 use Rattle.records.proofs.Walks.{walk_inside, Walked, walked}
-use Rattle.records.specs.Types.{stored, viewed, record_of}
-use Rattle.storage.proofs.Hanging.{chain-end}
-use borrow.Author.Rules.{rules}
+use Rattle.records.specs.Types.{stored, record_of}
 use borrow.Author.Tests.{eq-eqb, ne_eqb}
 use native.Mathlib.Nat.{pos_of_ne-zero}
 use Rattle.records.proofs.children.sorts_fit.Goals as goal
@@ -17,8 +15,7 @@ here c = walked _ _ _ c.requires (pos_of_ne-zero c.if-link-eq0.false) c.at-subje
 
 pub returns-then-subject-eq-BRANCH : goal.returns-then-subject-eq-BRANCH
 returns-then-subject-eq-BRANCH c =
-    let read = c in
-    rw (c.if-kind-ne-CASE.false, (here read).goes_on, eq-eqb _ _ c.if-subject-eq-BRANCH.true)
+    rw (c.if-kind-ne-CASE.false, (here c).goes_on, eq-eqb _ _ c.if-subject-eq-BRANCH.true)
 
 here-2 : (c : goal.Else-subject-eq-BRANCH)
     → let start = c.args in
@@ -35,5 +32,4 @@ here-3 c = walked _ _ _ c.requires (pos_of_ne-zero c.if-link-eq0.false) c.at-sub
 
 pub returns : goal.returns
 returns c =
-    let read = c in
-    rw (c.if-kind-ne-CASE.false, (here-3 read).goes_on, ne_eqb _ _ c.if-subject-eq-BRANCH.false) c.chain_fits-2.ensures
+    rw (c.if-kind-ne-CASE.false, (here-3 c).goes_on, ne_eqb _ _ c.if-subject-eq-BRANCH.false) c.chain_fits-2.ensures

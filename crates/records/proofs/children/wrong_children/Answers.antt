@@ -1,12 +1,10 @@
 -- `wrong_children` meets its contract: the children of every record, and then the root.
-use Rattle.records.proofs.RecordLaws.{headed}
 use Rattle.records.proofs.Walks.{walk_inside}
 use Rattle.records.specs.Types.{stored, viewed, record_of}
 use Rattle.storage.proofs.RecordLaws.{Parts, parts}
 use Rattle.storage.specs.Children.{wrong_children}
 use Rattle.storage.specs.Records.{record_at}
-use borrow.Author.Rules.{rules}
-use borrow.Author.Tests.{eq-eqb, ne_eqb, not-true, not-false}
+use borrow.Author.Tests.{eq-eqb, ne_eqb}
 use mathlib.Core.Path.{ap, ◌∙◌}
 use Rattle.records.proofs.children.wrong_children.Goals as goal
 
@@ -28,7 +26,6 @@ top c =
 pub returns-then-top-eq-BRANCH : goal.returns-then-top-eq-BRANCH
 unfolding wrong_children
 returns-then-top-eq-BRANCH c =
-    let passed = c in
     rw (← c.every.ensures, c.if-not-every.false, ← (top c).kind, eq-eqb _ _ c.if-top-eq-BRANCH.true)
 
 -- The record that was read is the root's.
@@ -42,6 +39,5 @@ top-2 c =
 pub returns-else-top-eq-BRANCH : goal.returns-else-top-eq-BRANCH
 unfolding wrong_children
 returns-else-top-eq-BRANCH c =
-    let passed = c in
     let r = top-2 c in
     rw (← c.every.ensures, c.if-not-every.false, ← r.kind, ne_eqb _ _ c.if-top-eq-BRANCH.false, ← r.next)
