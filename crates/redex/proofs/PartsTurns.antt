@@ -83,7 +83,7 @@ module _ (all : ℕ) where
   branch_body-within before (suc k) t n i [] h m = h
   branch_body-within before (suc k) t n i (w ∷ ws) h m =
       behind_cond (is_default (tag_of (payload_of w)) (count_of (payload_of w))) _ _
-      (branch_body-within _ k t n _ (skip 1 ws) (behind-default before (i + 1) k h (omega arith)) (omega arith))
+      (branch_body-within (or_default before (i + 1) k) k t n _ (skip 1 ws) (behind-default before (i + 1) k h (omega arith)) (omega arith))
       (behind_cond (eqb t (tag_of (payload_of w))) _ _ (behind_cond (eqb n (count_of (payload_of w))) (found.Listed (i + 1) k) found.Nothing (omega arith) (omega arith))
       (branch_body-within before k t n _ (skip 1 ws) h (omega arith)))
 

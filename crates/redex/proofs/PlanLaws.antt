@@ -6,7 +6,7 @@ use mathlib.Core.Option.{some, map}
 use native.Mathlib.Omega.{arith}
 use lib.ListN.{length, get_or, take, drop, take-append-drop}
 use lib.Seq.{slice, length-take-le, take-take, drop-append-le, get_or-drop}
-use Rattle.calculus.specs.Term.{Term, Terms, count}
+use Rattle.calculus.specs.Term.{Term, Terms}
 use Rattle.calculus.specs.Words.{words, size}
 use Rattle.calculus.specs.Skip.{span}
 use Rattle.calculus.specs.First.{first_terms}

@@ -52,8 +52,8 @@ fn shift(
     room: &mut [u32],
 ) -> usize
     requires shiftable { Shiftable src.now at distance × (end ≡ at + span 1 (drop at src.now)) }
-    requires distance_in_bounds { out + size (shifted src.now at distance) ≤ length dst.old }
-    requires src_bound { span 1 (drop at src.now) ≤ 2 * length room.old }
+    requires fits { out + size (shifted src.now at distance) ≤ length dst.old }
+    requires enough { span 1 (drop at src.now) ≤ 2 * length room.old }
     ensures placed { Placed dst.old out (words (shifted src.now at distance)) dst.new result }
     ensures room { Room room.old room.new }
 {
@@ -83,8 +83,8 @@ fn raise(
     room: &mut [u32],
 ) -> usize
     requires shiftable { Shiftable src.now at (pos binders) × (end ≡ at + span 1 (drop at src.now)) }
-    requires binders_in_bounds { out + size (shifted src.now at (pos binders)) ≤ length dst.old }
-    requires src_bound { (span 1 (drop at src.now) ≤ 2 * length room.old) × (binders < distance_bound) }
+    requires fits { out + size (shifted src.now at (pos binders)) ≤ length dst.old }
+    requires enough { (span 1 (drop at src.now) ≤ 2 * length room.old) × (binders < distance_bound) }
     ensures placed { Placed dst.old out (words (shifted src.now at (pos binders))) dst.new result }
     ensures room { Room room.old room.new }
 {
@@ -108,7 +108,7 @@ pub fn substitute(
     room: &mut [u32],
 ) -> usize
     requires substitutes { Substitutes src.now body stop args after count room.old }
-    requires src_in_bounds { out + length (standing (substituting (first_terms count (drop args src.now))) (stop - body) (0 ∷ []) (drop body src.now)) ≤ length dst.old }
+    requires fits { out + length (standing (substituting (first_terms count (drop args src.now))) (stop - body) (0 ∷ []) (drop body src.now)) ≤ length dst.old }
     ensures placed { Placed dst.old out (standing (substituting (first_terms count (drop args src.now))) (stop - body) (0 ∷ []) (drop body src.now)) dst.new result }
     ensures room { Room room.old room.new }
 {

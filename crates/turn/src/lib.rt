@@ -66,8 +66,8 @@ pub fn ask(
     from: usize,
 ) -> Asked
     requires { Compares left.now left_length right.now right_length from }
-    ensures compared_value { comparison_of result.compared ≡ compare_words (take left_length left.now) (take right_length right.now) }
-    ensures early_value { early_of result.early ≡ at_once_in (take left_length left.now) (take right_length right.now) }
+    ensures compared { comparison_of result.compared ≡ compare_words (take left_length left.now) (take right_length right.now) }
+    ensures early { early_of result.early ≡ at_once_in (take left_length left.now) (take right_length right.now) }
 {
     let compared = compare_terms(left, left_length, right, right_length, from);
     if let Comparison::Equal = compared {

@@ -1,7 +1,6 @@
 -- `enter` meets its contract, arm by arm.
 use Prim.Native.Nat.{◌+◌, ◌-◌}
 use Rattle.walk.specs.Scopes.{entered}
-use borrow.Author.Rules.{rules}
 use borrow.Author.Tests.{lt-ltb, le-ltb, eq-eqb, ne_eqb}
 use lib.ListN.{length}
 use mathlib.Core.Path.{◌≡◌}
