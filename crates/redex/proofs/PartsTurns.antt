@@ -114,9 +114,6 @@ parts-numeral i ws h k = rw (drop-cons ws i 0 h, k)
 pub kind_last : (i : ℕ) (ws : List ℕ) → length ws ≤ i + 1 → kind_of (get_or ws (i + 1) 0) ≡ variable_kind
 kind_last i ws l = rw (get_or-eq_default ws 0 {n = i + 1} l)
 
-pub kind_behind : (i k : ℕ) (ws : List ℕ) → kind_of (get_or ws (i + 1) 0) ≡ k → 0 < k → i + 1 < length ws
-kind_behind i k ws e h = let none : ¬ (length ws ≤ i + 1) = λ l. omega (arith, kind_last i ws l) in omega arith
-
 -- By the first word and those behind it: what is no application of an abstraction, what is no case of a constructor, and other words.
 behind-applied : (i w : ℕ) (vs : List ℕ) → kind_of w ≡ application_kind → (kind_of (get_or vs 0 0) ≡ abstraction_kind → ⊥) → parts_behind i w vs ≡ nothing
 unfolding parts_behind
