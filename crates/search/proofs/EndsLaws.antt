@@ -13,9 +13,6 @@ use Rattle.words.proofs.PlacedLaws.{taken_less}
 use Rattle.words.proofs.Spans.{span-step}
 use Rattle.search.specs.Ends.{Ends}
 
-pub ends_none : (ws : List ℕ) (from : ℕ) (ends : List ℕ) → Ends ws from 0 ends
-ends_none ws from ends = record { within = omega arith; told = λ p l m. absurd (omega arith) }
-
 pub ends_later : {ws : List ℕ} {from known : ℕ} {ends : List ℕ} {later : ℕ} → Ends ws from known ends → from ≤ later → Ends ws later known ends
 ends_later h l = record { within = h.within; told = λ p m. h.told p (omega arith) }
 
