@@ -1,7 +1,9 @@
 #!/usr/bin/env python3
 """Brings the names that this repository's own specs/ and proofs/ declare to the spelling of today's Rattle.
 
-usage: tools/port/respell.py [ROOT]      run once, after the kit's port.py
+usage: tools/port/respell.py [ROOT [NAMES]]      run once, after the kit's port.py
+
+NAMES is the tree that declares the names, before they are turned; without it, ROOT itself.
 
 A value, a lemma, a field and a constructor are in snake case; a dash stays in a lemma's name only where it joins two words of the library or of specs/. A type
 is in upper camel case. A test whose name ends in a question mark and names with operators stay. Names are turned as whole words, in .antt files, in the clauses and
@@ -15,6 +17,7 @@ import re
 import sys
 
 ROOT = sys.argv[1] if len(sys.argv) > 1 else "."
+NAMES = sys.argv[2] if len(sys.argv) > 2 else ROOT
 WORD = r"[^\s(){}\[\].;,@:«»`\"|·]+"
 DECLARED = re.compile(
     r"^(\s*)((?:abbrev|unfoldable|pub|deriving|data|record)\s+)*(%s)((?:\s*(?:\((?:[^()]|\([^()]*\))*\)|\{[^{}\n]*\}))*)\s+:\s(.*)$" % WORD
@@ -32,7 +35,7 @@ def read(path):
 
 def own_files():
     for pattern in ("crates/*/specs/**/*.antt", "crates/*/proofs/*.antt"):
-        yield from sorted(glob.glob(os.path.join(ROOT, pattern), recursive=True))
+        yield from sorted(glob.glob(os.path.join(NAMES, pattern), recursive=True))
 
 
 def bare(text):
@@ -90,12 +93,12 @@ def new_name(name, how, words):
     return out
 
 
-def texts():
+def texts(root):
     for pattern in ("crates/**/*.antt", "crates/**/*.rt", "crates/*/must-fail/*.edit"):
-        for p in sorted(glob.glob(os.path.join(ROOT, pattern), recursive=True)):
+        for p in sorted(glob.glob(os.path.join(root, pattern), recursive=True)):
             if "/out/" not in p:
                 yield p
-    yield from sorted(glob.glob(os.path.join(ROOT, "*.md")) + glob.glob(os.path.join(ROOT, "docs/**/*.md"), recursive=True))
+    yield from sorted(glob.glob(os.path.join(root, "*.md")) + glob.glob(os.path.join(root, "docs/**/*.md"), recursive=True))
 
 
 def main():
@@ -109,7 +112,6 @@ def main():
         m = new_name(n, hs, words)
         if m != n:
             table[n] = m
-    files = {p: read(p) for p in texts()}
     met = {}
     for n, m in table.items():
         met.setdefault(m, []).append(n)
@@ -121,7 +123,8 @@ def main():
             stay |= {n for n in ns if n != first}
             if sum("-" not in n for n in ns) > 1:
                 stay |= set(ns)
-    for p, t in files.items():
+    for p in texts(NAMES):
+        t = read(p)
         if p.endswith(".antt"):
             text = bare(t)
             here = set(re.findall(r"(?<![^\s(){}\[\];,@:«»])(%s)" % WORD, text))
@@ -144,7 +147,8 @@ def main():
         made = lambda m: walk and "-" in m.group(1) and m.group(1) not in fields and t[: m.start()].endswith(".")
         return token.sub(lambda m: m.group(1) if made(m) else table[m.group(1)], t)
 
-    for p, t in files.items():
+    for p in texts(ROOT):
+        t = read(p)
         if p.endswith(".md"):
             u = re.sub(r"`[^`\n]+`", lambda m: turn(m.group(0)), t)
         else:

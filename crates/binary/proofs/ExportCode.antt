@@ -1,5 +1,5 @@
 -- Exporting, by what the code finds of the words: whether they are a combinator's, and their bits.
-use Prim.Native.Nat.{ℕ, ◌+◌, ◌*◌, ◌/◌, ◌≤◌, ◌<◌}
+use Prim.Native.Nat.{ℕ, ◌+◌, ◌/◌, ◌≤◌, ◌<◌}
 use mathlib.Core.Path.{◌≡◌, sym, ap, ap₂, ◌∙◌}
 use mathlib.Core.Bool.{true, false, false≢true}
 use mathlib.Core.List.{List, [], ◌∷◌, append-nil}
@@ -27,9 +27,6 @@ use Rattle.binary.proofs.CombinatorLaws.{stands, stands_complete, term_stands, c
 -- Bytes that are all 0.
 pub zeros_length : (n : ℕ) (bytes : List ℕ) → bytes ≡ replicate n 0 → length bytes ≡ n
 zeros_length n bytes e = ap length e ∙ length-replicate {A = ℕ} n 0
-
-pub zeros_all : (n : ℕ) (bytes : List ℕ) → bytes ≡ replicate n 0 → bytes ≡ replicate (length bytes) 0
-zeros_all n bytes e = e ∙ ap (λ k. replicate k 0) (sym (zeros_length n bytes e))
 
 module _ (workspace : List ℕ) (len : ℕ) (bytes : List ℕ) (w : wrong_workspace (length workspace) ≡ false) where
   -- The length is above C, or the words are no term.
@@ -75,9 +72,6 @@ module _ (workspace : List ℕ) (len : ℕ) (bytes : List ℕ) (w : wrong_worksp
       export_few h = sym ((exporting_exact workspace len bytes).too_few w t given closed (omega (arith, counted)))
 
       module _ (enough : (n + 7) / byte_bits ≤ length bytes) where
-        pub bits_fit : length (words_bits (take len workspace)) ≤ byte_bits * length bytes
-        bits_fit = omega (arith, n-is)
-
         pub export-all : (before after : List ℕ) → length before ≡ length bytes → after ≡ packed (length before) (words_bits (take len workspace))
             → ◌≡◌ {A = Exported} (record { answer = returned n; bytes = after }) (export workspace len bytes)
         export-all before after same e =

@@ -7,7 +7,6 @@ use native.Mathlib.Numerals.{add-one}
 use native.Mathlib.Omega.{arith}
 use lib.Dec.{eqb}
 use lib.ListN.{length, take, drop, get_or, replicate, length-append, length-replicate}
-use lib.Seq.{take_all}
 use mir.Syntax.{w32}
 use mir.Val.{Fits}
 use borrow.Author.Tests.{eqb-true, eqb-false, ne_eqb}
@@ -88,9 +87,6 @@ few_bits (w ∷ ws) (suc i) f =
 
 pub length_below : (ws : List ℕ) (i : ℕ) → AllWords ws → i ≤ workspace_most → length (words_bits (take i ws)) < position_bound
 length_below ws i f h = omega (arith, few_bits ws i f)
-
-pub words-all : (ws : List ℕ) (i : ℕ) → length ws ≤ i → words_bits (take i ws) ≡ words_bits ws
-words-all ws i h = ap words_bits (take_all i ws h)
 
 -- A 0 that is passed.
 less_zero : (at : ℕ) (bs : List Bool) → all_zero (drop at bs) ≡ true → all_zero (drop (suc at) bs) ≡ true

@@ -67,19 +67,12 @@ walking_start ws room =
     record { tells = rw none; within = omega arith; few = omega arith; below = rw none (omega arith, tt); same_length = refl }
 
 module _ {ws room₀ room : List ℕ} {i depth top : ℕ} (v : Walking ws room₀ room i depth top) where
-  -- The words end before the terms do.
-  pub walking_ends : length ws ≤ i → false ≡ are_combinators (0 ∷ []) ws
-  walking_ends h = ap (are_combinators (depth ∷ drop top room)) (sym (drop_of_length-le ws {i = i} h)) ∙ v.tells
-
   module _ (more : i < length ws) where
     abbrev w : ℕ
     w = get_or ws i 0
 
     told : are_combinators (depth ∷ drop top room) (w ∷ drop (suc i) ws) ≡ are_combinators (0 ∷ []) ws
     told = ap (are_combinators (depth ∷ drop top room)) (sym (drop-cons ws i 0 more)) ∙ v.tells
-
-    pub walking_other : (kind_of w ≡ variable_kind → ⊥) → (w ≡ word abstraction_kind 0 → ⊥) → (w ≡ word application_kind 0 → ⊥) → false ≡ are_combinators (0 ∷ []) ws
-    walking_other a b c = sym (at_other depth w (drop top room) (drop (suc i) ws) a b c) ∙ told
 
     module _ (e : kind_of w ≡ variable_kind) where
       pub walking_free : depth ≤ payload_of w → false ≡ are_combinators (0 ∷ []) ws

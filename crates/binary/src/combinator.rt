@@ -13,7 +13,7 @@ const ROOM: usize = Word::WORKSPACE_MOST / 2;
 // than there are words left.
 fn is_closed_term(words: &[u32], room: &mut [u32]) -> bool
     requires { (length words.now ≤ workspace_most) × (workspace_most ≤ 2 * length room.old) }
-    ensures value { result ≡ are_combinators (0 ∷ []) words.now }
+    ensures told { result ≡ are_combinators (0 ∷ []) words.now }
     ensures room { Room room.old room.new }
 {
     let mut depth: u32 = 0;

@@ -34,11 +34,11 @@ pub fn bits_of(words: &[u32]) -> usize
 
 // Puts the bits of a word from a position on, where all are 0, and returns the position after them.
 fn put_word(word: Word, bytes: &mut [u8], at: usize) -> usize
-    requires word_bound { at + length (word_bits (kind_of word.0) (payload_of word.0)) ≤ byte_bits * length bytes.old }
-    requires word_bound_2 { at + length (word_bits (kind_of word.0) (payload_of word.0)) < position_bound }
-    requires bytes_value { all_zero (drop at (unpacked bytes.old)) ≡ true }
-    ensures bytes_after { bytes.new ≡ packed (length bytes.old) (take at (unpacked bytes.old) ++ word_bits (kind_of word.0) (payload_of word.0)) }
-    ensures value { result ≡ at + length (word_bits (kind_of word.0) (payload_of word.0)) }
+    requires bits_fit { at + length (word_bits (kind_of word.0) (payload_of word.0)) ≤ byte_bits * length bytes.old }
+    requires position_fits { at + length (word_bits (kind_of word.0) (payload_of word.0)) < position_bound }
+    requires rest_zero { all_zero (drop at (unpacked bytes.old)) ≡ true }
+    ensures put { bytes.new ≡ packed (length bytes.old) (take at (unpacked bytes.old) ++ word_bits (kind_of word.0) (payload_of word.0)) }
+    ensures position { result ≡ at + length (word_bits (kind_of word.0) (payload_of word.0)) }
 {
     match word.kind() {
         Word::VARIABLE => {
@@ -56,8 +56,8 @@ fn put_word(word: Word, bytes: &mut [u8], at: usize) -> usize
 
 // Puts the bits of words into bytes that are all 0.
 pub fn put(words: &[u32], bytes: &mut [u8])
-    requires words_len_bound { (length words.now ≤ workspace_most) × (length (words_bits words.now) ≤ byte_bits * length bytes.old) }
-    requires bytes_value { bytes.old ≡ replicate (length bytes.old) 0 }
+    requires bits_fit { (length words.now ≤ workspace_most) × (length (words_bits words.now) ≤ byte_bits * length bytes.old) }
+    requires cleared { bytes.old ≡ replicate (length bytes.old) 0 }
     ensures { bytes.new ≡ packed (length bytes.old) (words_bits words.now) }
 {
     let mut at: usize = 0;

@@ -20,9 +20,6 @@ module _ (bs : List Bool) (from to : ℕ) (some : from < to) (inside : to ≤ le
     behind : r ≡ suc (run (slice (suc from) to bs))
     behind = counted ∙ ap run (starts one)
 
-    pub token_positive : 1 ≤ r
-    token_positive = omega (arith, behind)
-
     pub token_unended : r ≡ to - from → early ≡ token (slice from to bs)
     unfolding token
     token_unended e = rw (starts one, le-ltb (run (slice (suc from) to bs)) (length (slice (suc from) to bs)) (omega (arith, behind, length-slice (suc from) to bs inside)))

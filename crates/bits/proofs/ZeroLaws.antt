@@ -6,10 +6,10 @@ use mathlib.Core.List.{List, [], ◌∷◌, ◌++◌, append-nil}
 use native.Mathlib.Nat.{one-le-pow}
 use native.Mathlib.Numerals.{add-one}
 use native.Mathlib.Omega.{arith}
-use borrow.Author.Tests.{lt-ltb, le-ltb, ne_eqb}
+use borrow.Author.Tests.{le-ltb, ne_eqb}
 use lib.Dec.{eqb, ltb}
 use lib.Pow.{pow-add, shl-shr}
-use lib.ListN.{length, drop, get_or, drop_of_length-le}
+use lib.ListN.{length, drop, get_or}
 use lib.Seq.{drop-cons, drop-drop, drop-append-le}
 use mir.Syntax.{w8}
 use mir.Val.{Fits}
@@ -42,19 +42,6 @@ module _ (i : ℕ) (xs : List ℕ) (inside : i < length xs) where
   byte_first : unpacked (drop i xs) ≡ digits byte_bits (get_or xs i 0) ++ unpacked (drop (i + 1) xs)
   byte_first = rw add-one (ap unpacked (drop-cons xs i 0 inside))
 
-  pub zero_byte : get_or xs i 0 ≡ 0 → all_zero (unpacked (drop (i + 1) xs)) ≡ all_zero (unpacked (drop i xs))
-  zero_byte e = sym (ap all_zero byte_first ∙ ap (λ b. all_zero (digits byte_bits b ++ unpacked (drop (i + 1) xs))) e)
-
-  pub other_byte : Fits w8 (get_or xs i 0) → (get_or xs i 0 ≡ 0 → ⊥) → false ≡ all_zero (unpacked (drop i xs))
-  other_byte f n =
-      sym (ap all_zero byte_first
-      ∙ all_zero_append (digits byte_bits (get_or xs i 0)) (unpacked (drop (i + 1) xs))
-      ∙ ap (λ b. b && all_zero (unpacked (drop (i + 1) xs)))
-      (all_zero_digits byte_bits (get_or xs i 0) ∙ ne_eqb (get_or xs i 0 % 2 ^ byte_bits) 0 (λ e. n (omega (arith, e, f.fits)))))
-
-pub no_byte : (i : ℕ) (xs : List ℕ) → length xs ≤ i → true ≡ all_zero (unpacked (drop i xs))
-no_byte i xs h = ap (λ ys. all_zero (unpacked ys)) (sym (drop_of_length-le xs {i = i} h))
-
 -- A byte's first bits left out of 256.
 pub power_shifted : (r : ℕ) → r ≤ byte_bits → 256 / 2 ^ r ≡ 2 ^ (byte_bits - r)
 power_shifted r h =
@@ -63,10 +50,6 @@ power_shifted r h =
 
 -- Bits past a count.
 module _ (xs : List ℕ) (count : ℕ) where
-  -- Too few bits are lent.
-  pub count_past : byte_bits * length xs < count → false ≡ (not (ltb (byte_bits * length xs) count) && all_zero (drop count (unpacked xs)))
-  count_past h = rw (lt-ltb (byte_bits * length xs) count h)
-
   lent : count ≤ byte_bits * length xs → (not (ltb (byte_bits * length xs) count) && all_zero (drop count (unpacked xs))) ≡ all_zero (drop count (unpacked xs))
   lent h = rw (le-ltb (byte_bits * length xs) count h)
 

@@ -9,7 +9,7 @@ use crate::BYTE_BITS;
 // Puts so many ones from a position on, as far as its byte goes.
 fn put_in_byte(bytes: &mut [u8], at: usize, count: usize)
     requires at_bound { (at < byte_bits * length bytes.old) × (at % byte_bits + count ≤ byte_bits) }
-    requires bytes_value { all_zero (drop at (unpacked bytes.old)) ≡ true }
+    requires rest_zero { all_zero (drop at (unpacked bytes.old)) ≡ true }
     ensures { bytes.new ≡ packed (length bytes.old) (take at (unpacked bytes.old) ++ replicate count true) }
 {
     let before = (at % BYTE_BITS) as u32;
@@ -21,7 +21,7 @@ fn put_in_byte(bytes: &mut [u8], at: usize, count: usize)
 // Puts so many ones from a position on, a byte at a time.
 pub fn put_ones(bytes: &mut [u8], from: usize, count: usize)
     requires count_bound { (from + count ≤ byte_bits * length bytes.old) × (from + count < position_bound) }
-    requires bytes_value { all_zero (drop from (unpacked bytes.old)) ≡ true }
+    requires rest_zero { all_zero (drop from (unpacked bytes.old)) ≡ true }
     ensures { bytes.new ≡ packed (length bytes.old) (take from (unpacked bytes.old) ++ replicate count true) }
 {
     let mut at = from;

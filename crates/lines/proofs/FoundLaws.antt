@@ -6,7 +6,8 @@ use mathlib.Core.List.{List, [], ◌∷◌, append-nil}
 use mathlib.Core.Logic.{inl, inr}
 use mathlib.Core.Option.{some, none, bind, none-ne-some}
 use native.Mathlib.Omega.{arith}
-use lib.ListN.{length, drop, length-drop}
+use lib.ListN.{length, take, drop, length-drop}
+use lib.Seq.{take_all}
 use Rattle.calculus.specs.Term.{Term}
 use Rattle.calculus.specs.Words.{words, size}
 use Rattle.calculus.specs.Accepted.{Scoped}
@@ -79,18 +80,26 @@ module _ (line workspace : List ℕ) (w : wrong_workspace (length workspace) ≡
         scoped_is_term term (packable spelled) (λ a. line_accepted spelled a) [] (omega (arith, size_is))
         ∙ ap₂ is_term (append-nil (words term) ∙ words_are) size_is
 
-    scoped : is_term (drop at out) (room_most - at) ≡ true → Scoped 0 term
-    scoped e = (free-fits term).0 (tested ∙ e)
+    -- The part that the test reads is all the words.
+    part : is_term (take (room_most - at) (drop at out)) (room_most - at) ≡ is_term (drop at out) (room_most - at)
+    part = ap (λ ws. is_term ws (room_most - at)) (take_all (room_most - at) (drop at out) (omega (arith, length-drop at out, room)))
 
-    unscoped : is_term (drop at out) (room_most - at) ≡ false → Scoped 0 term → ⊥
-    unscoped e s = false≢true (sym e ∙ sym tested ∙ (free-fits term).1 s)
+    scoped : is_term (take (room_most - at) (drop at out)) (room_most - at) ≡ true → Scoped 0 term
+    scoped e = (free-fits term).0 (tested ∙ sym part ∙ e)
 
-    pub read_free : is_term (drop at out) (room_most - at) ≡ false → refuse workspace WrongFree ≡ read_line line workspace
+    unscoped : is_term (take (room_most - at) (drop at out)) (room_most - at) ≡ false → Scoped 0 term → ⊥
+    unscoped e s = false≢true (sym e ∙ part ∙ sym tested ∙ (free-fits term).1 s)
+
+    pub read_free : is_term (take (room_most - at) (drop at out)) (room_most - at) ≡ false → refuse workspace WrongFree ≡ read_line line workspace
     read_free e = sym ((reading_exact line workspace).wrong-free asked term spelled (unscoped e))
 
-    pub read_over : is_term (drop at out) (room_most - at) ≡ true → length workspace < room_most - at → refuse workspace TooLong ≡ read_line line workspace
+    pub read_over : is_term (take (room_most - at) (drop at out)) (room_most - at) ≡ true → length workspace < room_most - at
+        → refuse workspace TooLong ≡ read_line line workspace
     read_over e h = sym ((reading_exact line workspace).too_long asked term spelled (scoped e) (omega (arith, size_is, h)))
 
-    pub read_left : is_term (drop at out) (room_most - at) ≡ true → room_most - at ≤ length workspace → hold workspace (drop at out) ≡ read_line line workspace
+    pub read_left : is_term (take (room_most - at) (drop at out)) (room_most - at) ≡ true → room_most - at ≤ length workspace
+        → hold workspace (drop at (take room_most out)) ≡ read_line line workspace
     read_left e h =
-        ap (hold workspace) (sym words_are) ∙ sym ((reading_exact line workspace).leaves asked term spelled (scoped e) (omega (arith, size_is, h))).1
+        ap (λ ws. hold workspace (drop at ws)) (take_all room_most out (omega (arith, room)))
+        ∙ ap (hold workspace) (sym words_are)
+        ∙ sym ((reading_exact line workspace).leaves asked term spelled (scoped e) (omega (arith, size_is, h))).1

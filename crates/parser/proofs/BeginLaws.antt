@@ -1,5 +1,5 @@
 -- What stands in front of an item, over plain values.
-use Prim.Native.Nat.{ℕ, suc, ◌+◌, ◌-◌, ◌≤◌, ◌<◌}
+use Prim.Native.Nat.{ℕ, zero, suc, ◌+◌, ◌-◌, ◌≤◌, ◌<◌}
 use mathlib.Core.Path.{◌≡◌, refl}
 use mathlib.Core.List.{List}
 use mathlib.Core.Option.{some, none}
@@ -28,6 +28,7 @@ sign_opens b e = rw e
 pub begin_lambda : (n i : ℕ) (ns ws out : List ℕ) → drop i out ≡ apply n ws → 0 < i → i ≤ length out
     → some (begun 0 ns (drop (i - 1) (set out (i - 1) (word abstraction_kind 0)))) ≡ on_begun lambda (begins n ns ws)
 unfolding on_begun
+begin_lambda n zero ns ws out q h g = elim h [ ]
 begin_lambda n (suc i) ns ws out q h g =
     let f : suc i - 1 ≡ i = omega arith in rw (f, drop-set out i (word abstraction_kind 0) (omega arith), q)
 

@@ -8,7 +8,7 @@ use lib.ListN.{length, drop, get_or, length-drop, drop_of_length-le}
 use lib.Seq.{drop-cons}
 use Rattle.calculus.proofs.All.{all_some}
 use Rattle.parser.specs.declared.Scan.{Scan}
-use Rattle.notation.specs.Reader.{sign, apply, State, wanted, Begun, settle, step, scan, finish, line_words}
+use Rattle.notation.specs.Reader.{sign, apply, State, Begun, settle, step, scan, finish, line_words}
 use Rattle.notation.specs.Grammar.{line_most}
 use Rattle.parser.specs.Scan.{at_power, state_of, room_most, Within, Ahead, Parses}
 use Rattle.notation.proofs.Bounded.{tally, load, scan-load}
@@ -77,6 +77,7 @@ parsing_starts line stack out p =
 pub scan_byte : (line : List ℕ) (i : ℕ) {σ : State} → 0 < i → i ≤ length line → scan (drop i line) ≡ some σ
     → scan (drop (i - 1) line) ≡ step (sign (get_or line (i - 1) 0)) σ
 unfolding scan bind
+scan_byte line zero h g q = elim h [ ]
 scan_byte line (suc i) h g q =
     let e : suc i - 1 ≡ i = omega arith in rw (e, drop-cons line i 0 (omega arith), q)
 

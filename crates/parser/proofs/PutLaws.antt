@@ -4,7 +4,7 @@ use mathlib.Core.Path.{◌≡◌, refl, sym, ◌∙◌, ap}
 use mathlib.Core.List.{List, ◌++◌}
 use native.Mathlib.Omega.{arith}
 use lib.ListN.{length, take, drop, set}
-use lib.Seq.{length-take-le, take_at, drop_at}
+use lib.Seq.{length-take-le, drop_at}
 use Rattle.words.proofs.PlacedLaws.{drop-set, taken_less}
 use Rattle.words.proofs.RoomLaws.{room_of_length}
 use Rattle.calculus.specs.Words.{word, application_kind}
@@ -18,13 +18,12 @@ use Rattle.notation.proofs.Sound.{apply_suc}
 -- One application is put: what the others and the end come to stays.
 pub put_one : (l : List ℕ) (n i : ℕ) → 0 < n → 0 < i → i ≤ length l
     → apply (n - 1) (drop (i - 1) (set l (i - 1) (word application_kind 0))) ≡ apply n (drop i l)
+put_one l zero i g h k = elim g [ ]
+put_one l (suc n) zero g h k = elim h [ ]
 put_one l (suc n) (suc i) g h k = let e : suc n - 1 ≡ n = omega arith in let f : suc i - 1 ≡ i = omega arith in
     rw (e, f, drop-set l i (word application_kind 0) (omega arith)) (sym (apply_suc n (drop (suc i) l)))
 
--- What stands before a place, and from it on, where words were put there up to the end.
-pub put_before : (l ws : List ℕ) {after : List ℕ} (i : ℕ) → i ≤ length l → after ≡ take i l ++ ws → take i after ≡ take i l
-put_before l ws i k e = ap (take i) e ∙ take_at (take i l) ws i (length-take-le i l k)
-
+-- What stands from a place on, where words were put there up to the end.
 pub put-behind : (l ws : List ℕ) {after : List ℕ} (i : ℕ) → i ≤ length l → after ≡ take i l ++ ws → drop i after ≡ ws
 put-behind l ws i k e = ap (drop i) e ∙ drop_at (take i l) ws i (length-take-le i l k)
 

@@ -24,6 +24,7 @@ close_none (suc (suc p)) v n ns ws h = refl
 pub close_some : (p v n top : ℕ) (stack ws : List ℕ) → p ≡ 1 → 0 < top → top ≤ length stack
     → some (wanted 0 (drop (top - 1) (set stack (top - 1) n)) ws) ≡ on_close (at_power p v n (drop top stack) ws)
 unfolding on_close
+close_some p v n zero stack ws e h g = elim h [ ]
 close_some p v n (suc top) stack ws e h g = let f : suc top - 1 ≡ top = omega arith in rw (e, f, drop-set stack top n (omega arith))
 
 pub digit_started : (d p v n : ℕ) (ns ws : List ℕ) → p ≡ 0 → none ≡ on_digit d (at_power p v n ns ws)
@@ -71,5 +72,6 @@ settle_none p v n ns ws h e = rw (number_at p v n ns ws h, ← e)
 pub settle_some : (p v n at : ℕ) (ns out : List ℕ) → 2 ≤ p → true ≡ is_index v p → 0 < at → at ≤ length out
     → some (begins n ns (drop (at - 1) (set out (at - 1) (word variable_kind v)))) ≡ settle (at_power p v n ns (drop at out))
 unfolding settle
+settle_some p v n zero ns out h e g k = elim g [ ]
 settle_some p v n (suc at) ns out h e g k =
     let f : suc at - 1 ≡ at = omega arith in rw (number_at p v n ns (drop (suc at) out) h, ← e, f, drop-set out at (word variable_kind v) (omega arith))

@@ -1,20 +1,14 @@
 -- Which byte does what.
-use Prim.Native.Nat.{ℕ, ◌+◌, ◌-◌, ◌≤◌, ◌<◌}
+use Prim.Native.Nat.{ℕ, ◌+◌, ◌-◌, ◌≤◌}
 use mathlib.Core.Path.{◌≡◌, refl, sym, ◌∙◌, ap}
 use mathlib.Core.Bool.{Bool, true, false, ◌&&◌}
 use mathlib.Core.Option.{Option, some, none, bind}
 use native.Mathlib.Omega.{arith}
 use lib.Dec.{leb}
-use borrow.Author.Tests.{leb-true, le-leb, lt-leb}
+use borrow.Author.Tests.{leb-true, le-leb}
 use Rattle.notation.specs.Grammar.{zero_digit, closing}
 use Rattle.notation.specs.Reader.{Sign, digit, sign, digit_byte, State, Begun, settle, on_digit, on_close, on_begun, step}
 use Rattle.notation.proofs.SignLaws.{Is, a_digit, a_gap, an_opening, a_closing, a_lambda, no_sign, sign_is, sign-digit}
-
-pub digit_low : (b : ℕ) → b < zero_digit → false ≡ digit_byte b
-digit_low b h = rw (lt-leb zero_digit b h)
-
-pub digit_high : (b : ℕ) → zero_digit ≤ b → leb b (zero_digit + 9) ≡ digit_byte b
-digit_high b h = rw (le-leb zero_digit b h)
 
 both : (x y : Bool) → (x && y) ≡ true → (x ≡ true) × (y ≡ true)
 both true y e = (refl, e)

@@ -113,7 +113,7 @@ fn on_digit(s: Scan, d: u32) -> Step
 // A closing parenthesis in front.
 fn on_closing(s: Scan, stack: &mut [usize]) -> Step
     requires { (0 < s.top) × (s.top ≤ length stack.old) }
-    ensures by_index { ((R : ℕ) → Within (length stack.old) R s → StepWithin (length stack.old) R result) × ((out : List ℕ) → stepped_of result stack.new out ≡ on_close (state_of s stack.old out)) }
+    ensures steps { ((R : ℕ) → Within (length stack.old) R s → StepWithin (length stack.old) R result) × ((out : List ℕ) → stepped_of result stack.new out ≡ on_close (state_of s stack.old out)) }
     ensures stays { Stays (λ t. t.top) result stack.old stack.new }
 {
     if s.power != 1 {
@@ -159,7 +159,7 @@ fn settle(s: Scan, out: &mut [u32]) -> Step
 // A backslash in front of an item: the term that starts there is whole, and the body of an abstraction.
 fn on_backslash(s: Scan, out: &mut [u32]) -> Step
     requires { (s.count < s.at) × (s.at ≤ length out.old) }
-    ensures by_index { ((D : ℕ) → s.top ≤ D → StepWithin D s.at result) × ((stack : List ℕ) → stepped_of result stack out.new ≡ on_begun lambda (begun_by s stack out.old)) }
+    ensures steps { ((D : ℕ) → s.top ≤ D → StepWithin D s.at result) × ((stack : List ℕ) → stepped_of result stack out.new ≡ on_begun lambda (begun_by s stack out.old)) }
     ensures stays { Stays (λ t. t.at) result out.old out.new }
 {
     let at = put_applications(out, s.at, s.count) - 1;
@@ -176,7 +176,7 @@ fn on_backslash(s: Scan, out: &mut [u32]) -> Step
 // An opening parenthesis in front of an item: the term that starts there is whole, and an item of the term around, if there is one.
 fn on_opening(s: Scan, stack: &[usize], out: &mut [u32]) -> Step
     requires { (s.count < s.at) × (s.at ≤ length out.old) × (s.top ≤ length stack.now) }
-    ensures step_within { StepWithin (length stack.now) s.at result × (stepped_of result stack.now out.new ≡ on_begun opens (begun_by s stack.now out.old)) }
+    ensures steps { StepWithin (length stack.now) s.at result × (stepped_of result stack.now out.new ≡ on_begun opens (begun_by s stack.now out.old)) }
     ensures stays { Stays (λ t. t.at) result out.old out.new }
 {
     let top = s.top;
@@ -196,7 +196,7 @@ fn on_opening(s: Scan, stack: &[usize], out: &mut [u32]) -> Step
 // A byte in front of an item.
 fn begin(b: u8, s: Scan, stack: &[usize], out: &mut [u32]) -> Step
     requires { (s.count < s.at) × (s.at ≤ length out.old) × (s.top ≤ length stack.now) }
-    ensures step_within { StepWithin (length stack.now) s.at result × (stepped_of result stack.now out.new ≡ on_begun (sign b) (begun_by s stack.now out.old)) }
+    ensures steps { StepWithin (length stack.now) s.at result × (stepped_of result stack.now out.new ≡ on_begun (sign b) (begun_by s stack.now out.old)) }
     ensures stays { Stays (λ t. t.at) result out.old out.new }
 {
     match b {
@@ -216,7 +216,7 @@ fn begin(b: u8, s: Scan, stack: &[usize], out: &mut [u32]) -> Step
 // One byte in front of those that are read.
 fn on_byte(b: u8, s: Scan, stack: &mut [usize], out: &mut [u32]) -> Step
     requires { Within (length stack.old) (length out.old) s × Ahead s }
-    ensures step_within { StepWithin (length stack.old) (length out.old) result × (stepped_of result stack.new out.new ≡ step (sign b) (state_of s stack.old out.old)) }
+    ensures steps { StepWithin (length stack.old) (length out.old) result × (stepped_of result stack.new out.new ≡ step (sign b) (state_of s stack.old out.old)) }
     ensures stays { Stays (λ t. t.top) result stack.old stack.new × WordsStay result out.old out.new }
 {
     if is_digit(b) {
@@ -272,10 +272,10 @@ pub fn parse(line: &[u8], stack: &mut [usize], out: &mut [u32]) -> Parsed
 
 // Does nothing. Its contract says that each constant is the number that the definitions give its name.
 fn constants()
-    ensures value { SPACE ≡ space }
-    ensures value_2 { OPENING ≡ opening }
-    ensures value_3 { CLOSING ≡ closing }
-    ensures value_4 { BACKSLASH ≡ backslash }
+    ensures space_value { SPACE ≡ space }
+    ensures opening_value { OPENING ≡ opening }
+    ensures closing_value { CLOSING ≡ closing }
+    ensures backslash_value { BACKSLASH ≡ backslash }
     ensures line_most_value { LINE_MOST ≡ line_most }
-    ensures value_5 { ROOM ≡ room_most }
+    ensures room_value { ROOM ≡ room_most }
 {}

@@ -81,8 +81,8 @@ fn all_once(counts: &[u32], n: usize) -> bool
 
 // Whether every record is named by exactly one link. The ends of chains are counted at 0.
 fn named_once(table: &[u32], form: Form, counts: &mut [u32]) -> bool
-    requires table_value { (wrong_length (stored form table.now) ≡ false) × (wrong_header (stored form table.now) ≡ false) × (everyOf (viewed form table.now).n (links_fit (viewed form table.now)) ≡ true) }
-    requires counts_value { counts.old ≡ replicate room_most 0 }
+    requires linked { (wrong_length (stored form table.now) ≡ false) × (wrong_header (stored form table.now) ≡ false) × (everyOf (viewed form table.now).n (links_fit (viewed form table.now)) ≡ true) }
+    requires zeros { counts.old ≡ replicate room_most 0 }
     ensures { (result ≡ everyOf (viewed form table.now).n (λ i. eqb (namings (viewed form table.now) i) 1)) × Room counts.old counts.new }
 {
     count_link(counts, root(table));
@@ -92,8 +92,8 @@ fn named_once(table: &[u32], form: Form, counts: &mut [u32]) -> bool
 
 // The links are counted in a room that is lent with zeros.
 pub fn wrong_links(table: &[u32], form: Form, room: &mut [u32]) -> bool
-    requires table_value { (wrong_length (stored form table.now) ≡ false) × (wrong_header (stored form table.now) ≡ false) }
-    requires room_value { room.old ≡ replicate room_most 0 }
+    requires headed { (wrong_length (stored form table.now) ≡ false) × (wrong_header (stored form table.now) ≡ false) }
+    requires zeros { room.old ≡ replicate room_most 0 }
     ensures { (result ≡ wrong_link (viewed form table.now)) × Room room.old room.new }
 {
     if !every(table, form, Aspect::Links) {

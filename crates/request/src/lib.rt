@@ -96,6 +96,6 @@ pub fn parse(bytes: &[u8]) -> Parsed
 
 // Does nothing. Its contract says that each constant is the number that the definitions give its name.
 fn constants()
-    ensures table_most_value { TABLE_MOST ≡ table_limit }
-    ensures input_most_value { INPUT_MOST ≡ input_most }
+    ensures table_most { TABLE_MOST ≡ table_limit }
+    ensures input_most { INPUT_MOST ≡ input_most }
 {}

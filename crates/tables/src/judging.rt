@@ -40,8 +40,8 @@ pub fn judge(table: &[u32], form: Form, most: usize, room: &mut Words) -> Result
 
 // The same of the refusals that are about the records.
 fn judge_records(table: &[u32], form: Form, room: &mut Words) -> Result
-    requires table_value { (wrong_length (stored form table.now) ≡ false) × (wrong_header (stored form table.now) ≡ false) }
-    requires room_value { room.old ≡ replicate room_most 0 }
+    requires headed { (wrong_length (stored form table.now) ≡ false) × (wrong_header (stored form table.now) ≡ false) }
+    requires zeros { room.old ≡ replicate room_most 0 }
     ensures { Judged (viewed form table.now) (record_checks (viewed form table.now)) room.old (result_of result) room.new }
 {
     if wrong_values(table, form) {
@@ -59,7 +59,7 @@ fn judge_records(table: &[u32], form: Form, room: &mut Words) -> Result
 // The same of refusal 6. Everything else that is asked of a term holds by the refusals before, so the words are no accepted term only by a free number.
 fn judge_free_numbers(table: &[u32], form: Form, room: &mut Words) -> Result
     requires readable { Readable (stored form table.now) (viewed form table.now).root × (1 ≤ (viewed form table.now).root) }
-    requires room_len { length room.old ≡ room_most }
+    requires room { length room.old ≡ room_most }
     ensures { Judged (viewed form table.now) ((WrongFree, wrong_free (viewed form table.now)) ∷ []) room.old (result_of result) room.new }
 {
     let end = read_term(table, form, root(table), room, 0);

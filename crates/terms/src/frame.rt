@@ -93,8 +93,8 @@ impl Frame {
 
     // What is to come after the item that the word starts.
     pub fn rest(self, word: Word) -> Frame
-        requires self_bound { (unpacked self.0).depth ≤ depth_limit }
-        requires word_value { allowed (unpacked self.0) word.0 ≡ true }
+        requires shallow { (unpacked self.0).depth ≤ depth_limit }
+        requires may_stand { allowed (unpacked self.0) word.0 ≡ true }
         ensures { unpacked result.0 ≡ rest (unpacked self.0) word.0 }
     {
         if self.terms() > 0 {

@@ -18,7 +18,7 @@ pub type Words = [u32; ROOM];
 #[cycle(read_chain_read_term)]
 pub fn read_term(table: &[u32], form: Form, at: usize, words: &mut Words, out: usize) -> usize
     requires readable { Readable (stored form table.now) at × (1 ≤ at) }
-    requires at_bound { out + length (term_words (viewed form table.now) at) ≤ workspace_most }
+    requires room { out + length (term_words (viewed form table.now) at) ≤ workspace_most }
     ensures { Placed words.old out (term_words (viewed form table.now) at) words.new result }
 {
     let record = Record::at(table, form, at);
@@ -32,7 +32,7 @@ pub fn read_term(table: &[u32], form: Form, at: usize, words: &mut Words, out: u
 #[cycle(read_chain_read_term)]
 fn read_chain(table: &[u32], form: Form, link: usize, words: &mut Words, out: usize) -> usize
     requires readable { Readable (stored form table.now) link }
-    requires link_bound { out + length (chain_words (viewed form table.now) link) ≤ workspace_most }
+    requires room { out + length (chain_words (viewed form table.now) link) ≤ workspace_most }
     ensures { Placed words.old out (chain_words (viewed form table.now) link) words.new result }
 {
     if link == 0 {

@@ -266,6 +266,6 @@ pub fn compare(text: &[u8], at: usize, words: &[u32], tail: u32) -> Compared
 
 // Does nothing. Its contract says that each constant is the number that the definitions give its name.
 fn constants()
-    ensures value { NOWHERE ≡ nowhere }
-    ensures list_most_value { LIST_MOST ≡ list_most }
+    ensures nowhere { NOWHERE ≡ nowhere }
+    ensures list_most { LIST_MOST ≡ list_most }
 {}

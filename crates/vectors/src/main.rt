@@ -6,7 +6,6 @@
 #![tactic(auto)]
 
 use crate::vector::tally_all;
-use libc::{STDIN_FILENO, STDOUT_FILENO};
 
 mod encoded;
 mod pair;
@@ -14,15 +13,20 @@ mod stored;
 mod typed;
 mod vector;
 
+// The streams that it reads and writes.
+const STDIN: i32 = 0;
+
+pub const STDOUT: i32 = 1;
+
 // The most bytes that are read.
 const INPUT_MOST: usize = 524288;
 
 fn main() {
     let mut input = [0u8; INPUT_MOST];
-    let length = io::read_full(STDIN_FILENO, &mut input);
+    let length = io::read_full(STDIN, &mut input);
     let all = tally_all(&input[..length]);
-    io::print_decimal(STDOUT_FILENO, all.passed as u64);
-    io::write_all(STDOUT_FILENO, b" of ");
-    io::print_decimal(STDOUT_FILENO, all.vectors as u64);
-    io::write_all(STDOUT_FILENO, b" vectors passed\n");
+    io::print_decimal(STDOUT, all.passed as u64);
+    io::write_all(STDOUT, b" of ");
+    io::print_decimal(STDOUT, all.vectors as u64);
+    io::write_all(STDOUT, b" vectors passed\n");
 }

@@ -2,11 +2,11 @@
 ghost use Rattle.std.specs.Prelude.{◌≡◌, ◌≤◌, length};
 ghost use Rattle.vectors.specs.Vector.{line_end, passes, counted, share_of, tally_all};
 
+use crate::STDOUT;
 use crate::encoded::{export_holds, import_holds};
 use crate::pair::pair_holds;
 use crate::stored::{load_holds, write_holds};
 use crate::typed::line_holds;
-use libc::STDOUT_FILENO;
 use vector_text::{NOWHERE, after};
 
 // How many vectors there are, and how many of them pass.
@@ -52,9 +52,9 @@ fn count(line: &[u8], passes: bool) -> Tally
             passed: 1,
         };
     }
-    io::write_all(STDOUT_FILENO, b"failed: ");
-    io::write_all(STDOUT_FILENO, line);
-    io::write_all(STDOUT_FILENO, b"\n");
+    io::write_all(STDOUT, b"failed: ");
+    io::write_all(STDOUT, line);
+    io::write_all(STDOUT, b"\n");
     Tally {
         vectors: 1,
         passed: 0,

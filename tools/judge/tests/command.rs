@@ -3,6 +3,7 @@
 use std::env;
 use std::ffi::{OsStr, OsString};
 use std::fs;
+use std::hash::{DefaultHasher, Hash, Hasher};
 use std::io::Write;
 use std::os::unix::ffi::OsStrExt;
 use std::os::unix::fs::{symlink, PermissionsExt};
@@ -36,12 +37,21 @@ const SIDES: &str = "#!/bin/sh\nset -- $(od -An -v -tu4)\nnumber=$1\n\
 /// Stands in for cargo: prints its arguments, a line each.
 const CARGO: &str = "#!/bin/sh\nprintf '%s\\n' \"$@\"\n";
 
+/// A folder for the tests of this checkout. It is outside, since the gate takes no second list of crates
+/// inside.
+fn outside(name: &str) -> PathBuf {
+    let mut checkout = DefaultHasher::new();
+    env!("CARGO_MANIFEST_DIR").hash(&mut checkout);
+    let tests = format!("judge-tests-{:016x}", checkout.finish());
+    env::temp_dir().join(tests).join(name)
+}
+
 /// A folder laid out like the repository, with ECHO for the built program and the others beside it.
 /// All are written before the first is run: a file open for writing cannot be executed.
 fn repository() -> &'static Path {
     static ROOT: OnceLock<PathBuf> = OnceLock::new();
     ROOT.get_or_init(|| {
-        let root = Path::new(env!("CARGO_TARGET_TMPDIR")).join("repository");
+        let root = outside("repository");
         let bin = root.join("target/bin");
         fs::create_dir_all(&bin).expect("a folder for the programs");
         fs::create_dir_all(root.join("docs/deeper")).expect("a folder below the root");
@@ -298,7 +308,7 @@ fn a_program_that_nothing_has_checked_is_said_to_be() {
 
 #[test]
 fn an_rt_that_cannot_be_started_is_said() {
-    let folder = Path::new(env!("CARGO_TARGET_TMPDIR")).join("no-command");
+    let folder = outside("no-command");
     fs::create_dir_all(&folder).expect("a folder");
     fs::write(folder.join("rt"), "").expect("a file");
     let output = Command::new(env!("CARGO_BIN_EXE_judge"))
@@ -309,14 +319,14 @@ fn an_rt_that_cannot_be_started_is_said() {
     let (status, output, message) = answer(output.expect("judge runs"));
     assert_eq!((status, output.as_str()), (3, ""));
     assert!(
-        message.starts_with("judge: `rt check verdict` cannot be followed: Permission denied"),
+        message.starts_with("judge: `tools/program verdict` cannot be followed: Permission denied"),
         "{message}"
     );
 }
 
 #[test]
 fn a_folder_that_is_no_repository_is_left_alone() {
-    let other = Path::new(env!("CARGO_TARGET_TMPDIR")).join("other");
+    let other = outside("other");
     fs::create_dir_all(&other).expect("a folder");
     for path in [other.to_str().expect("text"), "/no/such/folder"] {
         let message = refused(3, &["--repository", path, "0", "0"]);
@@ -328,34 +338,41 @@ fn a_folder_that_is_no_repository_is_left_alone() {
     assert!(!other.join("target").exists());
 }
 
-/// Stands in for rt: builds a program from the file `source` unless its stamp is of that source. What
-/// stands on standard input is not for it, and it does not work beside another one.
+/// Stands in for rt: proves the crates below the program, and builds the program from the file `source`,
+/// unless its stamp is of that source, and runs it. What stands on standard input is not for it, and it
+/// does not work beside another one.
 const RT: &str = "#!/bin/sh
-[ \"$*\" = 'check verdict' ] || exit 2
+[ \"$*\" = version ] && exit
+[ \"$*\" = run ] || exit 2
+[ \"$(basename \"$PWD\")\" = verdict ] || exit 2
 [ -z \"$(cat)\" ] || exit 2
-mkdir working || exit 2
-trap 'rmdir working' EXIT
-grep -q slow source && sleep 2.5
-if cmp -s source target/stamp/verdict; then
-    echo 'rt: verdict proved (unchanged since it was last proved)'
-    exit
+source=../../source
+mkdir ../../working || exit 2
+trap 'rmdir ../../working' EXIT
+grep -q slow $source && sleep 2.5
+proved() {
+    for name; do
+        echo \"rt: chose --jobs 2 for $name\"
+        echo \"fn $name::first: proved\"
+        echo 'logic=proved functions=1 sum=dac8208d650f15bf'
+    done >&2
+}
+if ! [ -f out/verdict ] || ! cmp -s $source out/verdict.stamp; then
+    echo 'what the prover has to say' >&2
+    [ -f out/verdict.stamp ] || proved calculus words terms rounds press
+    if grep -q wrong $source; then
+        echo 'rt: chose --jobs 2 for verdict' >&2
+        echo 'logic=not-proved' >&2
+        exit 1
+    fi
+    grep -q nothing $source && exit
+    mkdir -p out
+    { echo '#!/bin/sh'; cat $source; } >out/verdict
+    chmod +x out/verdict
+    cp $source out/verdict.stamp
+    proved verdict
 fi
-echo 'what the prover has to say' >&2
-for name in calculus words terms; do
-    echo \"rt: $name proved (unchanged since it was last proved)\"
-done
-echo 'rt: rounds proved (4 s)'
-echo 'rt: press proved (2 s)'
-if grep -q wrong source; then
-    echo 'rt: verdict NOT PROVED (exit 1, 3 s)'
-    exit 1
-fi
-grep -q nothing source && exit
-mkdir -p target/bin target/stamp
-{ echo '#!/bin/sh'; cat source; } >target/bin/verdict
-chmod +x target/bin/verdict
-cp source target/stamp/verdict
-echo 'rt: verdict proved (3 s)'
+out/verdict
 ";
 
 /// The crates that RT speaks of, and one that the program does not need.
@@ -366,7 +383,7 @@ terms: words
 rounds: words
 press: terms rounds
 vectors: press
-verdict: press io
+verdict: press
 ";
 
 /// A repository of its own, whose program is built by RT.
@@ -376,9 +393,12 @@ struct Repository {
 
 impl Repository {
     fn new(name: &str, source: &str) -> Repository {
-        let root = Path::new(env!("CARGO_TARGET_TMPDIR")).join(name);
+        let root = outside(name);
         let _ = fs::remove_dir_all(&root);
-        fs::create_dir_all(root.join("below")).expect("a folder in the repository");
+        for folder in ["below", "tools", "crates/verdict"] {
+            fs::create_dir_all(root.join(folder)).expect("a folder in the repository");
+        }
+        fs::copy("../program", root.join("tools/program")).expect("the script");
         fs::write(root.join("crates.txt"), CRATES).expect("a list of crates");
         fs::write(root.join("source"), source).expect("a source");
         Repository { root }
@@ -497,10 +517,16 @@ fn several_at_once_wait_for_each_other() {
 fn a_deleted_program_is_built_again() {
     let repository = Repository::new("deleted", &Repository::prints("Same 0 1 1"));
     repository.judge();
-    fs::remove_file(repository.root.join("target/bin/verdict")).expect("it is there");
+    let program = repository.root.join("target/bin/verdict");
+    fs::remove_file(&program).expect("it is there");
+    assert_eq!(repository.judge(), printed("Same 0 1 1"));
+    let built = repository.root.join("crates/verdict/out/verdict");
+    for program in [&program, &built] {
+        fs::remove_file(program).expect("it is there");
+    }
     let (status, output, message) = repository.judge();
     assert_eq!((status, output.as_str()), (0, "Same 0 1 1\n"), "{message}");
-    assert!(message.ends_with("judge: 5 of 6 crates proved\n"));
+    assert!(message.starts_with("judge: proving and building the program first"));
 }
 
 #[test]
@@ -513,7 +539,7 @@ fn a_changed_source_is_judged_by_a_new_program() {
     fs::write(&source, "wrong").expect("the source");
     let (status, output, message) = repository.judge();
     assert_eq!((status, output.as_str()), (3, ""));
-    assert!(message.contains("judge: verdict NOT PROVED (exit 1, 3 s)\n"));
+    assert!(message.contains("judge: verdict NOT PROVED\n"));
     assert!(message.contains("did not build target/bin/verdict from these sources"));
     assert!(message.contains("Its log is "), "{message}");
 }
@@ -523,9 +549,10 @@ fn a_build_that_leaves_no_program_is_said() {
     let repository = Repository::new("nothing", "nothing");
     let (status, output, message) = repository.judge();
     assert_eq!((status, output.as_str()), (3, ""));
-    let said = "judge: `rt check verdict` did not build target/bin/verdict from these sources: ";
+    let said =
+        "judge: `tools/program verdict` did not build target/bin/verdict from these sources: ";
     assert!(
-        message.contains(&format!("{said}exit status: 0\n")),
+        message.contains(&format!("{said}exit status: 1\n")),
         "{message}"
     );
 }

@@ -1,6 +1,7 @@
-//! The repository that holds the unit, and its programs built from the sources as they are: by rt,
-//! and by the C compiler over the archive that rt makes.
+//! The repository that holds the unit, and its programs built from the sources as they are, by its
+//! scripts: with rt, and with the C compiler over the archive that rt makes.
 
+use std::collections::HashMap;
 use std::fs::{self, File, TryLockError};
 use std::io::{self, BufRead, BufReader, ErrorKind, Write};
 use std::path::{Path, PathBuf};
@@ -13,19 +14,19 @@ use std::time::{Duration, Instant};
 const CRATES: &str = "crates.txt";
 /// Where the programs are.
 const PROGRAMS: &str = "target/bin";
+/// What builds a program that is a crate.
+const BUILD: &str = "tools/program";
 /// The program that is in C, what builds it, and the crate of the archive that it is linked to.
 const IN_C: &str = "replay";
 const C_BUILD: &str = "firmware/build";
 const ARCHIVE: &str = "firmware";
-/// What makes rt take a program for built, even where it is gone.
-const STAMPS: &str = "target/stamp";
 /// All that was printed when a program was last built.
 const LOG: &str = "target/log/judge.out";
 
 /// Locked while one is built: two builds in one repository would take each other's results for their own.
 const LOCK: &str = "target/judge.lock";
 
-/// With nothing to prove, rt says its first word sooner than this.
+/// With nothing to prove, a build ends or says its first word sooner than this.
 const SOON: Duration = Duration::from_secs(2);
 /// Between two looks at a lock that another process has.
 const PAUSE: Duration = Duration::from_millis(20);
@@ -51,11 +52,8 @@ pub fn program(root: &Path, name: &str, tell: &mut dyn FnMut(&str)) -> Result<Pa
     }
     let path = Path::new(PROGRAMS).join(name);
     let program = root.join(&path);
-    // Where it cannot be locked, or the stamp not removed, rt builds nothing, and that is found below.
+    // Where it cannot be locked, nothing can be built, and that is found below.
     let _held = hold(&root.join(LOCK), tell);
-    if !program.is_file() {
-        let _ = fs::remove_file(root.join(STAMPS).join(name));
-    }
     let recipe = Recipe::of(name);
     let built = match recipe.start(root) {
         Ok(child) => watch(child, root, recipe.proved(), tell),
@@ -76,10 +74,10 @@ pub fn program(root: &Path, name: &str, tell: &mut dyn FnMut(&str)) -> Result<Pa
     }
 }
 
-/// How a program is built: by rt, which proves its crate, or over the archive.
+/// How a program is built: as a crate, or over the archive.
 #[derive(Clone, Copy)]
 enum Recipe<'a> {
-    Rt(&'a str),
+    Crate(&'a str),
     C,
 }
 
@@ -87,43 +85,48 @@ impl<'a> Recipe<'a> {
     fn of(name: &'a str) -> Self {
         match name {
             IN_C => Recipe::C,
-            name => Recipe::Rt(name),
+            name => Recipe::Crate(name),
         }
     }
 
     /// The crate that is proved for it.
     fn proved(self) -> &'a str {
         match self {
-            Recipe::Rt(name) => name,
+            Recipe::Crate(name) => name,
             Recipe::C => ARCHIVE,
         }
     }
 
     fn text(self) -> String {
         match self {
-            Recipe::Rt(name) => format!("rt check {name}"),
+            Recipe::Crate(name) => format!("{BUILD} {name}"),
             Recipe::C => C_BUILD.to_string(),
         }
     }
 
     /// Where rt is not installed, the error says that it is not found.
     fn start(self, root: &Path) -> io::Result<Child> {
+        can_start_rt()?;
         let mut build = match self {
-            Recipe::Rt(name) => {
-                let mut rt = Command::new("rt");
-                rt.args(["check", name]);
-                rt
+            Recipe::Crate(name) => {
+                let mut build = Command::new(root.join(BUILD));
+                build.arg(name);
+                build
             }
-            Recipe::C => {
-                let mut rt = Command::new("rt");
-                rt.arg("version").stdin(Stdio::null());
-                rt.stdout(Stdio::null()).stderr(Stdio::null()).status()?;
-                Command::new(root.join(C_BUILD))
-            }
+            Recipe::C => Command::new(root.join(C_BUILD)),
         };
         build.current_dir(root).stdin(Stdio::null());
         build.stdout(Stdio::piped()).stderr(Stdio::piped()).spawn()
     }
+}
+
+/// Starts rt, and waits for no word of it.
+fn can_start_rt() -> io::Result<()> {
+    let mut rt = Command::new("rt");
+    rt.arg("version").stdin(Stdio::null());
+    let mut rt = rt.stdout(Stdio::null()).stderr(Stdio::null()).spawn()?;
+    rt.kill()?;
+    rt.wait().map(|_| ())
 }
 
 /// Waits until no other process has the lock. It is free again when the file is dropped.
@@ -170,8 +173,8 @@ fn watch(
     let mut progress = Progress {
         log: log.clone(),
         needed: needed(&fs::read_to_string(root.join(CRATES))?, proved),
-        proved: 0,
-        is_told: false,
+        at: 0,
+        told: None,
     };
     fs::create_dir_all(log.parent().unwrap_or(&log))?;
     let mut log = File::create(log)?;
@@ -206,33 +209,44 @@ fn lines(child: &mut Child) -> Receiver<String> {
     receiver
 }
 
-/// How many crates of a list, which has the lowest first, a crate needs, itself among them.
-fn needed(list: &str, name: &str) -> usize {
-    let mut wanted = vec![name];
-    let mut count = 0;
-    let lines = list.lines().rev().map(|line| line.split('#').next());
-    for (name, needs) in lines.filter_map(|line| line?.split_once(':')) {
-        if wanted.contains(&name.trim()) {
-            count += 1;
-            wanted.extend(needs.split_whitespace());
-        }
+/// The crates of a list that a crate needs, each after those that it needs itself, so in the order in
+/// which rt proves them: the crate itself is the last.
+fn needed(list: &str, name: &str) -> Vec<String> {
+    let lines = list.lines().filter_map(|line| line.split('#').next());
+    let lines = lines.filter_map(|line| line.split_once(':'));
+    let list = lines.filter_map(|(head, needs)| Some((head.split_whitespace().next()?, needs)));
+    let mut found = Vec::new();
+    find_needed(&list.collect(), name, &mut found);
+    found
+}
+
+fn find_needed(list: &HashMap<&str, &str>, name: &str, found: &mut Vec<String>) {
+    if found.iter().any(|one| one == name) {
+        return;
     }
-    count
+    // What is not in the list is the kit's.
+    let Some(needs) = list.get(name) else { return };
+    for need in needs.split_whitespace() {
+        find_needed(list, need, found);
+    }
+    found.push(name.to_string());
 }
 
 /// What of rt's log the user is told.
 struct Progress {
     log: PathBuf,
-    /// Crates that the program needs, and those of them that are proved, now or before.
-    needed: usize,
-    proved: usize,
-    is_told: bool,
+    /// Crates that the program needs.
+    needed: Vec<String>,
+    /// Those before this one are proved, now or before: of a crate that has not changed rt says nothing.
+    at: usize,
+    /// So many of them when the user was last told; none before anything was told.
+    told: Option<usize>,
 }
 
 impl Progress {
     fn start(&mut self, tell: &mut dyn FnMut(&str)) {
-        if !self.is_told {
-            self.is_told = true;
+        if self.told.is_none() {
+            self.told = Some(self.at);
             let log = self.log.display();
             tell(&format!(
                 "proving and building the program first, which can take minutes (log: {log})"
@@ -241,26 +255,42 @@ impl Progress {
     }
 
     fn line(&mut self, line: &str, tell: &mut dyn FnMut(&str)) {
-        let Some(said) = line.strip_prefix("rt: ") else {
-            return;
-        };
-        if said.contains("NOT PROVED") {
-            self.start(tell);
-            tell(said);
-        } else if said.contains(" proved (") {
-            self.proved += 1;
-            if !said.contains("(unchanged") {
+        if let Some(name) = begun(line) {
+            if let Some(at) = self.needed.iter().position(|one| one == name) {
+                self.at = at;
                 self.start(tell);
+                self.tell_proved(tell);
             }
-            // The archive names its crates once more when it is put together.
-            if self.is_told
-                && self.proved <= self.needed
-                && self.proved.is_multiple_of(CRATES_A_LINE)
-            {
-                tell(&format!("{} of {} crates proved", self.proved, self.needed));
+        } else if line.starts_with("logic=proved ") {
+            self.at += 1;
+            self.tell_proved(tell);
+        } else if line.starts_with("logic=not-proved") {
+            self.start(tell);
+            if let Some(name) = self.needed.get(self.at) {
+                tell(&format!("{name} NOT PROVED"));
             }
         }
     }
+
+    fn tell_proved(&mut self, tell: &mut dyn FnMut(&str)) {
+        let told = self.told.unwrap_or(self.at);
+        if self.at / CRATES_A_LINE > told / CRATES_A_LINE {
+            self.told = Some(self.at);
+            tell(&format!(
+                "{} of {} crates proved",
+                self.at,
+                self.needed.len()
+            ));
+        }
+    }
+}
+
+/// The crate whose check begins, as rt says it: `rt: chose --jobs 2 for words`.
+fn begun(line: &str) -> Option<&str> {
+    let (jobs, name) = line
+        .strip_prefix("rt: chose --jobs ")?
+        .split_once(" for ")?;
+    jobs.parse::<u32>().ok().map(|_| name)
 }
 
 #[cfg(test)]
@@ -277,23 +307,27 @@ high: middle
 ";
 
     #[test]
-    fn the_crates_below_a_crate_are_counted_once() {
-        assert_eq!(needed(LIST, "low"), 1);
-        assert_eq!(needed(LIST, "middle"), 2);
-        assert_eq!(needed(LIST, "high"), 3);
-        assert_eq!(needed(LIST, "io"), 0);
-        assert_eq!(needed("a:\nb: a\nc: a\nd: b c\n", "d"), 4);
-        assert_eq!(needed(" a:\n\tb :  a\n", "b"), 2);
-        assert_eq!(needed("a:\nb:\nc: a # b\n# c: a\n", "c"), 2);
+    fn the_crates_below_a_crate_come_first_and_once() {
+        assert_eq!(needed(LIST, "low"), ["low"]);
+        assert_eq!(needed(LIST, "middle"), ["low", "middle"]);
+        assert_eq!(needed(LIST, "high"), ["low", "middle", "high"]);
+        assert_eq!(needed(LIST, "io"), [""; 0]);
+        let diamond = "a:\nb: a\nc: a\nd: c b\n";
+        assert_eq!(needed(diamond, "d"), ["a", "c", "b", "d"]);
+        assert_eq!(needed(" a:\n\tb :  a\n", "b"), ["a", "b"]);
+        assert_eq!(needed("a:\nb staticlib: a\n", "b"), ["a", "b"]);
+        assert_eq!(needed("a:\nb:\nc: a # b\n# c: a\n", "c"), ["a", "c"]);
     }
+
+    const CRATES: [&str; 6] = ["calculus", "words", "terms", "rounds", "press", "verdict"];
 
     /// What is told of these lines, with six crates needed.
     fn told(lines: &[&str]) -> Vec<String> {
         let mut progress = Progress {
             log: PathBuf::from("log"),
-            needed: 6,
-            proved: 0,
-            is_told: false,
+            needed: CRATES.map(str::to_string).to_vec(),
+            at: 0,
+            told: None,
         };
         let mut told = Vec::new();
         for line in lines {
@@ -302,47 +336,54 @@ high: middle
         told
     }
 
+    /// What is told where rt proves these crates; it says nothing of those that it proved before.
+    fn told_of(crates: &[&str]) -> Vec<String> {
+        let begun = |name: &&str| format!("rt: chose --jobs 4 for {name}");
+        let lines = crates
+            .iter()
+            .flat_map(|name| [begun(name), PROVED.to_string()]);
+        let lines: Vec<String> = lines.collect();
+        told(&lines.iter().map(String::as_str).collect::<Vec<_>>())
+    }
+
     const STARTED: &str =
         "proving and building the program first, which can take minutes (log: log)";
-    const NEW: &str = "rt: words proved (2 s)";
-    const OLD: &str = "rt: words proved (unchanged since it was last proved)";
+    const PROVED: &str = "logic=proved functions=23 sum=dac8208d650f15bf";
 
     #[test]
     fn every_fifth_crate_is_told() {
-        assert_eq!(told(&[NEW; 4]), [STARTED]);
-        assert_eq!(told(&[NEW; 5]), [STARTED, "5 of 6 crates proved"]);
-        assert_eq!(told(&[NEW; 6]), [STARTED, "5 of 6 crates proved"]);
-        assert_eq!(told(&[NEW; 12]), [STARTED, "5 of 6 crates proved"]);
+        assert_eq!(told_of(&CRATES[..4]), [STARTED]);
+        assert_eq!(told_of(&CRATES[..5]), [STARTED, "5 of 6 crates proved"]);
+        assert_eq!(told_of(&CRATES), [STARTED, "5 of 6 crates proved"]);
     }
 
     #[test]
     fn crates_that_were_proved_before_count_but_are_not_told_alone() {
-        assert_eq!(told(&[OLD; 6]), [""; 0]);
-        assert_eq!(
-            told(&[OLD, OLD, OLD, OLD, NEW, NEW]),
-            [STARTED, "5 of 6 crates proved"]
-        );
-        assert_eq!(told(&[OLD, OLD, OLD, OLD, OLD, NEW]), [STARTED]);
+        assert_eq!(told(&["rt: running out/verdict"]), [""; 0]);
+        assert_eq!(told_of(&CRATES[4..]), [STARTED, "5 of 6 crates proved"]);
+        assert_eq!(told_of(&CRATES[5..]), [STARTED]);
+        let first_and_last = [CRATES[0], CRATES[5]];
+        assert_eq!(told_of(&first_and_last), [STARTED, "5 of 6 crates proved"]);
     }
 
     #[test]
-    fn runs_and_the_last_line_are_no_crates() {
+    fn other_lines_and_other_crates_count_nothing() {
         for other in [
-            "rt: words proved, and its run FAILED (1 s)",
-            "rt: words ran, and wrote what its file 'stdout' has (1 s)",
-            "rt: ok, 4 crates proved",
+            "fn words::skip: proved",
+            "only=0 proved=0",
+            "crate words: modules loaded=24 checked=0",
+            "rt: the check was killed, most likely for memory: once more with --jobs 1",
+            "rt: chose --jobs 2 for vectors",
         ] {
-            assert_eq!(told(&[NEW, NEW, NEW, NEW, other]), [STARTED], "{other}");
+            let lines = ["rt: chose --jobs 2 for press", other, other];
+            assert_eq!(told(&lines), [STARTED], "{other}");
         }
     }
 
     #[test]
     fn a_crate_that_is_not_proved_is_told_at_once() {
-        let failed = "rt: words NOT PROVED (exit 1, 3 s)";
-        assert_eq!(
-            told(&[failed, NEW]),
-            [STARTED, "words NOT PROVED (exit 1, 3 s)"]
-        );
+        let lines = ["rt: chose --jobs 4 for words", "logic=not-proved"];
+        assert_eq!(told(&lines), [STARTED, "words NOT PROVED"]);
         assert_eq!(told(&["words proved (2 s)", "note"]), [""; 0]);
     }
 }

@@ -1,6 +1,5 @@
 -- `is_index` meets its contract: each return has the tests that led there.
 use Rattle.parser.proofs.StateLaws.{index_large, index_long, index_short}
-use borrow.Author.Rules.{rules}
 use native.Mathlib.Omega.{arith}
 use Rattle.parser.proofs.is_index.Goals as goal
 

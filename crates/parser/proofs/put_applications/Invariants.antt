@@ -1,11 +1,7 @@
 use Prim.Native.Nat.{◌≤◌, ◌-◌}
 use Rattle.notation.specs.Reader.{apply}
-use Rattle.parser.proofs.PutLaws.{put_one}
-use Rattle.words.proofs.PlacedLaws.{taken_set}
-use lib.ListN.{length, take, drop, length-set, take-append-drop}
-use mathlib.Core.List.{◌++◌}
-use mathlib.Core.Path.{◌≡◌, refl, sym, ◌∙◌, ap₂}
-use native.Mathlib.Omega.{arith}
+use lib.ListN.{length, take, drop}
+use mathlib.Core.Path.{◌≡◌}
 use Rattle.parser.proofs.put_applications.Given as goal
 
 abbrev pub invariant-loop-left : goal.invariant-loop-left

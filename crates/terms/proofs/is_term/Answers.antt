@@ -1,6 +1,5 @@
 -- `is_term` meets its contract: lengths that no term in the words has, or the scan.
 use Rattle.terms.proofs.IsTerm.{is_term_long, is_term_past}
-use borrow.Author.Rules.{rules}
 use Rattle.terms.proofs.is_term.Goals as goal
 
 pub returns-then-n-gt-WORKSPACE_MOST : goal.returns-then-n-gt-WORKSPACE_MOST

@@ -1,8 +1,7 @@
 -- `first_token` meets its contract.
-use Rattle.bits.proofs.TokenLaws.{token_unended, token_positive, token_variable, token_short, token-application, token-abstraction}
+use Rattle.bits.proofs.TokenLaws.{token_unended, token_variable, token_short, token-application, token-abstraction}
 use Rattle.encoding.proofs.BytesLaws.{length-unpacked}
 use Rattle.encoding.specs.Bytes.{unpacked}
-use borrow.Author.Rules.{rules}
 use mathlib.Core.Path.{sym, ◌∙◌}
 use native.Mathlib.Omega.{arith}
 use Rattle.bits.proofs.reading.first_token.Goals as goal

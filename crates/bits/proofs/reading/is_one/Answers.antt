@@ -1,8 +1,5 @@
 -- `is_one` meets its contract.
-use Prim.Native.Nat.{◌/◌}
 use Rattle.bits.proofs.WindowLaws.{bit_at}
-use borrow.Author.Rules.{rules}
-use native.Mathlib.Omega.{arith}
 use Rattle.bits.proofs.reading.is_one.Goals as goal
 
 pub returns : goal.returns

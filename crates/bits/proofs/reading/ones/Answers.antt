@@ -1,11 +1,9 @@
 -- `ones` meets its contract. The invariant: so many ones are counted, and the run has at least as many.
-use Prim.Native.Nat.{◌+◌, ◌-◌, ◌%◌, ◌≤◌}
+use Prim.Native.Nat.{◌+◌, ◌-◌, ◌%◌}
 use Rattle.bits.proofs.RunLaws.{run_ends, run_fills, run_stops, run_goes_on}
-use Rattle.bits.specs.Runs.{run}
 use Rattle.encoding.proofs.BytesLaws.{length-unpacked}
 use Rattle.encoding.specs.Bytes.{unpacked}
-use lib.Seq.{slice}
-use mathlib.Core.Path.{◌≡◌, refl}
+use mathlib.Core.Path.{refl}
 use native.Mathlib.Omega.{arith}
 use Rattle.bits.proofs.reading.ones.Goals as goal
 

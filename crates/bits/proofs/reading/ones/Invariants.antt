@@ -1,11 +1,8 @@
-use Prim.Native.Nat.{◌+◌, ◌-◌, ◌%◌, ◌≤◌}
-use Rattle.bits.proofs.RunLaws.{run_ends, run_fills, run_stops, run_goes_on}
+use Prim.Native.Nat.{◌-◌, ◌≤◌}
 use Rattle.bits.specs.Runs.{run}
-use Rattle.encoding.proofs.BytesLaws.{length-unpacked}
 use Rattle.encoding.specs.Bytes.{unpacked}
 use lib.Seq.{slice}
-use mathlib.Core.Path.{◌≡◌, refl}
-use native.Mathlib.Omega.{arith}
+use mathlib.Core.Path.{◌≡◌}
 use Rattle.bits.proofs.reading.ones.Given as goal
 
 abbrev pub invariant-loop-count : goal.invariant-loop-count

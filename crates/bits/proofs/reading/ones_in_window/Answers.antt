@@ -1,10 +1,8 @@
 -- `ones_in_window` meets its contract.
 use Prim.Native.Nat.{◌*◌, ◌-◌, ◌%◌, ◌^◌}
 use Rattle.bits.proofs.WindowLaws.{window_ones}
-use borrow.Author.Rules.{rules}
-use lib.Count.{count_leading_zeros, leading_le}
+use lib.Count.{count_leading_zeros}
 use mathlib.Core.Path.{ap, ◌∙◌}
-use native.Mathlib.Omega.{arith}
 use Rattle.bits.proofs.reading.ones_in_window.Goals as goal
 
 pub returns : goal.returns

@@ -1,8 +1,5 @@
 -- `whole_window` meets its contract.
-use Prim.Native.Nat.{◌+◌}
 use Rattle.bits.proofs.WindowLaws.{whole_is}
-use borrow.Author.Rules.{rules}
-use native.Mathlib.Omega.{arith}
 use Rattle.bits.proofs.reading.whole_window.Goals as goal
 
 pub returns : goal.returns

@@ -1,9 +1,5 @@
 -- `window` meets its contract. The invariant: the window so far is the number of the first bytes.
-use Prim.Native.Nat.{◌+◌, ◌*◌, ◌-◌, ◌≤◌}
 use Rattle.bits.proofs.WindowLaws.{window_fits, window_goes_on, window_past}
-use Rattle.encoding.specs.Bytes.{byte_bits, unpacked, number}
-use lib.ListN.{drop}
-use mathlib.Core.Path.{◌≡◌, refl, ap, ◌∙◌}
 use native.Mathlib.Omega.{arith}
 use Rattle.bits.proofs.reading.window.Goals as goal
 

@@ -1,9 +1,7 @@
-use Prim.Native.Nat.{◌+◌, ◌*◌, ◌-◌, ◌≤◌}
-use Rattle.bits.proofs.WindowLaws.{window_fits, window_goes_on, window_past}
+use Prim.Native.Nat.{◌*◌, ◌-◌, ◌≤◌}
 use Rattle.encoding.specs.Bytes.{byte_bits, unpacked, number}
 use lib.ListN.{drop}
-use mathlib.Core.Path.{◌≡◌, refl, ap, ◌∙◌}
-use native.Mathlib.Omega.{arith}
+use mathlib.Core.Path.{◌≡◌}
 use Rattle.bits.proofs.reading.window.Given as goal
 
 abbrev pub invariant-loop-i : goal.invariant-loop-i

@@ -1,11 +1,9 @@
 use Prim.Native.Nat.{◌+◌, ◌-◌, ◌≤◌}
-use Rattle.bits.proofs.PutLaws.{kept-length, put_none, rest_zero, put-more, put_all, bytes_length}
 use Rattle.encoding.specs.Bytes.{unpacked, packed}
 use lib.ListN.{length, take, replicate}
 use mathlib.Core.Bool.{true}
 use mathlib.Core.List.{◌++◌}
 use mathlib.Core.Path.{◌≡◌}
-use native.Mathlib.Omega.{arith}
 use Rattle.bits.proofs.writing.put_ones.Given as goal
 
 abbrev pub invariant-loop-left : goal.invariant-loop-left

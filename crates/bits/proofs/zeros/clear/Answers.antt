@@ -1,9 +1,7 @@
 -- `clear` meets its contract. The invariant: the places still to fill make of the bytes what all of them make of them at entry.
-use Prim.Native.Nat.{◌≤◌, ◌-◌}
 use Rattle.words.proofs.PlacedLaws.{fill_turn, fill_ends, fill_end}
 use lib.ListN.{length, replicate, length-set}
-use lib.Seq.{sets}
-use mathlib.Core.Path.{◌≡◌, refl, sym, ap, ◌∙◌}
+use mathlib.Core.Path.{sym, ap, ◌∙◌}
 use native.Mathlib.Nat.{sub-zero}
 use native.Mathlib.Omega.{arith}
 use Rattle.bits.proofs.zeros.clear.Goals as goal

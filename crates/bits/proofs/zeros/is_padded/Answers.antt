@@ -1,9 +1,7 @@
 -- `is_padded` meets its contract.
-use Prim.Native.Nat.{◌-◌, ◌/◌, ◌%◌}
-use Rattle.bits.proofs.ZeroLaws.{power_shifted, count_past, whole_bytes, padding_broken, padding_kept}
-use borrow.Author.Rules.{rules}
+use Prim.Native.Nat.{◌/◌}
+use Rattle.bits.proofs.ZeroLaws.{whole_bytes, padding_broken, padding_kept}
 use mathlib.Core.Path.{◌∙◌}
-use native.Mathlib.Nat.{one-le-pow}
 use native.Mathlib.Omega.{arith}
 use Rattle.bits.proofs.zeros.is_padded.Goals as goal
 

@@ -1,10 +1,8 @@
 use Prim.Native.Nat.{◌-◌}
-use Rattle.bits.proofs.ZeroLaws.{zero_byte, other_byte, no_byte}
 use Rattle.encoding.specs.Bytes.{unpacked}
 use Rattle.encoding.specs.Encoded.{all_zero}
 use lib.ListN.{length, drop}
-use mathlib.Core.Path.{◌≡◌, refl, ◌∙◌}
-use native.Mathlib.Omega.{arith}
+use mathlib.Core.Path.{◌≡◌}
 use Rattle.bits.proofs.zeros.zero_from.Given as goal
 
 abbrev pub invariant-loop-i : goal.invariant-loop-i

@@ -1,15 +1,8 @@
-use Rattle.records.proofs.Walks.{walk_inside, Walked, walked}
 use Rattle.records.specs.Preconditions.{Walkable}
 use Rattle.records.specs.Types.{stored, viewed}
-use Rattle.storage.proofs.Hanging.{chain-end}
-use Rattle.storage.proofs.RecordLaws.{parts}
 use Rattle.storage.specs.Children.{chain_fits, chain_from}
-use Rattle.storage.specs.Records.{record_at}
-use borrow.Author.Tests.{not-true, not-false}
 use lib.ListN.{length}
-use mathlib.Core.Path.{◌≡◌, refl, ap}
-use native.Mathlib.Nat.{pos_of_ne-zero}
-use native.Mathlib.Omega.{arith}
+use mathlib.Core.Path.{◌≡◌}
 use Rattle.records.proofs.children.chain_fits.Given as goal
 
 abbrev pub invariant-loop-at : goal.invariant-loop-at

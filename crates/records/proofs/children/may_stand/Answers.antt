@@ -1,8 +1,5 @@
 -- `may_stand` meets its contract: each return knows the tests before it.
 use Rattle.records.proofs.Walks.{walk_inside, walked}
-use Rattle.storage.proofs.RecordLaws.{parts}
-use borrow.Author.Rules.{rules}
-use borrow.Author.Tests.{eq-eqb, ne_eqb, not-true, not-false}
 use Rattle.records.proofs.children.may_stand.Goals as goal
 
 pub at-record-requires : goal.at-record-requires
@@ -10,6 +7,5 @@ at-record-requires c = walk_inside _ _ c.requires.0
 
 pub starts_above-requires : goal.starts_above-requires
 starts_above-requires c =
-    let read = c in
     let p = c.requires in
     (walked _ _ _ p.0 p.1 c.at-record.ensures).after

@@ -1,8 +1,5 @@
 -- `starts_above` meets its contract.
 use Rattle.records.proofs.Walks.{walk_inside, walked}
-use Rattle.records.specs.Types.{viewed}
-use Rattle.storage.proofs.Hanging.{chain-end}
-use borrow.Author.Rules.{rules}
 use native.Mathlib.Nat.{pos_of_ne-zero}
 use Rattle.records.proofs.children.starts_above.Goals as goal
 

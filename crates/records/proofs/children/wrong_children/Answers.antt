@@ -1,13 +1,12 @@
 -- `wrong_children` meets its contract: the children of every record, and then the root.
-use Rattle.records.proofs.RecordLaws.{headed}
 use Rattle.records.proofs.Walks.{walk_inside}
-use Rattle.records.specs.Types.{stored, viewed, record_of}
+use Rattle.records.specs.Types.{stored, record_of}
 use Rattle.storage.proofs.RecordLaws.{Parts, parts}
 use Rattle.storage.specs.Children.{wrong_children}
-use Rattle.storage.specs.Records.{record_at}
-use borrow.Author.Rules.{rules}
-use borrow.Author.Tests.{eq-eqb, ne_eqb, not-true, not-false}
-use mathlib.Core.Path.{ap, ◌∙◌}
+use Rattle.storage.specs.Records.{Record, Stored, record_at, view}
+use Prim.Native.Nat.{ℕ}
+use borrow.Author.Tests.{eq-eqb, ne_eqb}
+use mathlib.Core.Path.{◌≡◌, ap, ◌∙◌}
 use Rattle.records.proofs.children.wrong_children.Goals as goal
 
 pub returns-then-not-every : goal.returns-then-not-every
@@ -18,30 +17,17 @@ pub at-top-requires : goal.at-top-requires
 at-top-requires c = rw c.root.ensures (walk_inside _ _ c.requires.0)
 
 -- The record that was read is the root's.
-top : (c : goal.Then-top-eq-BRANCH)
-    → let start = c.args in
-    Parts (record_of c.at-top.result) (record_at (stored start.form start.table.now) (viewed start.form start.table.now).root)
-top c =
-    let start = c.args in
-    parts (c.at-top.ensures ∙ ap (record_at (stored start.form start.table.now)) c.root.ensures)
+top : (S : Stored) {root : ℕ} (r : Record) → r ≡ record_at S root → root ≡ (view S).root → Parts r (record_at S (view S).root)
+top S r e q = parts (e ∙ ap (record_at S) q)
 
 pub returns-then-top-eq-BRANCH : goal.returns-then-top-eq-BRANCH
 unfolding wrong_children
 returns-then-top-eq-BRANCH c =
-    let passed = c in
-    rw (← c.every.ensures, c.if-not-every.false, ← (top c).kind, eq-eqb _ _ c.if-top-eq-BRANCH.true)
-
--- The record that was read is the root's.
-top-2 : (c : goal.After-struct_known-else-top-eq-BRANCH-1)
-    → let start = c.args in
-    Parts (record_of c.at-top.result) (record_at (stored start.form start.table.now) (viewed start.form start.table.now).root)
-top-2 c =
-    let start = c.args in
-    parts (c.at-top.ensures ∙ ap (record_at (stored start.form start.table.now)) c.root.ensures)
+    let r = top (stored c.args.form c.args.table.now) (record_of c.at-top.result) c.at-top.ensures c.root.ensures in
+    rw (← c.every.ensures, c.if-not-every.false, ← r.kind, eq-eqb _ _ c.if-top-eq-BRANCH.true)
 
 pub returns-else-top-eq-BRANCH : goal.returns-else-top-eq-BRANCH
 unfolding wrong_children
 returns-else-top-eq-BRANCH c =
-    let passed = c in
-    let r = top-2 c in
+    let r = top (stored c.args.form c.args.table.now) (record_of c.at-top.result) c.at-top.ensures c.root.ensures in
     rw (← c.every.ensures, c.if-not-every.false, ← r.kind, ne_eqb _ _ c.if-top-eq-BRANCH.false, ← r.next)

@@ -1,13 +1,10 @@
 -- `every` meets its contract. The invariant: the answer is yes for every record up to the i-th.
-use Prim.Native.Nat.{◌+◌, ◌-◌, ◌≤◌}
-use Rattle.records.proofs.EveryLaws.{every_more, every_fails, every_end}
+use Prim.Native.Nat.{◌+◌}
+use Rattle.records.proofs.EveryLaws.{every_fails}
 use Rattle.records.proofs.RecordLaws.{headed}
 use Rattle.records.specs.Every.{asked}
 use Rattle.records.specs.Types.{viewed}
-use Rattle.storage.specs.Records.{everyOf}
-use borrow.Author.Tests.{not-true, not-false}
-use mathlib.Core.Bool.{true}
-use mathlib.Core.Path.{◌≡◌, refl, sym, ◌∙◌}
+use mathlib.Core.Path.{sym, ◌∙◌}
 use native.Mathlib.Omega.{arith}
 use Rattle.records.proofs.every.every.Goals as goal
 
@@ -16,7 +13,6 @@ count-n-requires c = headed _ c.requires.length_fits
 
 pub returns-then-not-holds : goal.returns-then-not-holds
 returns-then-not-holds c =
-    let l = c in
     let start = c.args in
     let T = viewed start.form start.table.now in
     let n = c.count-n.ensures in

@@ -1,13 +1,9 @@
-use Prim.Native.Nat.{◌+◌, ◌-◌, ◌≤◌}
-use Rattle.records.proofs.EveryLaws.{every_more, every_fails, every_end}
-use Rattle.records.proofs.RecordLaws.{headed}
+use Prim.Native.Nat.{◌-◌, ◌≤◌}
 use Rattle.records.specs.Every.{asked}
 use Rattle.records.specs.Types.{viewed}
 use Rattle.storage.specs.Records.{everyOf}
-use borrow.Author.Tests.{not-true, not-false}
 use mathlib.Core.Bool.{true}
-use mathlib.Core.Path.{◌≡◌, refl, sym, ◌∙◌}
-use native.Mathlib.Omega.{arith}
+use mathlib.Core.Path.{◌≡◌}
 use Rattle.records.proofs.every.every.Given as goal
 
 abbrev pub invariant-loop-i : goal.invariant-loop-i

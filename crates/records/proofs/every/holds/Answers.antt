@@ -1,6 +1,5 @@
 -- `holds` meets its contract, aspect by aspect.
 use Rattle.records.proofs.RecordLaws.{inside}
-use borrow.Author.Rules.{rules}
 use Rattle.records.proofs.every.holds.Goals as goal
 
 pub value_fits-requires : goal.value_fits-requires

@@ -1,7 +1,7 @@
 -- `wrong_header` meets its contract: each return knows the tests before it.
 use Rattle.records.proofs.RecordLaws.{ltb_not, inside, headed}
 use Rattle.storage.specs.Header.{wrong_header}
-use borrow.Author.Tests.{le-leb, lt-leb, not-true, not-false}
+use borrow.Author.Tests.{le-leb, lt-leb}
 use mathlib.Core.Path.{sym, ◌∙◌}
 use native.Mathlib.Omega.{arith}
 use Rattle.records.proofs.header.wrong_header.Goals as goal
@@ -25,7 +25,6 @@ returns-then-root-lt1 c =
 pub returns : goal.returns
 unfolding wrong_header
 returns c =
-    let p = c in
     let fits = c.header_fits in
     let root = c.root in
     rw (← fits.ensures, c.if-not-header_fits.false, ← root.ensures, le-leb 1 _ c.if-root-lt1.false, ← c.count.ensures)

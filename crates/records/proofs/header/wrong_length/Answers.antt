@@ -1,12 +1,6 @@
 -- `wrong_length` meets its contract: each return knows the tests before it.
-use Prim.Native.Nat.{◌+◌, ◌≤◌}
-use Rattle.calculus.specs.Words.{workspace_most}
-use Rattle.records.specs.Types.{form_of}
 use Rattle.storage.specs.Header.{wrong_length}
-use borrow.Author.Rules.{rules}
 use borrow.Author.Tests.{lt-ltb, le-ltb, le-leb, lt-leb}
-use native.Mathlib.Nat.{mul-le-mul_left}
-use native.Mathlib.Omega.{arith}
 use Rattle.records.proofs.header.wrong_length.Goals as goal
 
 pub returns-then-table-words : goal.returns-then-table-words
@@ -22,11 +16,9 @@ returns-then-n-lt1 c =
 pub returns-then-n-gt-WORKSPACE_MOST : goal.returns-then-n-gt-WORKSPACE_MOST
 unfolding wrong_length
 returns-then-n-gt-WORKSPACE_MOST c =
-    let p = c in
     rw (← c.words-words.ensures, le-ltb _ _ c.if-table-words.false, ← c.count-n.ensures, le-leb 1 _ c.if-n-lt1.false, lt-leb _ _ c.if-n-gt-WORKSPACE_MOST.true)
 
 pub returns : goal.returns
 unfolding wrong_length
 returns c =
-    let p = c in
     rw (← c.words-words.ensures, le-ltb _ _ c.if-table-words.false, ← c.count-n.ensures, le-leb 1 _ c.if-n-lt1.false, le-leb _ _ c.if-n-gt-WORKSPACE_MOST.false)

@@ -1,13 +1,10 @@
-use Prim.Native.Nat.{ℕ, ◌+◌, ◌-◌, ◌≤◌}
-use Rattle.records.proofs.EveryLaws.{every_more, every_fails, every_end}
+use Prim.Native.Nat.{ℕ, ◌-◌, ◌≤◌}
 use Rattle.storage.specs.Records.{everyOf}
-use borrow.Author.Tests.{eq-eqb, ne_eqb}
 use lib.Dec.{eqb}
 use lib.ListN.{get_or}
 use mathlib.Core.Bool.{Bool, true}
 use mathlib.Core.List.{List}
-use mathlib.Core.Path.{◌≡◌, refl, sym}
-use native.Mathlib.Omega.{arith}
+use mathlib.Core.Path.{◌≡◌}
 use Rattle.records.proofs.links.all_once.Given as goal
 
 abbrev once : List ℕ → ℕ → Bool

@@ -1,9 +1,7 @@
 -- `wrong_links` meets its contract: the two link rules, one after the other.
 use Rattle.storage.specs.Links.{wrong_link}
 use Rattle.words.proofs.RoomLaws.{room_of_length}
-use borrow.Author.Rules.{rules}
-use borrow.Author.Tests.{not-true, not-false}
-use mathlib.Core.Path.{refl, sym, ◌∙◌}
+use mathlib.Core.Path.{refl}
 use Rattle.records.proofs.links.wrong_links.Goals as goal
 
 pub returns-then-not-every : goal.returns-then-not-every

@@ -1,8 +1,8 @@
 -- `value` meets its contract: in each arm the kind is known, and `value_of` computes there.
 use Rattle.storage.specs.Payload.{value_of}
-use borrow.Author.Rules.{rules}
 use borrow.Author.Tests.{ne_eqb}
 use mathlib.Core.Path.{sym, ◌∙◌}
+use native.Mathlib.Omega.{arith}
 use Rattle.records.proofs.payload.value.Goals as goal
 
 pub returns-in-3 : goal.returns-in-3
@@ -16,5 +16,4 @@ returns-in-4 c = rw (sym c.kind.ensures ∙ c.in-4.is)
 pub returns-in_default : goal.returns-in_default
 unfolding value_of
 returns-in_default c =
-    let r = c.in_default.in_default-own.rest in
-    rw (← c.kind.ensures, ne_eqb _ 3 r.0.1, ne_eqb _ 4 r.1) c.payload.ensures
+    rw (← c.kind.ensures, ne_eqb c.kind.result 3 (omega arith), ne_eqb c.kind.result 4 (omega arith)) c.payload.ensures

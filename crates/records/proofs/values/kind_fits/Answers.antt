@@ -1,7 +1,7 @@
 -- `kind_fits` meets its contract: in each arm the kind is known, and `value_fits` computes there.
 use Rattle.storage.specs.Values.{value_fits}
-use borrow.Author.Rules.{rules}
 use borrow.Author.Tests.{ne_eqb}
+use native.Mathlib.Omega.{arith}
 use Rattle.records.proofs.values.kind_fits.Goals as goal
 
 pub returns-in-3 : goal.returns-in-3
@@ -14,4 +14,4 @@ returns-in-4 c = rw c.in-4.is
 
 pub returns-in_default : goal.returns-in_default
 unfolding value_fits
-returns-in_default c = let r = c.in_default.in_default-own.rest in rw (ne_eqb _ 3 r.0.1, ne_eqb _ 4 r.1) c.payload_fits.ensures
+returns-in_default c = rw (ne_eqb c.args.kind 3 (omega arith), ne_eqb c.args.kind 4 (omega arith)) c.payload_fits.ensures

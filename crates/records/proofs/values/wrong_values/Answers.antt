@@ -1,6 +1,5 @@
 -- `wrong_values` meets its contract.
 use Rattle.storage.specs.Values.{wrong_value}
-use borrow.Author.Rules.{rules}
 use mathlib.Core.Bool.{not}
 use mathlib.Core.Path.{ap}
 use Rattle.records.proofs.values.wrong_values.Goals as goal

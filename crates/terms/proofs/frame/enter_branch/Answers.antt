@@ -2,16 +2,13 @@
 use Rattle.calculus.specs.Skip.{following}
 use Rattle.terms.specs.Frames.{inside_by, starts_branch}
 use Rattle.words.specs.Bound.{binding}
-use borrow.Author.Rules.{rules}
 use borrow.Author.Tests.{ne_eqb}
 use mathlib.Core.Path.{sym, ◌∙◌}
-use native.Mathlib.Omega.{arith}
 use Rattle.terms.proofs.frame.enter_branch.Goals as goal
 
 pub returns-then-kind-eq-BRANCH : goal.returns-then-kind-eq-BRANCH
 unfolding starts_branch inside_by binding following
 returns-then-kind-eq-BRANCH c =
-    let t = c in
     c.inside_if.ensures
     ∙ rw (c.new.ensures, c.count.ensures, c.pattern_from.ensures, sym c.kind.ensures ∙ c.if-kind-eq-BRANCH.true)
 

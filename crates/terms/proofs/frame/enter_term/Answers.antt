@@ -4,7 +4,7 @@ use Rattle.calculus.specs.Skip.{following}
 use Rattle.terms.proofs.Frames.{starts_none}
 use Rattle.terms.specs.Frames.{inside_by, starts_term}
 use Rattle.words.specs.Bound.{binding}
-use borrow.Author.Rules.{rules}
+use Rattle.calculus.specs.Words.{payload_of}
 use mathlib.Core.Option.{some}
 use mathlib.Core.Path.{sym, ◌∙◌, ap}
 use native.Mathlib.Nat.{add-zero}
@@ -19,39 +19,30 @@ new-requires-then-payload_fits c =
 pub returns-then-payload_fits : goal.returns-then-payload_fits
 unfolding starts_term inside_by binding following
 returns-then-payload_fits c =
-    let t = c in
-    let k = c in
     rw (← c.payload-payload.ensures, sym c.kind.ensures ∙ c.in-4.is, ← c.payload_fits-in-4.ensures, c.if-payload_fits.true, add-zero)
     (ap some c.new-then-payload_fits.ensures)
 
 pub returns-in-0 : goal.returns-in-0
 unfolding starts_term inside_by binding following
 returns-in-0 c =
-    let k = c in
     c.inside_if.ensures
     ∙ rw (c.new.ensures, c.payload-payload.ensures, sym c.kind.ensures ∙ c.in-0.is) (simp add-zero)
 
 pub returns-in-1 : goal.returns-in-1
 unfolding starts_term inside_by binding following
 returns-in-1 c =
-    let t = c in
-    let k = c in
     c.inside_if-in-1.ensures
     ∙ rw (c.new-in-1.ensures, c.payload_fits.ensures, c.payload-payload.ensures, sym c.kind.ensures ∙ c.in-1.is)
 
 pub returns-in-2 : goal.returns-in-2
 unfolding starts_term inside_by binding following
 returns-in-2 c =
-    let t = c in
-    let k = c in
     c.inside_if-in-2.ensures
     ∙ rw (c.new-in-2.ensures, c.payload_fits-in-2.ensures, c.payload-payload.ensures, sym c.kind.ensures ∙ c.in-2.is) (simp add-zero)
 
 pub returns-in-3 : goal.returns-in-3
 unfolding starts_term inside_by binding following
 returns-in-3 c =
-    let t = c in
-    let k = c in
     c.inside_if-in-3.ensures
     ∙ rw (c.new-in-3.ensures, c.count.ensures, c.payload_fits-in-3.ensures, c.payload-payload.ensures, sym c.kind.ensures ∙ c.in-3.is)
     (simp add-zero)
@@ -59,19 +50,15 @@ returns-in-3 c =
 pub returns-else-payload_fits : goal.returns-else-payload_fits
 unfolding starts_term
 returns-else-payload_fits c =
-    let t = c in
-    let k = c in
     rw (← c.payload-payload.ensures, sym c.kind.ensures ∙ c.in-4.is, ← c.payload_fits-in-4.ensures, c.if-payload_fits.false)
 
 pub returns-in-6 : goal.returns-in-6
 unfolding starts_term inside_by binding following
 returns-in-6 c =
-    let t = c in
-    let k = c in
     c.inside_if-in-6.ensures
     ∙ rw (c.new-in-6.ensures, c.payload_fits-in-6.ensures, c.payload-payload.ensures, sym c.kind.ensures ∙ c.in-6.is) (simp add-zero)
 
 pub returns-in_default : goal.returns-in_default
 returns-in_default c =
-    let r = c.in_default.in_default-own.rest in
-    rw (← c.kind.ensures, starts_none _ _ _ r.0.0.0.0.0.1 r.0.0.0.0.1 r.0.0.0.1 r.0.0.1 r.0.1 r.1)
+    let e = starts_none c.args.depth c.kind.result (payload_of c.args.word.0) (omega arith) (omega arith) (omega arith) (omega arith) (omega arith) (omega arith) in
+    rw (← c.kind.ensures, e)

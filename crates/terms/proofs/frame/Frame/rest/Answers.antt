@@ -2,28 +2,21 @@
 use Prim.Native.Nat.{◌≤◌, ◌<◌}
 use Rattle.calculus.specs.Accepted.{tag_limit}
 use Rattle.calculus.specs.Words.{payload_of, tag_of}
-use Rattle.terms.proofs.Frames.{rest_term, rest_branch}
-use Rattle.terms.proofs.Packed.{unpacked_less}
 use Rattle.terms.proofs.Scan.{branch_allowed}
 use Rattle.terms.specs.Packed.{unpacked}
-use borrow.Author.Rules.{rules}
-use mathlib.Core.Path.{sym, ◌∙◌}
-use native.Mathlib.Numerals.{add-one}
 use native.Mathlib.Omega.{arith}
 use Rattle.terms.proofs.frame.Frame.rest.Goals as goal
 
--- The word is that of a branch, since no term is to come.
-shown-2 : (c : goal.After-tag) → (0 < (unpacked c.args.self.0).branches) × (tag_of (payload_of c.args.word.0) ≤ tag_limit)
-shown-2 c =
-    let f = unpacked c.args.self.0 in
-    branch_allowed f.terms f.branches f.depth f.least _ _ (omega (arith, c.terms.ensures)) c.requires.word_value
-
 pub new-requires : goal.new-requires
 new-requires c =
-    let s = shown-2 c in
+    let f = unpacked c.args.self.0 in
+    -- The word is that of a branch, since no term is to come.
+    let shown : (0 < f.branches) × (tag_of (payload_of c.args.word.0) ≤ tag_limit) =
+    branch_allowed f.terms f.branches f.depth f.least _ _ (omega (arith, c.terms.ensures)) c.requires.may_stand
+    in
     record {
       terms_fit = omega arith;
       branches_fit = omega (arith, c.branches.ensures);
-      depth_fits = omega (arith, c.depth.ensures, c.requires.self_bound);
-      least_fits = omega (arith, c.tag.ensures, s.1);
+      depth_fits = omega (arith, c.depth.ensures, c.requires.shallow);
+      least_fits = omega (arith, c.tag.ensures, shown.1);
     }

@@ -1,0 +1,11 @@
+use Prim.Native.Nat.{◌-◌, ◌≤◌}
+use Rattle.binary.specs.Words.{words_bits}
+use lib.ListN.{length, take}
+use mathlib.Core.Path.{◌≡◌}
+use Rattle.binary.proofs.putting.bits_of.Given as goal
+
+abbrev pub invariant-loop-i : goal.invariant-loop-i
+invariant-loop-i l = (l.i ≤ length l.words) × (l.bits ≡ length (words_bits (take l.i l.words)))
+
+abbrev pub decreases-loop-i : goal.decreases-loop-i
+decreases-loop-i l = length l.words - l.i
