@@ -8,10 +8,10 @@ use native.Mathlib.Numerals.{add-one}
 use native.Mathlib.Omega.{arith}
 use lib.Dec.{eqb}
 use borrow.Author.Tests.{eq-eqb, ne_eqb}
-use lib.ListN.{length, get_or, drop, drop_of_length-le, get_or-eq_default}
+use lib.ListN.{length, get_or, drop, drop_of_length-le}
 use lib.Seq.{drop-cons, drop-drop, get_or-drop}
 use Rattle.calculus.specs.Term.{is_default}
-use Rattle.calculus.specs.Words.{variable_kind, abstraction_kind, application_kind, constructor_kind, case_kind, numeral_kind, kind_of, payload_of, tag_of, count_of}
+use Rattle.calculus.specs.Words.{abstraction_kind, application_kind, constructor_kind, case_kind, numeral_kind, kind_of, payload_of, tag_of, count_of}
 use Rattle.calculus.specs.Skip.{skip, span}
 use Rattle.calculus.specs.Contraction.{by_beta}
 use Rattle.calculus.proofs.SkipLaws.{skip-drop}
@@ -109,13 +109,6 @@ case_parts_found i w v ws e₁ e₂ e₃ e₄ e₅ e₆ =
 pub parts-numeral : (i : ℕ) (ws : List ℕ) → i < length ws → kind_of (get_or ws i 0) ≡ numeral_kind → parts i (drop i ws) ≡ numbered (payload_of (get_or ws i 0))
 unfolding parts
 parts-numeral i ws h k = rw (drop-cons ws i 0 h, k)
-
--- The last word has none behind it.
-pub kind_last : (i : ℕ) (ws : List ℕ) → length ws ≤ i + 1 → kind_of (get_or ws (i + 1) 0) ≡ variable_kind
-kind_last i ws l = rw (get_or-eq_default ws 0 {n = i + 1} l)
-
-pub kind_behind : (i k : ℕ) (ws : List ℕ) → kind_of (get_or ws (i + 1) 0) ≡ k → 0 < k → i + 1 < length ws
-kind_behind i k ws e h = let none : ¬ (length ws ≤ i + 1) = λ l. omega (arith, kind_last i ws l) in omega arith
 
 -- By the first word and those behind it: what is no application of an abstraction, what is no case of a constructor, and other words.
 behind-applied : (i w : ℕ) (vs : List ℕ) → kind_of w ≡ application_kind → (kind_of (get_or vs 0 0) ≡ abstraction_kind → ⊥) → parts_behind i w vs ≡ nothing

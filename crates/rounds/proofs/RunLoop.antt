@@ -1,7 +1,7 @@
 -- The loop of the rounds: before each turn both workspaces hold the current terms, and the rounds still to make with what is left of the budget
 -- end in what all the rounds end in.
 use Prim.Native.Nat.{ℕ, ◌+◌, ◌-◌, ◌*◌, ◌≤◌}
-use mathlib.Core.Path.{◌≡◌, refl, sym, ◌∙◌, ap, subst⁻¹}
+use mathlib.Core.Path.{◌≡◌, sym, ◌∙◌, ap, subst⁻¹}
 use mathlib.Core.List.{List, ◌++◌}
 use mathlib.Core.Option.{Option, some, none}
 use native.Mathlib.Omega.{arith}
@@ -24,13 +24,12 @@ use Rattle.turn.specs.Turn.{Plan, length_in, planned, at_once_in}
 use Rattle.turn.specs.Resume.{agreeAfter, Agreeing}
 use Rattle.rounds.specs.Advance.{Advances, Advanced}
 use Rattle.rounds.specs.Run.{Ready, Ran}
-use Rattle.turn.proofs.CompareLaws.{agrees_none, compared_agrees}
+use Rattle.turn.proofs.CompareLaws.{compared_agrees}
 use Rattle.words.proofs.RoomLaws.{room_of_length}
 use Rattle.redex.proofs.HeldLaws.{held_term, holds_term, Start, term_at_start}
 use Rattle.turn.proofs.ResumeLaws.{resumes}
 use Rattle.turn.proofs.AgreeLaws.{agree_after}
-use Rattle.rounds.proofs.RunCode.{searched}
-use Rattle.calculus.proofs.RoundsLaws.{next_is, next_normal, Goes, goes_on, goes_wider, Moves, here, further, rounds-end, rounds_go, walk_fits, after_zero, after-after}
+use Rattle.calculus.proofs.RoundsLaws.{next_is, next_normal, Goes, goes_on, goes_wider, Moves, here, further, rounds-end, rounds_go, walk_fits, after-after}
 use Rattle.turn.proofs.TurnLaws.{Planned, is_normal, contracts, planned_tells, planned-length, asked}
 
 begins : {ws : List ℕ} {n : ℕ} → Holds ws n → Start ws n (held ws n)
@@ -92,23 +91,6 @@ pub record Going (left₀ right₀ scratch₀ : List ℕ) (l r budget : ℕ) (le
   pub within : spent ≤ budget
   pub rest :
       after spent (rounds (length left₀) (budget - spent) (held left m) (held right n)) ≡ rounds (length left₀) budget (held left₀ l) (held right₀ r)
-
-pub going_first : {left right scratch room : List ℕ} {l r : ℕ} (budget : ℕ) → Ready left right scratch l r → 2 * length room ≡ workspace_most
-    → Going left right scratch l r budget left right scratch room l 0 r 0 0 0
-going_first {left} {right} {scratch} {l = l} {r} budget h room_length =
-    let all : budget - 0 ≡ budget = omega arith in
-    record {
-      ready = h;
-      left_searched = searched h.left_holds;
-      right_searched = searched h.right_holds;
-      agrees = agrees_none (take l left) (take r right);
-      left_kept = refl;
-      right_kept = refl;
-      scratch_kept = refl;
-      room_length = room_length;
-      within = omega arith;
-      rest = after_zero (rounds (length left) (budget - 0) (held left l) (held right r)) ∙ ap (λ b. rounds (length left) b (held left l) (held right r)) all;
-    }
 
 module _ {left₀ right₀ scratch₀ : List ℕ} {l r budget : ℕ} {left right scratch room : List ℕ} {m i n j agree spent : ℕ}
     (g : Going left₀ right₀ scratch₀ l r budget left right scratch room m i n j agree spent) where

@@ -1,6 +1,6 @@
 -- The table of ends: what it tells of later positions, and how it is filled.
 use Prim.Native.Nat.{ℕ, ◌+◌, ◌-◌, ◌≤◌, ◌<◌}
-use mathlib.Core.Path.{◌≡◌, refl, ◌∙◌}
+use mathlib.Core.Path.{◌≡◌, ◌∙◌}
 use mathlib.Core.List.{List}
 use mathlib.Core.Logic.{⊎_elim}
 use native.Mathlib.Nat.{add-zero, eq-or-lt_of_le}
@@ -11,10 +11,7 @@ use Rattle.calculus.specs.Skip.{arity, span}
 use Rattle.calculus.proofs.SkipLaws.{span_bounded}
 use Rattle.words.proofs.PlacedLaws.{taken_less}
 use Rattle.words.proofs.Spans.{span-step}
-use Rattle.search.specs.Ends.{Ends, Filled}
-
-pub ends_none : (ws : List ℕ) (from : ℕ) (ends : List ℕ) → Ends ws from 0 ends
-ends_none ws from ends = record { within = omega arith; told = λ p l m. absurd (omega arith) }
+use Rattle.search.specs.Ends.{Ends}
 
 pub ends_later : {ws : List ℕ} {from known : ℕ} {ends : List ℕ} {later : ℕ} → Ends ws from known ends → from ≤ later → Ends ws later known ends
 ends_later h l = record { within = h.within; told = λ p m. h.told p (omega arith) }
@@ -32,18 +29,6 @@ pub record Filling (ws : List ℕ) (at : ℕ) (ends : List ℕ) (end : ℕ) (now
   pub before : take i now ≡ take i ends
   pub behind : drop end now ≡ drop end ends
   pub kept : length now ≡ length ends
-
-pub filling_starts : {ws : List ℕ} {at : ℕ} {ends : List ℕ} {end : ℕ} → end ≡ at + span 1 (drop at ws) → end ≤ length ends → Filling ws at ends end ends end
-filling_starts e l =
-    record {
-      ends_at = e;
-      from = omega arith;
-      to = omega arith;
-      table = record { within = l; told = λ p m o. absurd (omega arith) };
-      before = refl;
-      behind = refl;
-      kept = refl;
-    }
 
 module _ {ws : List ℕ} {at : ℕ} {ends : List ℕ} {end : ℕ} {now : List ℕ} {i : ℕ} (v : Filling ws at ends end now i) where
   -- What is filled in stands in the workspace and in the table.
@@ -71,8 +56,3 @@ module _ {ws : List ℕ} {at : ℕ} {ends : List ℕ} {end : ℕ} {now : List �
           rw (← q)
           (get_or-set_same now (i - 1) stop 0 (omega (arith, v.to, v.table.within))
           ∙ omega (arith, e, span-word ws (i - 1) (omega (arith, (filling_within l).0, v.to))))
-
-  pub filling_ends : i ≤ at → Filled ws at ends end now
-  filling_ends l =
-      let e : i ≡ at = omega (arith, v.from) in
-      record { returned = v.ends_at; table = rw e at v.table; before = rw e at v.before; behind = v.behind }

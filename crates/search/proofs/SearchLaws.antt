@@ -25,7 +25,7 @@ use Rattle.redex.proofs.PlaceLaws.{no_redex_here}
 use Rattle.search.specs.Ends.{Ends, Filled}
 use Rattle.search.specs.Seen.{Inspected}
 use Rattle.search.specs.Search.{Searched}
-use Rattle.search.proofs.EndsLaws.{ends_none, ends_later}
+use Rattle.search.proofs.EndsLaws.{ends_later}
 
 -- Where the arguments of a case's constructor end: where the constructor does.
 pub inspected_after : {ws room : List ℕ} {n at w v count after : ℕ} → Inspected ws n at w v room → count ≡ count_of (payload_of v) → after ≡ at + 1 + span 1 (drop (at + 1) ws)
@@ -49,13 +49,7 @@ pub record Searching (ws : List ℕ) (n : ℕ) (scratch₀ scratch : List ℕ) (
   pub table : Ends ws i known scratch
   pub kept : length scratch ≡ length scratch₀
 
-pub searching_starts : {ws : List ℕ} {n from : ℕ} (scratch : List ℕ) → Searched ws n from → Searching ws n scratch scratch from 0
-searching_starts scratch s = record { searched = s; table = ends_none _ _ scratch; kept = refl }
-
 module _ {ws : List ℕ} {n : ℕ} {scratch₀ scratch : List ℕ} {i known : ℕ} (v : Searching ws n scratch₀ scratch i known) where
-  pub search_within : n ≤ length ws
-  search_within = (term_at_start ws n (held ws n) v.searched.holds.term).within
-
   search_goes_on : i < n → parts i (drop i ws) ≡ nothing → Searched ws n (i + 1)
   search_goes_on l e =
       record {

@@ -5,18 +5,15 @@ use mathlib.Core.List.{List, [], ◌∷◌, ◌++◌}
 use native.Mathlib.Nat.{add-zero}
 use native.Mathlib.Omega.{arith}
 use lib.ListN.{length, get_or, set, take, drop, take-append-drop}
-use lib.Seq.{sets, sets-eq, length-sets, slice, length-slice, slice_empty, slice-cons, set_comm, get_or-drop, get_or-take, drop-drop, drop-set-lt, take-set-le, take-take}
+use lib.Seq.{sets, sets-eq, slice, length-slice, slice-cons, set_comm, get_or-drop, get_or-take, drop-drop, drop-set-lt, take-set-le, take-take}
 use Rattle.words.specs.Placed.{Copies}
-use Rattle.words.proofs.PlacedLaws.{taken_less, Copying, copying_starts, copying_turn}
+use Rattle.words.proofs.PlacedLaws.{taken_less, Copying, copying_turn}
 
 -- Down: from i on the slice is still as it was.
 pub record Lowering (ws : List ℕ) (from to out : ℕ) (now : List ℕ) (i o : ℕ) : Type 0 where
   pub copying : Copying ws from to ws out now i o
   pub behind : o ≤ i
   pub kept : drop i now ≡ drop i ws
-
-pub lowering_start : {ws : List ℕ} {from to out : ℕ} → Copies ws from to ws out → out ≤ from → Lowering ws from to out ws from out
-lowering_start h l = record { copying = copying_starts h; behind = l; kept = refl }
 
 kept_word : (ws now : List ℕ) (i : ℕ) → drop i now ≡ drop i ws → get_or now i 0 ≡ get_or ws i 0
 kept_word ws now i e =
@@ -50,20 +47,7 @@ set-sets [] l i j v h = refl
 set-sets (w ∷ vs) l i j v h =
     set-sets vs (set l j w) i (suc j) v (omega arith) ∙ ap (λ m. sets m (suc j) vs) (set_comm l j i w v (λ e. omega arith))
 
-pub raising_start : {ws : List ℕ} {from to out : ℕ} → Copies ws from to ws out → from ≤ out → Raising ws from to out ws (to - from)
-raising_start {ws} {from} {to} {out} h l =
-    let e : from + (to - from) ≡ to = omega (arith, h.ordered) in
-    record { copies = h; above = l; fewer = omega arith; work = rw (e, slice_empty); kept = refl }
-
 module _ {ws : List ℕ} {from to out : ℕ} {now : List ℕ} {left : ℕ} (v : Raising ws from to out now left) where
-  pub raising_length : length now ≡ length ws
-  raising_length = ap length v.work ∙ length-sets ws (out + left) (slice (from + left) to ws)
-
-  pub raising_done : left ≤ 0 → now ≡ sets ws out (slice from to ws)
-  raising_done none =
-      let z : left ≡ 0 = omega arith in
-      rw (z, add-zero out, add-zero from) at v.work
-
   pub raising_turn : 0 < left → Raising ws from to out (set now (out + (left - 1)) (get_or now (from + (left - 1)) 0)) (left - 1)
   raising_turn some =
       let p = left - 1 in

@@ -1,16 +1,14 @@
 -- Where consecutive items start: the extents of the items before them add up.
-use Prim.Native.Nat.{ℕ, suc, ◌+◌, ◌-◌, ◌≤◌, ◌<◌}
+use Prim.Native.Nat.{ℕ, ◌+◌, ◌≤◌, ◌<◌}
 use mathlib.Core.Path.{◌≡◌, sym, ◌∙◌, ap}
-use mathlib.Core.List.{List, ◌∷◌}
+use mathlib.Core.List.{List}
 use mathlib.Core.Logic.{⊎_elim}
 use native.Mathlib.Nat.{eq-or-lt_of_le}
 use native.Mathlib.Omega.{arith}
-use lib.ListN.{length, get_or, drop, set, replicate}
+use lib.ListN.{length, get_or, drop, set}
 use lib.Seq.{drop-drop, get_or-drop, get_or-set_same, get_or-set_other}
-use Rattle.calculus.specs.Accepted.{argument_limit}
 use Rattle.calculus.specs.Skip.{span}
 use Rattle.calculus.proofs.SkipLaws.{span_zero, span-add}
-use Rattle.words.proofs.PlacedLaws.{drop-set}
 use Rattle.substitution.specs.Results.{Positions}
 
 -- The positions at which the items from position `args` on start, written up to the j-th.
@@ -37,16 +35,6 @@ offsets_next src args starts j end room p q =
 
     before : (i : ℕ) → i < j + 1 → get_or (set starts (j + 1) end) i 0 ≡ args + span i (drop args src)
     before i l = get_or-set_other starts (j + 1) i end 0 (omega arith) ∙ p.offsets i (omega arith)
-
--- The position behind the starts, where the places behind the j-th hold 0.
-pub offsets_last : (src : List ℕ) (args : ℕ) (starts : List ℕ) (j n after : ℕ) → n < length starts → n ≤ j + 1 → j ≤ n → Offsets src args starts j
-    → ((k : ℕ) → j < k → drop k starts ≡ replicate (suc argument_limit - k) 0) → Positions src args after n (set starts n after)
-offsets_last src args starts j n after room l m p zeros =
-    let e : suc argument_limit - suc n ≡ argument_limit - n = omega arith in
-    record {
-      each = λ i h. get_or-set_other starts n i after 0 (λ q. omega arith) ∙ p.offsets i (omega arith);
-      rest = drop-set starts n after room ∙ ap (◌∷◌ after) (rw e at (zeros (suc n) (omega arith)));
-    }
 
 -- Where that position is the end of the last item, it is an offset too.
 pub positions_offsets : {src : List ℕ} {args after n : ℕ} {starts : List ℕ} → Positions src args after n starts → after ≡ args + span n (drop args src)

@@ -1,13 +1,12 @@
 -- Comparing two terms word by word, from words that are known to be the same on.
-use Prim.Native.Nat.{ℕ, suc, ◌+◌, ◌≤◌, ◌<◌, min}
+use Prim.Native.Nat.{ℕ, suc, ◌≤◌, ◌<◌, min}
 use mathlib.Core.Path.{◌≡◌, refl, sym, ◌∙◌, ap}
 use mathlib.Core.Bool.{Bool, true, false}
 use mathlib.Core.List.{List}
-use native.Mathlib.Numerals.{add-one}
 use native.Mathlib.Omega.{arith}
 use lib.Dec.{leb}
 use lib.ListN.{length, take, get_or, length-take}
-use lib.Seq.{take-suc, take_all, length-take-le, get_or-take}
+use lib.Seq.{take_all, length-take-le, get_or-take}
 use borrow.Author.Tests.{leb-true, leb-false}
 use Rattle.calculus.specs.Comparison.{Comparison, equal, differ, compare_words, position_of}
 use Rattle.calculus.proofs.ComparisonLaws.{comparison_exact}
@@ -46,16 +45,6 @@ module _ {ws vs : List ℕ} {n m from : ℕ} (c : Compares ws n vs m from) (i : 
   right_long = length-take-le m vs c.right_fits
 
   module _ (l : i < n) (r : i < m) where
-    pub compare-more : get_or ws i 0 ≡ get_or vs i 0 → Agrees (i + 1) (take n ws) (take m vs)
-    compare-more e =
-        record {
-          left_has = omega (arith, left_long);
-          right_has = omega (arith, right_long);
-          same =
-              rw (add-one, take-suc (take n ws) i 0 (omega (arith, left_long)), take-suc (take m vs) i 0 (omega (arith, right_long)))
-              (rw (get_or-take n ws i 0 l, get_or-take m vs i 0 r, e, a.same));
-        }
-
     -- The word at i of the first words, one more than i.
     word-at : (k : ℕ) (us : List ℕ) → i < k → get_or (take (suc i) (take k us)) i 0 ≡ get_or us i 0
     word-at k us h = get_or-take (suc i) (take k us) i 0 (omega arith) ∙ get_or-take k us i 0 h

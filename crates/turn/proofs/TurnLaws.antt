@@ -1,10 +1,8 @@
 -- What a side's plan tells of its term, and what the words of two terms tell of point 1.
-use Prim.Native.Nat.{ℕ, ◌+◌, ◌≤◌, ◌<◌, max}
+use Prim.Native.Nat.{ℕ}
 use mathlib.Core.Path.{◌≡◌, refl, sym, ◌∙◌, ap}
 use mathlib.Core.Logic.{if_pos, if_neg}
-use mathlib.Core.Option.{Option, some, none, bind, map, get_or}
-use native.Mathlib.Omega.{arith}
-use borrow.Author.Tests.{eq-eqb, ne_eqb, lt-ltb, le-ltb}
+use mathlib.Core.Option.{Option, some, none, bind, map}
 use Rattle.calculus.specs.Term.{Term}
 use Rattle.calculus.specs.Words.{words, size}
 use Rattle.calculus.specs.Accepted.{Accepted}
@@ -12,7 +10,7 @@ use Rattle.calculus.specs.Leftmost.{leftmost}
 use Rattle.calculus.specs.Position.{contract_at, redex_at}
 use Rattle.calculus.specs.Equality.{equal?}
 use Rattle.calculus.specs.Comparison.{Comparison, equal, differ, compare}
-use Rattle.calculus.specs.Rounds.{Different, Budget, Full, contractions, ends, goes, round, next_length, same, at_once}
+use Rattle.calculus.specs.Rounds.{next_length, same, at_once}
 use Rattle.calculus.proofs.PositionLaws.{redex_first, leftmost-at_redex}
 use Rattle.calculus.proofs.RoundsLaws.{next_is}
 use Rattle.calculus.proofs.ComparisonLaws.{equal≢differ, equal_terms_compared}
@@ -53,29 +51,3 @@ asked_by t u h k (differ p) e = sym (if_neg (equal? t u) (λ q. equal≢differ (
 
 pub asked : (t u : Term) → Accepted 0 t → Accepted 0 u → at_once_in (words t) (words u) ≡ at_once t u
 asked t u h k = asked_by t u h k (compare t u) refl
-
--- A side makes one contraction at most.
-one_at_most : (o : Option ℕ) → contractions o ≤ 1
-one_at_most none = omega arith
-one_at_most (some n) = omega arith
-
-pub few : {n : ℕ} (p : Plan) → n ≡ contractions (length_in p) → n ≤ 1
-few p e = omega (arith, e, one_at_most (length_in p))
-
--- Points 2 to 5 of a round, by the contractions and the next length of each side.
-module _ (C rest : ℕ) (l r : Option ℕ) {p q : ℕ} (left-moves : p ≡ contractions l) (right-moves : q ≡ contractions r) where
-  pub point_2 : p + q ≡ 0 → round none C rest l r ≡ ends Different
-  point_2 e = rw (← left-moves, ← right-moves, eq-eqb _ _ e)
-
-  module _ (moves : p + q ≡ 0 → ⊥) where
-    pub point_3 : rest < p + q → round none C rest l r ≡ ends Budget
-    point_3 h = rw (← left-moves, ← right-moves, ne_eqb _ _ moves, lt-ltb _ _ h)
-
-    module _ (affords : p + q ≤ rest) {m n o : ℕ} (left-length : m ≡ get_or l 0) (right-length : n ≡ get_or r 0) (longest-is : o ≡ max m n) where
-      pub point_4 : C < o → round none C rest l r ≡ ends Full
-      point_4 h =
-          rw (← left-moves, ← right-moves, ne_eqb _ _ moves, le-ltb _ _ affords, ← left-length, ← right-length, ← longest-is, lt-ltb _ _ h)
-
-      pub point_5 : o ≤ C → round none C rest l r ≡ goes (p + q)
-      point_5 h =
-          rw (← left-moves, ← right-moves, ne_eqb _ _ moves, le-ltb _ _ affords, ← left-length, ← right-length, ← longest-is, le-ltb _ _ h)
