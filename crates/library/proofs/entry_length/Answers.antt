@@ -1,6 +1,5 @@
 -- `entry_length` meets its contract: a numeral has 2 × n + 3 words.
 use Rattle.calculus.proofs.NumeralLaws.{numeral-words}
-use borrow.Author.Rules.{rules}
 use mathlib.Core.Path.{sym}
 use Rattle.library.proofs.entry_length.Goals as goal
 

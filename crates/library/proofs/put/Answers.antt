@@ -1,13 +1,10 @@
 -- `put` meets its contract: the words copied are an entry of the table.
-use Prim.Native.Nat.{◌+◌, ◌*◌, ◌≤◌}
+use Prim.Native.Nat.{◌+◌, ◌*◌}
 use Rattle.calculus.proofs.NumeralLaws.{numeral-words}
-use Rattle.calculus.specs.Accepted.{numeral_limit}
 use Rattle.library.proofs.EntryLaws.{entry-within, entry-words}
-use borrow.Author.Rules.{rules}
 use lib.ListN.{length}
 use lib.Seq.{sets}
 use mathlib.Core.Path.{◌≡◌, ◌∙◌, ap}
-use native.Mathlib.Nat.{mul-le-mul}
 use native.Mathlib.Omega.{arith}
 use Rattle.library.proofs.put.Goals as goal
 

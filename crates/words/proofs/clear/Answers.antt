@@ -1,9 +1,6 @@
 -- `clear` meets its contract.
 use Rattle.words.proofs.PlacedLaws.{fill_end}
-use lib.ListN.{length}
-use lib.Seq.{length-sets}
-use mathlib.Core.Path.{◌∙◌, ap}
-use native.Mathlib.Omega.{arith}
+use mathlib.Core.Path.{◌∙◌}
 use Rattle.words.proofs.clear.Goals as goal
 
 pub returns : goal.returns

@@ -1,13 +1,9 @@
 -- `skip` meets its contract. The invariant: the end is where the items still to come end, and each word passed brought at most `payload_bound`
 -- of them.
-use Prim.Native.Nat.{◌+◌, ◌*◌, ◌-◌, ◌≤◌}
+use Prim.Native.Nat.{◌≤◌}
 use Rattle.calculus.proofs.SkipLaws.{span_zero}
-use Rattle.calculus.specs.Skip.{span}
-use Rattle.words.proofs.Spans.{arity_bounded, span-step, span_past}
+use Rattle.words.proofs.Spans.{arity_bounded, span-step}
 use Rattle.words.specs.Limits.{payload_bound}
-use borrow.Author.Rules.{rules}
-use lib.ListN.{length, drop}
-use mathlib.Core.Path.{◌≡◌}
 use native.Mathlib.Omega.{arith}
 use Rattle.words.proofs.skip.Goals as goal
 

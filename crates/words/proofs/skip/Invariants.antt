@@ -1,12 +1,8 @@
 use Prim.Native.Nat.{◌+◌, ◌*◌, ◌-◌, ◌≤◌}
-use Rattle.calculus.proofs.SkipLaws.{span_zero}
 use Rattle.calculus.specs.Skip.{span}
-use Rattle.words.proofs.Spans.{arity_bounded, span-step, span_past}
 use Rattle.words.specs.Limits.{payload_bound}
-use borrow.Author.Rules.{rules}
 use lib.ListN.{length, drop}
 use mathlib.Core.Path.{◌≡◌}
-use native.Mathlib.Omega.{arith}
 use Rattle.words.proofs.skip.Given as goal
 
 abbrev pub invariant-loop-i : goal.invariant-loop-i

@@ -1,9 +1,6 @@
 -- `are_bytes` meets its contract: the words from i on tell what all of them tell.
-use Prim.Native.Nat.{◌-◌, ◌≤◌}
 use Rattle.text.proofs.ByteLaws.{byte_none, byte_some, byte_end}
-use Rattle.text.specs.Bytes.{are_bytes}
-use lib.ListN.{length, drop}
-use mathlib.Core.Path.{◌≡◌, refl, ◌∙◌}
+use mathlib.Core.Path.{◌∙◌}
 use native.Mathlib.Omega.{arith}
 use Rattle.text.proofs.bytes.are_bytes.Goals as goal
 

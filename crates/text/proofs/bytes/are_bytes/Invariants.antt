@@ -1,9 +1,7 @@
 use Prim.Native.Nat.{◌-◌, ◌≤◌}
-use Rattle.text.proofs.ByteLaws.{byte_none, byte_some, byte_end}
 use Rattle.text.specs.Bytes.{are_bytes}
 use lib.ListN.{length, drop}
-use mathlib.Core.Path.{◌≡◌, refl, ◌∙◌}
-use native.Mathlib.Omega.{arith}
+use mathlib.Core.Path.{◌≡◌}
 use Rattle.text.proofs.bytes.are_bytes.Given as goal
 
 abbrev pub invariant-loop-i : goal.invariant-loop-i

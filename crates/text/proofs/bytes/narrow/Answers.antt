@@ -1,8 +1,5 @@
 -- `narrow` meets its contract: each word is a byte, and is put as it is.
-use Prim.Native.Nat.{◌-◌}
-use Rattle.text.proofs.ByteLaws.{Narrowing, narrow_fits, narrow_turn, narrow_ends}
-use lib.ListN.{length}
-use mathlib.Core.Path.{refl}
+use Rattle.text.proofs.ByteLaws.{narrow_fits, narrow_turn}
 use native.Mathlib.Omega.{arith}
 use Rattle.text.proofs.bytes.narrow.Goals as goal
 

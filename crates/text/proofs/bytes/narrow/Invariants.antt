@@ -1,8 +1,6 @@
 use Prim.Native.Nat.{◌-◌}
-use Rattle.text.proofs.ByteLaws.{Narrowing, narrow_fits, narrow_turn, narrow_ends}
+use Rattle.text.proofs.ByteLaws.{Narrowing}
 use lib.ListN.{length}
-use mathlib.Core.Path.{refl}
-use native.Mathlib.Omega.{arith}
 use Rattle.text.proofs.bytes.narrow.Given as goal
 
 abbrev pub invariant-loop-i : goal.invariant-loop-i

@@ -1,10 +1,7 @@
 use Prim.Native.Nat.{◌-◌, ◌≤◌}
-use Rattle.text.proofs.Storing.{store_next}
-use lib.ListN.{length, drop, length-set}
-use lib.Seq.{sets, drop-length}
-use mathlib.Core.Path.{◌≡◌, refl, ◌∙◌}
-use native.Mathlib.Numerals.{add-one}
-use native.Mathlib.Omega.{arith}
+use lib.ListN.{length, drop}
+use lib.Seq.{sets}
+use mathlib.Core.Path.{◌≡◌}
 use Rattle.text.proofs.bytes.widen.Given as goal
 
 abbrev pub invariant-loop-i : goal.invariant-loop-i

@@ -1,12 +1,12 @@
 -- `words_from` meets its contract. The invariant: the words still to come, stored from here on, give what all of them give.
-use Prim.Native.Nat.{◌-◌, ◌≤◌, ◌<◌}
+use Prim.Native.Nat.{◌<◌}
 use Rattle.text.proofs.DecodeLaws.{length-words_from, get_d_words_from}
 use Rattle.text.proofs.Storing.{store_next}
 use Rattle.text.specs.Decode.{words_from}
 use Rattle.words.proofs.PlacedLaws.{sets_whole}
-use lib.ListN.{length, drop, length-set}
-use lib.Seq.{sets, drop-length}
-use mathlib.Core.Path.{◌≡◌, refl, sym, ◌∙◌}
+use lib.ListN.{length, length-set}
+use lib.Seq.{drop-length}
+use mathlib.Core.Path.{◌≡◌, sym, ◌∙◌}
 use native.Mathlib.Numerals.{add-one}
 use native.Mathlib.Omega.{arith}
 use Rattle.text.proofs.bytes.words_from.Goals as goal

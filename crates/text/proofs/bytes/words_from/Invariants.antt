@@ -1,13 +1,8 @@
-use Prim.Native.Nat.{◌-◌, ◌≤◌, ◌<◌}
-use Rattle.text.proofs.DecodeLaws.{length-words_from, get_d_words_from}
-use Rattle.text.proofs.Storing.{store_next}
+use Prim.Native.Nat.{◌-◌, ◌≤◌}
 use Rattle.text.specs.Decode.{words_from}
-use Rattle.words.proofs.PlacedLaws.{sets_whole}
-use lib.ListN.{length, drop, length-set}
-use lib.Seq.{sets, drop-length}
-use mathlib.Core.Path.{◌≡◌, refl, sym, ◌∙◌}
-use native.Mathlib.Numerals.{add-one}
-use native.Mathlib.Omega.{arith}
+use lib.ListN.{length, drop}
+use lib.Seq.{sets}
+use mathlib.Core.Path.{◌≡◌}
 use Rattle.text.proofs.bytes.words_from.Given as goal
 
 abbrev pub invariant-loop-i : goal.invariant-loop-i

@@ -1,10 +1,10 @@
 -- `keep_digits` meets its contract. The invariant: the digits still to come and those kept are the number's, and before these nothing has changed.
-use Prim.Native.Nat.{◌-◌, ◌≤◌}
+use Prim.Native.Nat.{◌-◌}
 use Rattle.text.proofs.DecimalLaws.{digits-next, digits_last, kept_placed}
 use Rattle.text.specs.Decimal.{digits_most, digits, decimal}
 use Rattle.words.proofs.PlacedLaws.{taken_set}
-use lib.ListN.{length, take, drop, length-set, drop_of_length-le}
-use mathlib.Core.List.{◌++◌, append-nil}
+use lib.ListN.{length-set, drop_of_length-le}
+use mathlib.Core.List.{append-nil}
 use mathlib.Core.Path.{◌≡◌, refl, ◌∙◌}
 use native.Mathlib.Omega.{arith}
 use Rattle.text.proofs.decimal.keep_digits.Goals as goal

@@ -1,11 +1,8 @@
-use Prim.Native.Nat.{◌-◌, ◌≤◌}
-use Rattle.text.proofs.DecimalLaws.{digits-next, digits_last, kept_placed}
+use Prim.Native.Nat.{◌≤◌}
 use Rattle.text.specs.Decimal.{digits_most, digits, decimal}
-use Rattle.words.proofs.PlacedLaws.{taken_set}
-use lib.ListN.{length, take, drop, length-set, drop_of_length-le}
-use mathlib.Core.List.{◌++◌, append-nil}
-use mathlib.Core.Path.{◌≡◌, refl, ◌∙◌}
-use native.Mathlib.Omega.{arith}
+use lib.ListN.{length, take, drop}
+use mathlib.Core.List.{◌++◌}
+use mathlib.Core.Path.{◌≡◌}
 use Rattle.text.proofs.decimal.keep_digits.Given as goal
 
 abbrev pub invariant-loop-i : goal.invariant-loop-i

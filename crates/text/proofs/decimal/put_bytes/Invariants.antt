@@ -1,10 +1,7 @@
-use Prim.Native.Nat.{suc, ◌+◌, ◌-◌, ◌≤◌}
-use Rattle.text.proofs.Storing.{store_next}
-use lib.ListN.{length, drop, length-set}
-use lib.Seq.{sets, drop-length}
-use mathlib.Core.Path.{◌≡◌, refl, ◌∙◌}
-use native.Mathlib.Nat.{add-zero}
-use native.Mathlib.Omega.{arith}
+use Prim.Native.Nat.{◌+◌, ◌-◌, ◌≤◌}
+use lib.ListN.{length, drop}
+use lib.Seq.{sets}
+use mathlib.Core.Path.{◌≡◌}
 use Rattle.text.proofs.decimal.put_bytes.Given as goal
 
 abbrev pub invariant-loop-i : goal.invariant-loop-i

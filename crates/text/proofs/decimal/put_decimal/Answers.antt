@@ -1,6 +1,5 @@
 -- `put_decimal` meets its contract: what it puts are the digits kept.
 use Rattle.text.proofs.DecimalLaws.{kept_part}
-use borrow.Author.Rules.{rules}
 use mathlib.Core.Path.{refl}
 use Rattle.text.proofs.decimal.put_decimal.Goals as goal
 

@@ -1,7 +1,6 @@
 -- `Word::arity` meets its contract: where the kind is known `following` computes, and below three it is the kind.
 use Prim.Native.Nat.{ℕ, zero, suc, ◌<◌}
 use Rattle.calculus.specs.Skip.{following}
-use borrow.Author.Rules.{rules}
 use borrow.Author.Tests.{ne_eqb}
 use mathlib.Core.Path.{◌≡◌, refl, sym, ◌∙◌}
 use native.Mathlib.Omega.{arith}

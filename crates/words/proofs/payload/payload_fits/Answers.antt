@@ -1,6 +1,5 @@
 -- `payload_fits` meets its contract: in each arm the kind is known, and `payload_fits` computes there.
 use Rattle.calculus.specs.Payload.{payload_fits}
-use borrow.Author.Rules.{rules}
 use borrow.Author.Tests.{ne_eqb}
 use Rattle.words.proofs.payload.payload_fits.Goals as goal
 

@@ -1,9 +1,7 @@
 -- `fill` meets its contract. The invariant: the places still to fill make of the slice what all of them make of it at entry.
-use Prim.Native.Nat.{◌≤◌, ◌-◌}
-use Rattle.words.proofs.PlacedLaws.{fill_turn, fill_ends}
-use lib.ListN.{length, replicate, length-set}
-use lib.Seq.{sets}
-use mathlib.Core.Path.{◌≡◌, refl, sym, ◌∙◌}
+use Rattle.words.proofs.PlacedLaws.{fill_turn}
+use lib.ListN.{length-set}
+use mathlib.Core.Path.{◌∙◌}
 use native.Mathlib.Omega.{arith}
 use Rattle.words.proofs.slices.fill.Goals as goal
 

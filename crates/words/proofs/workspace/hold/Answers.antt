@@ -1,7 +1,5 @@
 -- `hold` meets its contract: the words are copied, and clearing leaves the zeros.
 use Rattle.words.proofs.BringingLaws.{held}
-use Rattle.words.proofs.PlacedLaws.{placed_length}
-use borrow.Author.Rules.{rules}
 use lib.Seq.{length-slice}
 use native.Mathlib.Omega.{arith}
 use Rattle.words.proofs.workspace.hold.Goals as goal
