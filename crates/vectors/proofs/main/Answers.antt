@@ -5,7 +5,7 @@ use mathlib.Core.Path.{sym}
 use Rattle.vectors.proofs.main.Goals as goal
 
 pub slice_bounds-read_full-end : goal.slice_bounds-read_full-end
-slice_bounds-read_full-end c = sym (length-replicate {A = ℕ} 524288 0)
+slice_bounds-read_full-end c = sym (length-replicate {A = ℕ} _ 0)
 
 pub slice_bounds-input-end : goal.slice_bounds-input-end
 slice_bounds-input-end c = c.read_full-length.ensures.0

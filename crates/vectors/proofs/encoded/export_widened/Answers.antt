@@ -1,11 +1,10 @@
 -- `export_widened` meets its contract.
 use Rattle.binary.specs.Types.{exported_of}
 use Rattle.encoding.specs.Export.{export}
-use Rattle.vector_text.proofs.ListLaws.{lent_words, lent_length, lent_again}
+use Rattle.vector_text.proofs.ListLaws.{lent_words, lent_again}
 use Rattle.vector_text.specs.Lists.{list_most}
 use Rattle.vectors.proofs.EncodedLaws.{placed_whole}
 use Rattle.vectors.specs.Pair.{junk}
-use borrow.Author.Rules.{rules}
 use lib.ListN.{length}
 use mathlib.Core.Path.{◌∙◌, ap}
 use native.Mathlib.Omega.{arith}

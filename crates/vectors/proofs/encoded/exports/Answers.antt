@@ -1,6 +1,5 @@
 -- `exports` meets its contract.
 use Rattle.vectors.proofs.EncodedLaws.{export_refused, export-given}
-use borrow.Author.Rules.{rules}
 use mathlib.Core.Bool.{◌&&◌}
 use mathlib.Core.Path.{sym, ◌∙◌, ap₂}
 use Rattle.vectors.proofs.encoded.exports.Goals as goal

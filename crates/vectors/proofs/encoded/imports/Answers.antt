@@ -1,7 +1,7 @@
 -- `imports` meets its contract.
 use Rattle.encoding.specs.Import.{import}
 use Rattle.vectors.proofs.EncodedLaws.{import_bytes, import_others, import_ends, import_exports}
-use Rattle.vectors.proofs.TypedLaws.{placed_start, placed_count}
+use Rattle.vectors.proofs.TypedLaws.{placed_start}
 use Rattle.vectors.specs.Encoded.{importing_of}
 use Rattle.vectors.specs.Stored.{verified_of, ends_as}
 use Rattle.words.specs.Types.{brought_of}
@@ -16,20 +16,26 @@ returns-then-not-are_bytes c = sym (import_others _ _ _ _ _ (sym c.are_bytes.ens
 pub returns-then-term-eq0 : goal.returns-then-term-eq0
 returns-then-term-eq0 c =
     let start = c.args in
-    let call = c.import-answer in
-    let left = call.new.workspace in
-    let got = brought_of call.result left in
-    ap (λ b. verified_of b left) (sym (import_ends start.line.now start.at start.count start.words.now got c.brings-term.result c.brings-term.ensures c.if-term-eq0.true))
-    ∙ ap (importing_of start.line.now start.at start.count start.words.now) (call.ensures ∙ ap (λ bs. import bs start.count start.workspace.now) (placed_start c.narrow-n.ensures (search rules)))
+    let line = start.line.now in
+    let bytes = start.words.now in
+    let left = c.import-answer.new.workspace in
+    let got = brought_of c.import-answer.result left in
+    let term = c.brings-term in
+    ap (λ b. verified_of b left) (sym (import_ends line start.at start.count bytes got term.result term.ensures c.if-term-eq0.true))
+    ∙ ap (importing_of line start.at start.count bytes)
+    (c.import-answer.ensures ∙ ap (λ bs. import bs start.count start.workspace.now) (placed_start c.narrow-n.ensures (search rules)))
     ∙ sym (import_bytes _ _ _ _ _ (sym c.are_bytes.ensures ∙ c.if-not-are_bytes.false))
 
 pub returns : goal.returns
 returns c =
     let start = c.args in
-    let call = c.import-answer in
-    let left = call.new.workspace in
-    let got = brought_of call.result left in
-    ap (λ b. verified_of (ends_as start.line.now c.brings-term.result && b) left) c.exports_back.ensures
-    ∙ ap (λ b. verified_of b left) (sym (import_exports start.line.now start.at start.count start.words.now got c.brings-term.result c.brings-term.ensures c.if-term-eq0.false))
-    ∙ ap (importing_of start.line.now start.at start.count start.words.now) (call.ensures ∙ ap (λ bs. import bs start.count start.workspace.now) (placed_start c.narrow-n.ensures (search rules)))
+    let line = start.line.now in
+    let bytes = start.words.now in
+    let left = c.import-answer.new.workspace in
+    let got = brought_of c.import-answer.result left in
+    let term = c.brings-term in
+    ap (λ b. verified_of (ends_as line term.result && b) left) c.exports_back.ensures
+    ∙ ap (λ b. verified_of b left) (sym (import_exports line start.at start.count bytes got term.result term.ensures c.if-term-eq0.false))
+    ∙ ap (importing_of line start.at start.count bytes)
+    (c.import-answer.ensures ∙ ap (λ bs. import bs start.count start.workspace.now) (placed_start c.narrow-n.ensures (search rules)))
     ∙ sym (import_bytes _ _ _ _ _ (sym c.are_bytes.ensures ∙ c.if-not-are_bytes.false))

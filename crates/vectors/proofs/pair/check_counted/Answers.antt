@@ -1,6 +1,5 @@
 -- `check_counted` meets its contract.
 use Rattle.vectors.specs.Pair.{counted_after}
-use borrow.Author.Rules.{rules}
 use Rattle.vectors.proofs.pair.check_counted.Goals as goal
 
 pub returns : goal.returns

@@ -1,6 +1,5 @@
 -- `check_press` meets its contract.
 use Rattle.vectors.specs.Pair.{checked}
-use borrow.Author.Rules.{rules}
 use borrow.Author.Tests.{eq-eqb, ne_eqb}
 use Rattle.vectors.proofs.pair.check_press.Goals as goal
 
@@ -11,7 +10,12 @@ returns-then-refused c = rw (← c.after-refused.ensures, ne_eqb _ _ c.if-refuse
 pub returns : goal.returns
 unfolding checked
 returns c =
-    let setting = c in
-    let number = c in
-    let verdict = c in
-    rw (← c.after-refused.ensures, eq-eqb _ _ c.if-refused.false, c.check_counted.ensures, c.compare_lent-lent-2.ensures, c.read_setting-position.ensures, c.read_number-spent.ensures, c.read_verdict-named.ensures)
+    rw (
+      ← c.after-refused.ensures,
+      eq-eqb _ _ c.if-refused.false,
+      c.check_counted.ensures,
+      c.compare_lent-lent-2.ensures,
+      c.read_setting-position.ensures,
+      c.read_number-spent.ensures,
+      c.read_verdict-named.ensures,
+    )

@@ -1,6 +1,5 @@
 -- `check_refused` meets its contract.
 use Rattle.vectors.specs.Pair.{refused_after}
-use borrow.Author.Rules.{rules}
 use Rattle.vectors.proofs.pair.check_refused.Goals as goal
 
 pub returns : goal.returns

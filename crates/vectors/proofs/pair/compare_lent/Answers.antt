@@ -1,6 +1,5 @@
 -- `compare_lent` meets its contract.
 use Rattle.vectors.specs.Pair.{lent_at}
-use borrow.Author.Rules.{rules}
 use Rattle.vectors.proofs.pair.compare_lent.Goals as goal
 
 pub returns : goal.returns

@@ -1,9 +1,8 @@
 -- `press_step` meets its contract.
 use Rattle.claim.specs.Press.{press}
 use Rattle.press.specs.Types.{memory_of, call_of, pressed_of}
-use Rattle.vector_text.proofs.ListLaws.{lent_words, lent_length, lent_again}
+use Rattle.vector_text.proofs.ListLaws.{lent_words, lent_again}
 use Rattle.vectors.specs.Pair.{room, junk, Stage, stage_of, Stepped, checked, stepped_after, press_step}
-use borrow.Author.Rules.{rules}
 use mathlib.Core.Path.{◌∙◌, ap}
 use Rattle.vectors.proofs.pair.press_step.Goals as goal
 
@@ -22,9 +21,9 @@ returns c =
     ap result
     (c.check_press.ensures
     ∙ ap (λ t. checked line budget.result.next (pressed_of call.result left right t) before)
-      (lent_again junk given.scratch room _ lent call.new.scratch call.auto.scratch).2)
+    (lent_again junk given.scratch room _ lent call.new.scratch call.auto.scratch).2)
     ∙ ap (stepped_after line budget.result.next before)
-      (call.ensures
-      ∙ ap (λ s. press (memory_of c.args.left.now c.args.right.now c.args.state.session) (call_of s given.left given.right budget.result.value))
-        (lent_words junk given.scratch room _ lent))
+    (call.ensures
+    ∙ ap (λ s. press (memory_of c.args.left.now c.args.right.now c.args.state.session) (call_of s given.left given.right budget.result.value))
+    (lent_words junk given.scratch room _ lent))
     ∙ rw (budget.ensures, c.after.ensures)

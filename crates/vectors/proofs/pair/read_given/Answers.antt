@@ -1,6 +1,5 @@
 -- `read_given` meets its contract.
 use Rattle.vectors.specs.Pair.{given_at}
-use borrow.Author.Rules.{rules}
 use Rattle.vectors.proofs.pair.read_given.Goals as goal
 
 pub returns : goal.returns

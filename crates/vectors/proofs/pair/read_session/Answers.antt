@@ -1,6 +1,5 @@
 -- `read_session` meets its contract.
 use Rattle.vectors.specs.Pair.{opened_at}
-use borrow.Author.Rules.{rules}
 use borrow.Author.Tests.{eq-eqb, ne_eqb}
 use Rattle.vectors.proofs.pair.read_session.Goals as goal
 

@@ -1,6 +1,5 @@
 -- `step` meets its contract.
 use Rattle.vectors.specs.Pair.{stepped}
-use borrow.Author.Rules.{rules}
 use borrow.Author.Tests.{eq-eqb, ne_eqb}
 use Rattle.vectors.proofs.pair.step.Goals as goal
 

@@ -1,16 +1,22 @@
 -- `steps` meets its contract: what is still ahead decides.
 use Rattle.vectors.proofs.StepLaws.{steps_last, steps_next, steps_end}
-use Rattle.vectors.specs.Pair.{stepped_of, steps_from}
-use borrow.Author.Rules.{rules}
-use lib.ListN.{length}
-use mathlib.Core.Path.{◌≡◌, refl, sym, ◌∙◌}
+use Rattle.vectors.specs.Pair.{stepped_of}
+use mathlib.Core.Path.{sym, ◌∙◌}
 use Rattle.vectors.proofs.pair.steps.Goals as goal
 
 pub returns-then-line-state : goal.returns-then-line-state
-returns-then-line-state c = sym (steps_last c.args.line.now (stepped_of c.loop-turns.state c.loop-turns.left c.loop-turns.right) (stepped_of c.step-state.result c.step-state.new.left c.step-state.new.right) c.step-state.ensures c.loop-turns.turns c.loop-turns-test.true c.if-line-state.true) ∙ c.loop-turns.invariant.2
+returns-then-line-state c =
+    let before = stepped_of c.loop-turns.state c.loop-turns.left c.loop-turns.right in
+    let after = stepped_of c.step-state.result c.step-state.new.left c.step-state.new.right in
+    sym (steps_last c.args.line.now before after c.step-state.ensures _ c.loop-turns-test.true c.if-line-state.true) ∙ c.loop-turns.invariant
 
 pub loop-turns-preserved : goal.loop-turns-preserved
-loop-turns-preserved c = (search rules, search rules, sym (steps_next c.args.line.now (stepped_of c.loop-turns.state c.loop-turns.left c.loop-turns.right) (stepped_of c.step-state.result c.step-state.new.left c.step-state.new.right) c.step-state.ensures c.loop-turns.turns c.loop-turns-test.true c.if-line-state.false) ∙ c.loop-turns.invariant.2)
+loop-turns-preserved c =
+    let before = stepped_of c.loop-turns.state c.loop-turns.left c.loop-turns.right in
+    let after = stepped_of c.step-state.result c.step-state.new.left c.step-state.new.right in
+    sym (steps_next c.args.line.now before after c.step-state.ensures _ c.loop-turns-test.true c.if-line-state.false) ∙ c.loop-turns.invariant
 
 pub returns : goal.returns
-returns c = sym (steps_end _ (stepped_of c.loop-turns.state c.loop-turns.left c.loop-turns.right) _ c.loop-turns-test.false) ∙ c.loop-turns.invariant.2
+returns c =
+    let before = stepped_of c.loop-turns.state c.loop-turns.left c.loop-turns.right in
+    sym (steps_end _ before _ c.loop-turns-test.false) ∙ c.loop-turns.invariant

@@ -1,6 +1,5 @@
 -- `brings` meets its contract.
 use Rattle.vectors.proofs.StoredLaws.{brought_refused, brought_given}
-use borrow.Author.Rules.{rules}
 use lib.ListN.{length}
 use mathlib.Core.Bool.{◌&&◌}
 use mathlib.Core.Path.{sym, ◌∙◌, ap}

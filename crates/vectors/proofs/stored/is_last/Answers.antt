@@ -1,6 +1,5 @@
 -- `is_last` meets its contract.
 use Rattle.vectors.specs.Stored.{is_last}
-use borrow.Author.Rules.{rules}
 use Rattle.vectors.proofs.stored.is_last.Goals as goal
 
 pub returns : goal.returns

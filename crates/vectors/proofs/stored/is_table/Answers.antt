@@ -1,6 +1,5 @@
 -- `is_table` meets its contract.
 use Rattle.vectors.specs.Stored.{is_table}
-use borrow.Author.Rules.{rules}
 use borrow.Author.Tests.{eq-eqb, ne_eqb}
 use Rattle.vectors.proofs.stored.is_table.Goals as goal
 

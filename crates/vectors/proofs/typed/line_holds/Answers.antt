@@ -1,13 +1,11 @@
 -- `line_holds` meets its contract.
 use Prim.Native.Nat.{min}
-use Rattle.vector_text.proofs.ListLaws.{lent_words, lent_length, part_length}
+use Rattle.vector_text.proofs.ListLaws.{lent_words}
 use Rattle.vector_text.specs.Lists.{list_most}
 use Rattle.vectors.specs.Pair.{room, junk, junk_words}
 use Rattle.vectors.specs.Typed.{reading, line_holds}
-use borrow.Author.Rules.{rules}
 use lib.ListN.{take}
 use mathlib.Core.Path.{◌∙◌, ap, ap₂}
-use native.Mathlib.Omega.{arith}
 use Rattle.vectors.proofs.typed.line_holds.Goals as goal
 
 pub returns : goal.returns

@@ -1,6 +1,5 @@
 -- `share` meets its contract.
 use Rattle.vectors.specs.Vector.{share_of}
-use borrow.Author.Rules.{rules}
 use borrow.Author.Tests.{eq-eqb, ne_eqb}
 use Rattle.vectors.proofs.vector.share.Goals as goal
 
