@@ -215,7 +215,7 @@ def pairs_for(file, lines, today, old_pairs, was):
         if line not in today.split("\n"):
             return None, "today's file has no line: " + line.strip()
         if line.startswith("use "):
-            first, end = 0, line.index("{") + 1
+            end = line.index("{") + 1
             pair = (line[:end], turned[: len(turned) - len(line) + end])
             if not turned.endswith(line[end:]) or today.count(pair[0]) != 1:
                 pair = (line, turned)
@@ -237,7 +237,7 @@ def pairs_for(file, lines, today, old_pairs, was):
     return ordered + later, None
 
 
-def turn(e, base, copy):
+def turn(e, old, base, copy):
     """The edit in today's spelling; the second value says what hinders it."""
     today = {f: read(e.place(ROOT, f)) for f in e.files}
     pairs, wanted = [], dict(today)
@@ -254,8 +254,7 @@ def turn(e, base, copy):
         if wanted[f] is not None and (applied(today, own) or {}).get(f) == wanted[f]:
             pairs += own
             continue
-        was = subprocess.run(["git", "show", OLD + ":" + e.place("", f)], cwd=ROOT, capture_output=True, text=True, check=True).stdout
-        more, why = pairs_for(f, lines, today[f], own, was)
+        more, why = pairs_for(f, lines, today[f], own, git(ROOT, "show", old + ":" + e.place("", f)))
         if why:
             return None, f + ": " + why
         pairs += more
@@ -270,21 +269,20 @@ def turn(e, base, copy):
 
 
 def main():
-    global OLD
-    OLD, work, names = sys.argv[1], os.path.abspath(sys.argv[2]), sys.argv[3:]
+    old, work, names = sys.argv[1], os.path.abspath(sys.argv[2]), sys.argv[3:]
     os.makedirs(work, exist_ok=True)
-    paths = [p for p in git(ROOT, "ls-tree", "-r", "--name-only", OLD, "crates").split("\n") if re.search(r"/must-fail/[^/]*\.edit$", p)]
-    edits = [Edit(p, git(ROOT, "show", OLD + ":" + p)) for p in paths]
+    paths = [p for p in git(ROOT, "ls-tree", "-r", "--name-only", old, "crates").split("\n") if re.search(r"/must-fail/[^/]*\.edit$", p)]
+    edits = [Edit(p, git(ROOT, "show", old + ":" + p)) for p in paths]
     groups = rounds(edits)
-    make(work, "0", [], OLD)
+    make(work, "0", [], old)
     with ThreadPoolExecutor(2) as pool:
-        list(pool.map(lambda k: make(work, str(k + 1), groups[k], OLD), range(len(groups))))
+        list(pool.map(lambda k: make(work, str(k + 1), groups[k], old), range(len(groups))))
     kept = written = left = 0
     for k, group in enumerate(groups):
         for e in group:
             if names and e.crate not in names:
                 continue
-            turned, why = turn(e, os.path.join(work, "0"), os.path.join(work, str(k + 1)))
+            turned, why = turn(e, old, os.path.join(work, "0"), os.path.join(work, str(k + 1)))
             if why:
                 left += 1
                 print("left:", e.path, why)
