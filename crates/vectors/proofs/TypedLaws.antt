@@ -1,7 +1,7 @@
 -- Bytes that are read.
 use Prim.Native.Nat.{ℕ, ◌+◌, ◌≤◌}
 use native.Mathlib.Omega.{arith}
-use mathlib.Core.Path.{◌≡◌, ◌∙◌, ap}
+use mathlib.Core.Path.{◌≡◌, ◌∙◌}
 use mathlib.Core.List.{List, ◌++◌}
 use mathlib.Core.Bool.{true, false}
 use lib.ListN.{length, take, drop}
@@ -18,10 +18,6 @@ placed_start {before} {vs} {after} {end} p fits =
     let ends : end ≡ length vs = omega (arith, p.position) in
     let placed : after ≡ vs ++ drop (0 + length vs) before = p.slice ∙ sets-eq vs before 0 (omega (arith, fits)) in
     rw (ends, placed) (take-append_seam vs _)
-
--- So it is all that is read.
-pub placed_count : {before vs after : List ℕ} {end : ℕ} → Placed before 0 vs after end → length vs ≤ length before → end ≡ length (take end after)
-placed_count p fits = omega (arith, p.position, ap length (placed_start p fits))
 
 module _ (line : List ℕ) (at : ℕ) (bytes workspace : List ℕ) where
   pub read_bytes : are_bytes bytes ≡ true → reading line at bytes workspace ≡ reading_of line at (read_line bytes workspace)

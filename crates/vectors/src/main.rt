@@ -1,8 +1,7 @@
 // Vectors: calls of the unit on real words, compared with what they should give. Each line of standard input is a vector or a comment; what a vector
 // expects stands in its line. Prints those that fail, how many pass, and how many there are. An input that is missing or cut off has fewer.
 //
-// `rt check vectors` proves and runs it; afterwards `target/bin/vectors < crates/vectors/stdin` runs it again. The interpreter of `rt try` stops it at its
-// limit of steps.
+// `rt run` in this folder proves and builds it, and runs it on the file stdin; `tools/program vectors` puts it there as target/bin/vectors.
 #![tactic(auto)]
 
 use crate::vector::tally_all;

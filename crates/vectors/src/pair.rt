@@ -412,6 +412,6 @@ pub fn pair_holds(line: &[u8], at: usize) -> bool
 
 // Does nothing. Its contract says that each constant is the number that the definitions give its name.
 fn constants()
-    ensures value { ROOM ≡ room }
-    ensures value_2 { JUNK ≡ junk }
+    ensures room { ROOM ≡ room }
+    ensures junk { JUNK ≡ junk }
 {}

@@ -1,0 +1,19 @@
+-- `reads` meets its contract.
+use Rattle.notation.specs.Reading.{read_line}
+use Rattle.vectors.proofs.TypedLaws.{placed_start, read_bytes, read_others}
+use Rattle.vectors.specs.Stored.{verified_of, ends_as}
+use Rattle.vectors.specs.Typed.{reading_of}
+use borrow.Author.Rules.{rules}
+use mathlib.Core.Path.{sym, ◌∙◌, ap}
+use Rattle.vectors.proofs.typed.reads.Goals as goal
+
+pub returns-then-not-are_bytes : goal.returns-then-not-are_bytes
+returns-then-not-are_bytes c = sym (read_others _ _ _ _ (sym c.are_bytes.ensures ∙ c.if-not-are_bytes.true))
+
+pub returns : goal.returns
+returns c =
+    let start = c.args in
+    ap (λ t. verified_of (ends_as start.line.now t) c.read_line-answer.new.workspace) c.brings-term.ensures
+    ∙ ap (reading_of start.line.now start.at) c.read_line-answer.ensures
+    ∙ ap (λ bs. reading_of start.line.now start.at (read_line bs start.workspace.now)) (placed_start c.narrow-n.ensures (search rules))
+    ∙ sym (read_bytes _ _ _ _ (sym c.are_bytes.ensures ∙ c.if-not-are_bytes.false))
