@@ -1,4 +1,4 @@
--- Contraction has the ChurchRosser property: parallel reduction lies between one contraction and any number of them, and has complete
+-- Contraction has the Church-Rosser property: parallel reduction lies between one contraction and any number of them, and has complete
 -- developments.
 use Prim.Native.Nat.{ℕ, suc, ◌+◌}
 use Rattle.calculus.specs.Term.{Sort, term, branches, Exp, lam, app, con, case, cons, branch, Term, Branches}

@@ -1,4 +1,4 @@
--- Abstract rewriting: the closures of any relation, and the ChurchRosser property by a parallel relation with complete developments.
+-- Abstract rewriting: the closures of any relation, and the Church-Rosser property by a parallel relation with complete developments.
 use mathlib.Core.Path.{◌≡◌, refl, sym, ◌∙◌, subst}
 use mathlib.Core.List.{List, [], ◌∷◌}
 use mathlib.Core.Logic.{◌⊎◌, inl, inr, ⊎_swap}
@@ -83,7 +83,7 @@ module _
         let (d, q, p') = strip (triangle a a' (parallel a a' r)) s in
         (d, star-append (sequential b (develop a) (triangle a b p)) q, p')
 
-    -- The ChurchRosser property.
+    -- The Church-Rosser property.
     pub joined_meet : {a b : A} → Chain R a b → Meet R a b
     joined_meet {a} alone = (a, stop, stop)
     joined_meet (link (inl r) l) = let (d, p, q) = joined_meet l in (d, step r p, q)
