@@ -21,7 +21,9 @@ from concurrent.futures import ThreadPoolExecutor
 
 ROOT = os.path.dirname(os.path.dirname(os.path.dirname(os.path.realpath(__file__))))
 RESPELL = os.path.join(ROOT, "tools/port/respell.py")
-PORT = os.environ.get("PORT", "/opt/rattle/port/port.py")
+# The kit's own script lies beside the page that rt names.
+PAGE = subprocess.run(["rt", "doc"], capture_output=True, text=True, check=True).stdout.strip().split("\n")[-1]
+PORT = os.path.join(os.path.dirname(PAGE), "port/port.py")
 # What port.py said is kept beside the copy, as two run at a time.
 RUN = "import sys; sys.path.insert(0, sys.argv[1]); import port; port.SAID = sys.argv[2]; raise SystemExit(port.main([]))"
 TOKEN = re.compile(r"\s+|[(){}\[\],;]|[^\s(){}\[\],;]+")
