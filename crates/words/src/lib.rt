@@ -17,7 +17,6 @@ pub mod kind;
 pub mod pattern;
 pub mod payload;
 pub mod refusal;
-pub mod result;
 pub mod slices;
 pub mod workspace;
 
@@ -26,21 +25,6 @@ pub mod workspace;
 pub struct Word(pub u32);
 
 impl Word {
-    // The kinds.
-    pub const VARIABLE: u32 = 0;
-
-    pub const ABSTRACTION: u32 = 1;
-
-    pub const APPLICATION: u32 = 2;
-
-    pub const CONSTRUCTOR: u32 = 3;
-
-    pub const CASE: u32 = 4;
-
-    pub const BRANCH: u32 = 5;
-
-    pub const NUMERAL: u32 = 6;
-
     // A payload stands above the kind, a tag above a count.
     pub const KIND_BASE: u32 = 8;
 
@@ -69,17 +53,17 @@ impl Word {
     pub const INDEX_MOST: u32 = 32767;
 
     // The word of a kind and a payload.
-    pub fn new(kind: u32, payload: u32) -> Self
-        requires { (kind < kind_base) × (payload < payload_bound) }
-        ensures { result.0 ≡ word kind payload }
+    pub fn new(kind: Kind, payload: u32) -> Self
+        requires { payload < payload_bound }
+        ensures { result.0 ≡ word (kind_number kind) payload }
     {
-        Word(payload * Word::KIND_BASE + kind)
+        Word(payload * Word::KIND_BASE + kind as u32)
     }
 
-    pub fn kind(self) -> u32
-        ensures { result ≡ kind_of self.0 }
+    pub fn kind(self) -> Kind
+        ensures { kind_number result ≡ kind_of self.0 }
     {
-        self.0 % Word::KIND_BASE
+        Kind::from(self.0 % Word::KIND_BASE)
     }
 
     pub fn payload(self) -> u32
@@ -102,44 +86,16 @@ impl Word {
         self.0 / Word::KIND_BASE % Word::COUNT_BASE
     }
 
-    // How many items follow the word: as many as the number of its kind for a variable, an abstraction and an application. Tested first, these cost
-    // less than a jump by a table of all kinds.
+    // How many items follow the word.
     pub fn arity(self) -> usize
         ensures { result ≡ arity self.0 }
     {
-        let kind = self.kind();
-        if kind < Word::CONSTRUCTOR {
-            return kind as usize;
-        }
-        match kind {
-            Word::CONSTRUCTOR => self.count() as usize,
-            Word::CASE => self.payload() as usize + 1,
-            Word::BRANCH => 1,
-            _ => 0,
-        }
-    }
-
-    // The kind by name. Tested in this order the kinds cost less than a jump by a table of all, and where a `match` goes over the names the compiler
-    // takes each test straight to its arm.
-    pub fn classify(self) -> Kind
-        ensures { kind_number result ≡ kind_of self.0 }
-    {
-        let kind = self.kind();
-        if kind == Word::VARIABLE {
-            return Kind::Variable;
-        }
-        if kind < Word::CONSTRUCTOR {
-            if kind == Word::ABSTRACTION {
-                return Kind::Abstraction;
-            }
-            return Kind::Application;
-        }
-        match kind {
-            Word::CONSTRUCTOR => Kind::Constructor,
-            Word::CASE => Kind::Case,
-            Word::BRANCH => Kind::Branch,
-            Word::NUMERAL => Kind::Numeral,
-            _ => Kind::Unassigned,
+        match self.kind() {
+            Kind::Variable | Kind::Numeral | Kind::Unassigned => 0,
+            Kind::Abstraction | Kind::Branch => 1,
+            Kind::Application => 2,
+            Kind::Constructor => self.count() as usize,
+            Kind::Case => self.payload() as usize + 1,
         }
     }
 }
@@ -180,13 +136,6 @@ pub fn clear(ws: &mut [u32], from: usize)
 
 // Does nothing. Its contract says that each constant is the number that the calculus gives its name.
 fn constants()
-    ensures variable { Word.VARIABLE ≡ variable_kind }
-    ensures abstraction { Word.ABSTRACTION ≡ abstraction_kind }
-    ensures application { Word.APPLICATION ≡ application_kind }
-    ensures constructor { Word.CONSTRUCTOR ≡ constructor_kind }
-    ensures case { Word.CASE ≡ case_kind }
-    ensures branch { Word.BRANCH ≡ branch_kind }
-    ensures numeral { Word.NUMERAL ≡ numeral_kind }
     ensures kind_base { Word.KIND_BASE ≡ kind_base }
     ensures count_base { Word.COUNT_BASE ≡ count_base }
     ensures workspace_least { Word.WORKSPACE_LEAST ≡ workspace_least }

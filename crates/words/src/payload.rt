@@ -3,20 +3,21 @@ ghost use Rattle.std.specs.Prelude.{◌≡◌};
 ghost use Rattle.calculus.specs.Payload.{payload_fits};
 
 use crate::Word;
+use crate::kind::Kind;
 use crate::pattern::{is_pattern, is_tagged};
 
 // Where the kind is a constant, the compiler leaves the test of that kind alone.
 pub fn payload_fits(kind: u32, payload: u32) -> bool
     ensures { result ≡ payload_fits kind payload }
 {
-    match kind {
-        Word::VARIABLE => payload <= Word::INDEX_MOST,
-        Word::ABSTRACTION => payload == 0,
-        Word::APPLICATION => payload == 0,
-        Word::CONSTRUCTOR => is_tagged(payload),
-        Word::CASE => payload <= Word::BRANCHES_MOST,
-        Word::BRANCH => is_pattern(payload),
-        Word::NUMERAL => payload <= Word::NUMERAL_MOST,
-        _ => false,
+    match Kind::from(kind) {
+        Kind::Variable => payload <= Word::INDEX_MOST,
+        Kind::Abstraction => payload == 0,
+        Kind::Application => payload == 0,
+        Kind::Constructor => is_tagged(payload),
+        Kind::Case => payload <= Word::BRANCHES_MOST,
+        Kind::Branch => is_pattern(payload),
+        Kind::Numeral => payload <= Word::NUMERAL_MOST,
+        Kind::Unassigned => false,
     }
 }

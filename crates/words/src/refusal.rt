@@ -3,41 +3,27 @@ ghost use Rattle.std.specs.Prelude.{◌≡◌};
 ghost use Rattle.calculus.specs.Refusal.{number};
 ghost use Rattle.words.specs.Types.{refusal_of};
 
-#[derive(Clone, Copy)]
+#[derive(Clone, Copy, PartialEq, Eq)]
 pub enum Refusal {
-    WrongLength,
-    WrongHeader,
-    WrongValue,
-    WrongLink,
-    WrongChildren,
-    WrongFree,
-    WrongWorkspace,
-    TooLong,
-    OverBudget,
-    NoTerm,
-    WrongLine,
-    WrongBits,
-    NoCombinator,
+    WrongLength = 1,
+    WrongHeader = 2,
+    WrongValue = 3,
+    WrongLink = 4,
+    WrongChildren = 5,
+    WrongFree = 6,
+    WrongWorkspace = 7,
+    TooLong = 8,
+    OverBudget = 9,
+    NoTerm = 10,
+    WrongLine = 11,
+    WrongBits = 12,
+    NoCombinator = 13,
 }
 
 impl Refusal {
     pub fn number(self) -> u32
         ensures { result ≡ number (refusal_of self) }
     {
-        match self {
-            Refusal::WrongLength => 1,
-            Refusal::WrongHeader => 2,
-            Refusal::WrongValue => 3,
-            Refusal::WrongLink => 4,
-            Refusal::WrongChildren => 5,
-            Refusal::WrongFree => 6,
-            Refusal::WrongWorkspace => 7,
-            Refusal::TooLong => 8,
-            Refusal::OverBudget => 9,
-            Refusal::NoTerm => 10,
-            Refusal::WrongLine => 11,
-            Refusal::WrongBits => 12,
-            Refusal::NoCombinator => 13,
-        }
+        self as u32
     }
 }

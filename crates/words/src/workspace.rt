@@ -6,7 +6,7 @@ ghost use Rattle.calculus.specs.Bringing.{hold};
 ghost use Rattle.words.specs.Placed.{Copies};
 ghost use Rattle.words.specs.Types.{brought_of};
 
-use crate::result::Result;
+use crate::refusal::Refusal;
 use crate::slices::copy;
 use crate::{Word, clear};
 
@@ -34,11 +34,11 @@ pub fn wrong_workspace(length: usize) -> bool
 }
 
 // Puts the words of a slice from a position to an end at the start of a workspace, with zeros after them, and returns how many they are.
-pub fn hold(src: &[u32], from: usize, to: usize, workspace: &mut [u32]) -> Result
+pub fn hold(src: &[u32], from: usize, to: usize, workspace: &mut [u32]) -> Result<usize, Refusal>
     requires { Copies src.now from to workspace.old 0 }
     ensures { brought_of result workspace.new ≡ hold workspace.old (slice from to src.now) }
 {
     let end = copy(src, from, to, workspace, 0);
     clear(workspace, end);
-    Result::Returned(end)
+    Ok(end)
 }

@@ -1,38 +1,47 @@
--- `Word::arity` meets its contract: where the kind is known `following` computes, and below three it is the kind.
-use Prim.Native.Nat.{ℕ, zero, suc, ◌<◌}
-use Rattle.calculus.specs.Skip.{following}
-use borrow.Author.Tests.{ne_eqb}
-use mathlib.Core.Path.{◌≡◌, refl, sym, ◌∙◌}
+-- `Word::arity` meets its contract: in each arm the kind is known, and `following` computes there.
+use Prim.Native.Nat.{ℕ}
+use mathlib.Core.Logic.{◌⊎◌, inl, inr}
+use mathlib.Core.Path.{◌≡◌, sym, ap, ◌∙◌}
 use native.Mathlib.Omega.{arith}
+use Rattle.calculus.specs.Words.{payload_of}
+use Rattle.calculus.specs.Skip.{following}
+use Rattle.words.specs.declared.kind.Kind as codeKind
+use Rattle.words.specs.declared.kind.Kind.TheVariants as kind
+use Rattle.words.specs.Types.{kind_number}
 use Rattle.words.proofs.Word.arity.Goals as goal
 
-following-small : (k p : ℕ) → k < 3 → following k p ≡ k
-unfolding following
-following-small zero p h = refl
-following-small (suc zero) p h = refl
-following-small (suc (suc zero)) p h = refl
-following-small (suc (suc (suc k))) p h = absurd (omega (arith, h))
+told : (n p : ℕ) {k found : codeKind.Kind} → kind_number found ≡ n → found ≡ k → following (kind_number k) p ≡ following n p
+told n p e is = ap (λ m. following m p) (sym (ap kind_number is) ∙ e)
 
-pub returns-then-kind-lt-CONSTRUCTOR : goal.returns-then-kind-lt-CONSTRUCTOR
-returns-then-kind-lt-CONSTRUCTOR c = c.kind-kind.ensures ∙ sym (following-small _ _ (rw c.kind-kind.ensures at c.if-kind-lt-CONSTRUCTOR.true))
-
-pub returns-in-3 : goal.returns-in-3
+none : {n : ℕ} (p : ℕ) {found : codeKind.Kind} → kind_number found ≡ n
+    → (found ≡ kind.Variable) ⊎ ((found ≡ kind.Numeral) ⊎ (found ≡ kind.Unassigned))
+    → 0 ≡ following n p
 unfolding following
-returns-in-3 c = rw (sym c.kind-kind.ensures ∙ c.in-3.is) c.count.ensures
+none p e (inl is) = told _ p e is
+none p e (inr (inl is)) = told _ p e is
+none p e (inr (inr is)) = told _ p e is
 
-pub returns-in-4 : goal.returns-in-4
+one : {n : ℕ} (p : ℕ) {found : codeKind.Kind} → kind_number found ≡ n → (found ≡ kind.Abstraction) ⊎ (found ≡ kind.Branch) → 1 ≡ following n p
 unfolding following
-returns-in-4 c = rw (sym c.kind-kind.ensures ∙ c.in-4.is) (omega (arith, c.payload.ensures))
+one p e (inl is) = told _ p e is
+one p e (inr is) = told _ p e is
 
-pub returns-in-5 : goal.returns-in-5
+pub returns-in-Variable : goal.returns-in-Variable
 unfolding following
-returns-in-5 c = rw (sym c.kind-kind.ensures ∙ c.in-5.is)
+returns-in-Variable c = none (payload_of c.args.self.0) c.kind.ensures c.in-Variable.is
 
-pub returns-in_default : goal.returns-in_default
+pub returns-in-Abstraction : goal.returns-in-Abstraction
 unfolding following
-returns-in_default c =
-    let r = c.in_default.in_default-own.rest in
-    let k = c.kind-kind.result in
-    let few = c.if-kind-lt-CONSTRUCTOR.false in
-    rw (← c.kind-kind.ensures)
-    (simp (ne_eqb k 1 (λ e. omega (arith, few, e)), ne_eqb k 2 (λ e. omega (arith, few, e)), ne_eqb _ 3 r.0.0.1, ne_eqb _ 4 r.0.1, ne_eqb _ 5 r.1))
+returns-in-Abstraction c = one (payload_of c.args.self.0) c.kind.ensures c.in-Abstraction.is
+
+pub returns-in-Application : goal.returns-in-Application
+unfolding following
+returns-in-Application c = told _ _ c.kind.ensures c.in-Application.is
+
+pub returns-in-Constructor : goal.returns-in-Constructor
+unfolding following
+returns-in-Constructor c = c.count.ensures ∙ told _ _ c.kind.ensures c.in-Constructor.is
+
+pub returns-in-Case : goal.returns-in-Case
+unfolding following
+returns-in-Case c = rw (sym (told _ (payload_of c.args.self.0) c.kind.ensures c.in-Case.is)) (omega (arith, c.payload.ensures))
