@@ -8,7 +8,11 @@ ghost use Rattle.redex.specs.Rules.{or_default};
 ghost use Rattle.redex.specs.Plan.{Plans, Numbered, EndTold, Applied, Selected};
 
 use substitution::measure::{measure, substituted_length};
+use words::kind::Kind;
 use words::{Word, extent, skip};
+
+// The word of variable 0.
+const VARIABLE: u32 = Kind::Variable as u32;
 
 // A body that arguments are put into: where it starts and the word that its rewriting stops at, the arguments up to `after` (which means nothing where
 // none is put for a word before `stop`) and their number.
@@ -68,7 +72,7 @@ fn argument_end(ws: &[u32], args: usize, times: usize, last: u32) -> usize
 {
     if times == 1 {
         if last == 0 {
-            if ws[args - 1] == Word::VARIABLE {
+            if ws[args - 1] == VARIABLE {
                 return args;
             }
         }
@@ -92,7 +96,7 @@ pub fn beta(ws: &[u32], n: usize, at: usize, room: &mut [u32]) -> Redex
     let length = at + (args - start - times + times * (after - args)) + (n - after);
     if found.last == 0 {
         let stop = args - 1;
-        if ws[stop] == Word::VARIABLE {
+        if ws[stop] == VARIABLE {
             let body = Body {
                 start,
                 stop,

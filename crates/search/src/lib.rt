@@ -13,11 +13,7 @@ use redex::Redex;
 use seen::{Seen, plan_at};
 
 // What a term does next: nothing where it is normal, or the contraction of its leftmost redex.
-#[derive(Clone, Copy)]
-pub enum Plan {
-    Normal,
-    Contract(Redex),
-}
+pub type Plan = Option<Redex>;
 
 // The plan for the term, which has no redex before `from`. Nothing is written but the scratch: while the search goes on it is the table of ends, which
 // are known before `known`, and then the room of the walks over the redex. Its words mean nothing afterwards.
@@ -30,7 +26,7 @@ pub fn find(ws: &[u32], n: usize, from: usize, scratch: &mut [u32]) -> Plan
     let mut known: usize = 0;
     while i < n {
         match plan_at(ws, n, i, known, scratch) {
-            Seen::Redex(redex) => return Plan::Contract(redex),
+            Seen::Redex(redex) => return Some(redex),
             Seen::Stuck => {
                 known = fill_ends(ws, i, scratch);
                 i += 1;
@@ -38,5 +34,5 @@ pub fn find(ws: &[u32], n: usize, from: usize, scratch: &mut [u32]) -> Plan
             Seen::Nothing => i += 1,
         }
     }
-    Plan::Normal
+    None
 }

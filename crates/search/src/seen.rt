@@ -1,6 +1,7 @@
 // What is seen at a position, from the words alone: the plan for the redex that starts there, if one does.
 ghost use Rattle.std.specs.Prelude.{◌≡◌, ◌+◌, ◌≤◌, ◌<◌, eqb, length, get_or, drop};
 ghost use Rattle.calculus.specs.Words.{workspace_most, kind_of};
+ghost use Rattle.words.specs.Types.{kind_number};
 ghost use Rattle.redex.specs.declared.Found.TheVariants.{Nothing};
 ghost use Rattle.redex.specs.Rules.{branch_body};
 ghost use Rattle.redex.specs.Plan.{At};
@@ -10,6 +11,7 @@ ghost use Rattle.search.specs.Seen.{SeenAt, Inspected};
 use crate::ends::end_of;
 use redex::{Found, Redex, beta, numbered, selected};
 use words::Word;
+use words::kind::Kind;
 use words::pattern::is_default;
 
 // What is seen at a position: nothing that contracts, a case that is stuck and whose ends inside are not known yet, or a redex with its plan.
@@ -110,9 +112,9 @@ fn inspect(
 }
 
 // Whether a word of this kind, which is not a variable's, stands behind a position.
-fn follows(ws: &[u32], at: usize, kind: u32) -> bool
-    requires { (at < length ws.now) × (length ws.now ≤ workspace_most) × (0 < kind) }
-    ensures { result ≡ eqb (kind_of (get_or ws.now (at + 1) 0)) kind }
+fn follows(ws: &[u32], at: usize, kind: Kind) -> bool
+    requires { (at < length ws.now) × (length ws.now ≤ workspace_most) × (0 < kind_number kind) }
+    ensures { result ≡ eqb (kind_of (get_or ws.now (at + 1) 0)) (kind_number kind) }
 {
     if at + 1 < ws.len() {
         return Word(ws[at + 1]).kind() == kind;
@@ -128,20 +130,20 @@ pub fn plan_at(ws: &[u32], n: usize, at: usize, known: usize, room: &mut [u32]) 
 {
     let first = Word(ws[at]);
     match first.kind() {
-        Word::APPLICATION => {
-            if follows(ws, at, Word::ABSTRACTION) {
+        Kind::Application => {
+            if follows(ws, at, Kind::Abstraction) {
                 return Seen::Redex(beta(ws, n, at, room));
             }
             Seen::Nothing
         }
-        Word::CASE => {
-            if follows(ws, at, Word::CONSTRUCTOR) {
+        Kind::Case => {
+            if follows(ws, at, Kind::Constructor) {
                 let second = Word(ws[at + 1]);
                 return inspect(ws, n, at, first, second, known, room);
             }
             Seen::Nothing
         }
-        Word::NUMERAL => Seen::Redex(numbered(ws, n, at)),
+        Kind::Numeral => Seen::Redex(numbered(ws, n, at)),
         _ => Seen::Nothing,
     }
 }
