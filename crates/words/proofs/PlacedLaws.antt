@@ -1,12 +1,13 @@
 -- Words put into a slice: one after the other, a word more of those that a loop puts, and slices that they fill to the end.
 use Prim.Native.Nat.{ℕ, suc, ◌+◌, ◌-◌, ◌≤◌, ◌<◌}
 use mathlib.Core.Path.{◌≡◌, refl, sym, ◌∙◌, ap, ap₂}
-use mathlib.Core.List.{List, [], ◌∷◌, ◌++◌, append-nil}
+use mathlib.Core.List.{List, [], ◌∷◌, ◌++◌, append-nil, append_assoc}
 use native.Mathlib.Nat.{add-zero}
 use native.Mathlib.Numerals.{add-one}
 use native.Mathlib.Omega.{arith}
 use lib.ListN.{length, get_or, take, drop, set, replicate, length-set, length-append, length-replicate, drop_of_length-le}
-use lib.Seq.{sets, sets-eq, length-sets, slice, slice_empty, slice-cons, length-slice, drop-cons, drop-set-lt, get_or-set_same, take-append_seam, take-take, take-set-le}
+use lib.Seq.{sets, sets-eq, length-sets, slice, slice_empty, slice-cons, length-slice, drop-cons, drop-set-lt, drop-drop, get_or-set_same, take-append_seam, take-take, take-set-le}
+use borrow.Rule.Slice.PartMut.{put_mid}
 use Rattle.words.specs.Placed.{Placed, Copies}
 
 -- A word stored, and what stands from there on.
@@ -56,6 +57,15 @@ pub placed_start : {l vs after : List ℕ} {end : ℕ} → length vs ≤ length 
 placed_start {l} {vs} {after} {end} h p =
     let e : end ≡ length vs = omega (arith, p.position) in
     ap (λ m. take m after) e ∙ ap (take (length vs)) (p.slice ∙ sets-eq vs l 0 (omega arith)) ∙ take-append_seam vs _
+
+-- A part of a slice, from a position to an end, written as a whole.
+pub sets_part : {part : List ℕ} (vs l : List ℕ) (i to : ℕ) → part ≡ vs → i + length vs ≡ to → to ≤ length l → put_mid i (to - i) l part ≡ sets l i vs
+sets_part vs l i to p e h =
+    let k : i + length vs ≡ i + (to - i) = omega (arith, e) in
+    ap (put_mid i (to - i) l) p ∙ sym (sets-eq vs l i (omega arith) ∙ append_assoc (take i l) vs _ ∙ ap (λ xs. take i l ++ (vs ++ xs)) (ap (λ m. drop m l) k ∙ sym (drop-drop (to - i) i l)))
+
+pub placed_part : {part : List ℕ} (vs l : List ℕ) (out end : ℕ) → part ≡ vs → out + length vs ≡ end → end ≤ length l → Placed l out vs (put_mid out (end - out) l part) end
+placed_part vs l out end p e h = record { slice = sets_part vs l out end p e h; position = omega arith }
 
 -- Filling: a place more, and none left.
 pub fill_turn : (l : List ℕ) (i to w : ℕ) → i < to → sets (set l i w) (i + 1) (replicate (to - (i + 1)) w) ≡ sets l i (replicate (to - i) w)

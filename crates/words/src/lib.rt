@@ -11,7 +11,6 @@ ghost use Rattle.words.specs.Limits.{payload_bound};
 ghost use Rattle.words.specs.Types.{kind_number};
 
 use kind::Kind;
-use slices::fill;
 
 pub mod kind;
 pub mod pattern;
@@ -113,16 +112,14 @@ pub fn skip(ws: &[u32], at: usize, items: usize) -> usize
     requires { (length ws.now ≤ workspace_most) × (items ≤ payload_bound) }
     ensures { result ≡ at + span items (drop at ws.now) }
 {
-    let mut i = at;
     let mut pending = items;
-    while i < ws.len() {
+    for i in at..ws.len() {
         if pending == 0 {
             return i;
         }
         pending = Word(ws[i]).arity() + (pending - 1);
-        i += 1;
     }
-    i
+    at.max(ws.len())
 }
 
 // Zeros from a position to the end.
@@ -130,8 +127,7 @@ pub fn clear(ws: &mut [u32], from: usize)
     requires { from ≤ length ws.old }
     ensures { ws.new ≡ take from ws.old ++ replicate (length ws.old - from) 0 }
 {
-    let end = ws.len();
-    fill(ws, from, end, 0);
+    ws[from..].fill(0);
 }
 
 // Does nothing. Its contract says that each constant is the number that the calculus gives its name.

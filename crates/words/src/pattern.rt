@@ -9,20 +9,14 @@ use crate::Word;
 pub fn is_tag(tag: u32) -> bool
     ensures { result ≡ is_tag tag }
 {
-    if tag < 1 {
-        return false;
-    }
-    tag <= Word::TAG_MOST
+    (1..=Word::TAG_MOST).contains(&tag)
 }
 
 // Whether a constructor may have this payload: a tag and a number of arguments.
 pub fn is_tagged(payload: u32) -> bool
     ensures { result ≡ is_tagged (tag_of payload) (count_of payload) }
 {
-    if !is_tag(payload / Word::COUNT_BASE) {
-        return false;
-    }
-    payload % Word::COUNT_BASE <= Word::ARGUMENTS_MOST
+    is_tag(payload / Word::COUNT_BASE) && payload % Word::COUNT_BASE <= Word::ARGUMENTS_MOST
 }
 
 // Whether a branch of this payload is the default.
@@ -36,8 +30,5 @@ pub fn is_default(payload: u32) -> bool
 pub fn is_pattern(payload: u32) -> bool
     ensures { result ≡ is_pattern (tag_of payload) (count_of payload) }
 {
-    if is_default(payload) {
-        return true;
-    }
-    is_tagged(payload)
+    is_default(payload) || is_tagged(payload)
 }

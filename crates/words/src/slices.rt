@@ -18,11 +18,7 @@ pub fn fill(ws: &mut [u32], from: usize, to: usize, word: u32)
     requires { (from ≤ to) × (to ≤ length ws.old) }
     ensures { ws.new ≡ sets ws.old from (replicate (to - from) word) }
 {
-    let mut i = from;
-    while i < to {
-        ws[i] = word;
-        i += 1;
-    }
+    ws[from..to].fill(word);
 }
 
 // Copies the words from a position to an end to a position of another slice; returns the position after them.
@@ -30,12 +26,7 @@ pub fn copy(src: &[u32], from: usize, to: usize, dst: &mut [u32], out: usize) ->
     requires { Copies src.now from to dst.old out }
     ensures { Placed dst.old out (slice from to src.now) dst.new result }
 {
-    let mut i = from;
-    let mut next = out;
-    while i < to {
-        dst[next] = src[i];
-        i += 1;
-        next += 1;
-    }
-    next
+    let end = out + (to - from);
+    dst[out..end].copy_from_slice(&src[from..to]);
+    end
 }

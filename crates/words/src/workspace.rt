@@ -14,16 +14,7 @@ use crate::{Word, clear};
 pub fn sized(first: usize, second: usize, third: usize) -> bool
     ensures { result ≡ sized (first ∷ second ∷ third ∷ []) }
 {
-    if first < Word::WORKSPACE_LEAST {
-        return false;
-    }
-    if Word::WORKSPACE_MOST < first {
-        return false;
-    }
-    if second != first {
-        return false;
-    }
-    third == first
+    (Word::WORKSPACE_LEAST..=Word::WORKSPACE_MOST).contains(&first) && second == first && third == first
 }
 
 // Whether a workspace of so many words is refused.

@@ -1,13 +1,13 @@
--- `fill` meets its contract. The invariant: the places still to fill make of the slice what all of them make of it at entry.
-use Rattle.words.proofs.PlacedLaws.{fill_turn}
-use lib.ListN.{length-set}
-use mathlib.Core.Path.{◌∙◌}
+-- `fill` meets its contract.
+use Rattle.words.proofs.PlacedLaws.{sets_part}
+use Prim.Native.Nat.{◌-◌}
+use lib.ListN.{replicate, length-replicate}
 use native.Mathlib.Omega.{arith}
+use Rattle.std.proofs.Common.{rules}
 use Rattle.words.proofs.slices.fill.Goals as goal
 
-pub loop-i-preserved : goal.loop-i-preserved
-loop-i-preserved c = (
-  simp length-set (omega arith),
-  omega arith,
-  fill_turn c.loop-i.ws c.loop-i.i _ _ (omega arith) ∙ c.loop-i.invariant.2,
-)
+pub returns : goal.returns
+returns c =
+    let a = c.args in
+    let n = a.to - a.from in
+    sets_part (replicate n a.word) a.ws.now a.from a.to (search rules) (omega (arith, length-replicate n a.word)) (omega arith)
