@@ -59,12 +59,12 @@ placed_start {l} {vs} {after} {end} h p =
     ap (λ m. take m after) e ∙ ap (take (length vs)) (p.slice ∙ sets-eq vs l 0 (omega arith)) ∙ take-append_seam vs _
 
 -- A part of a slice, from a position to an end, written as a whole.
-pub sets_part : {part : List ℕ} (vs l : List ℕ) (i to : ℕ) → part ≡ vs → i + length vs ≡ to → to ≤ length l → put_mid i (to - i) l part ≡ sets l i vs
+pub sets_part : {X : Type 0} {part : List X} (vs l : List X) (i to : ℕ) → part ≡ vs → i + length vs ≡ to → to ≤ length l → put_mid i (to - i) l part ≡ sets l i vs
 sets_part vs l i to p e h =
     let k : i + length vs ≡ i + (to - i) = omega (arith, e) in
     ap (put_mid i (to - i) l) p ∙ sym (sets-eq vs l i (omega arith) ∙ append_assoc (take i l) vs _ ∙ ap (λ xs. take i l ++ (vs ++ xs)) (ap (λ m. drop m l) k ∙ sym (drop-drop (to - i) i l)))
 
-pub placed_part : {part : List ℕ} (vs l : List ℕ) (out end : ℕ) → part ≡ vs → out + length vs ≡ end → end ≤ length l → Placed l out vs (put_mid out (end - out) l part) end
+pub placed_part : {X : Type 0} {part : List X} (vs l : List X) (out end : ℕ) → part ≡ vs → out + length vs ≡ end → end ≤ length l → Placed l out vs (put_mid out (end - out) l part) end
 placed_part vs l out end p e h = record { slice = sets_part vs l out end p e h; position = omega arith }
 
 -- Filling: a place more, and none left.

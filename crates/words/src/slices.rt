@@ -21,8 +21,8 @@ pub fn fill(ws: &mut [u32], from: usize, to: usize, word: u32)
     ws[from..to].fill(word);
 }
 
-// Copies the words from a position to an end to a position of another slice; returns the position after them.
-pub fn copy(src: &[u32], from: usize, to: usize, dst: &mut [u32], out: usize) -> usize
+// Copies what stands from a position to an end to a position of another slice; returns the position after the copy.
+pub fn copy<T: Copy>(src: &[T], from: usize, to: usize, dst: &mut [T], out: usize) -> usize
     requires { Copies src.now from to dst.old out }
     ensures { Placed dst.old out (slice from to src.now) dst.new result }
 {

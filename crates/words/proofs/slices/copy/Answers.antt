@@ -8,7 +8,7 @@ use native.Mathlib.Omega.{arith}
 use Rattle.words.proofs.slices.copy.Goals as goal
 
 pub returns : goal.returns
-returns c =
+returns g c =
     let a = c.args in
     placed_part (slice a.from a.to a.src.now) a.dst.now a.out (a.out + (a.to - a.from)) (c.copy_from_slice.ensures.after ∙ between_is a.src.now a.from a.to)
     (omega (arith, length-slice a.from a.to a.src.now c.requires.within))
