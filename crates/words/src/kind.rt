@@ -18,11 +18,19 @@ pub enum Kind {
 impl From<u32> for Kind {
     ghost from_gives = { λ number kind. kind ≡ kind_for number };
 
+    // Tested in this order the kinds cost less than a jump by a table of all, and where a `match` goes over the names the compiler takes each test
+    // straight to its arm.
     fn from(number: u32) -> Self {
+        if number == Kind::Variable as u32 {
+            return Kind::Variable;
+        }
+        if number < Kind::Constructor as u32 {
+            if number == Kind::Abstraction as u32 {
+                return Kind::Abstraction;
+            }
+            return Kind::Application;
+        }
         match number {
-            0 => Kind::Variable,
-            1 => Kind::Abstraction,
-            2 => Kind::Application,
             3 => Kind::Constructor,
             4 => Kind::Case,
             5 => Kind::Branch,

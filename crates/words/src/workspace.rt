@@ -14,7 +14,9 @@ use crate::{Word, clear};
 pub fn sized(first: usize, second: usize, third: usize) -> bool
     ensures { result ≡ sized (first ∷ second ∷ third ∷ []) }
 {
-    (Word::WORKSPACE_LEAST..=Word::WORKSPACE_MOST).contains(&first) && second == first && third == first
+    (Word::WORKSPACE_LEAST..=Word::WORKSPACE_MOST).contains(&first)
+        && second == first
+        && third == first
 }
 
 // Whether a workspace of so many words is refused.
