@@ -1,9 +1,8 @@
 -- Refusal 4 as the code tests it: the counts of the links that name each record, and that none passes what it fits in.
-use Prim.Native.Nat.{ℕ, zero, suc, ◌+◌, ◌*◌, ◌^◌, ◌≤◌, ◌<◌}
+use Prim.Native.Nat.{ℕ, zero, suc, ◌+◌, ◌-◌, ◌*◌, ◌^◌, ◌≤◌, ◌<◌}
 use mathlib.Core.Path.{◌≡◌, refl, ap, sym}
 use mathlib.Core.Bool.{Bool, true, false, cond, ◌&&◌, ◌||◌, and-eq-true_iff}
 use mathlib.Core.List.{List}
-use native.Mathlib.Numerals.{add-one}
 use native.Mathlib.Decide.{ℕ_discrete}
 use native.Mathlib.Omega.{arith}
 use lib.Dec.{leb, ltb, eqb}
@@ -68,19 +67,21 @@ module _ (T : Table) (fit : everyOf T.n (links_fit T) ≡ true) (counts : List �
 pub record Turn (T : Table) (before : List ℕ) (i first next : ℕ) (counts : List ℕ) : Type 0 where
   pub first_fits : (first < length counts) × (get_or counts first 0 + 1 < 2 ^ 32)
   pub next_fits : (next < length (more first counts)) × (get_or (more first counts) next 0 + 1 < 2 ^ 32)
-  pub goes_on : more next (more first counts) ≡ counted T (i + 1) before
+  pub goes_on : more next (more first counts) ≡ counted T i before
 
-pub turn : (S : Stored) (before : List ℕ) → Countable S before → (i : ℕ) → i < (view S).n → (r : Record) → r ≡ (view S).at (i + 1) → (counts : List ℕ)
-    → counts ≡ counted (view S) i before → Turn (view S) before i r.first r.next counts
+pub turn : (S : Stored) (before : List ℕ) → Countable S before → (i : ℕ) → 1 ≤ i → i ≤ (view S).n → (r : Record) → r ≡ (view S).at i → (counts : List ℕ)
+    → counts ≡ counted (view S) (i - 1) before → Turn (view S) before i r.first r.next counts
 unfolding counted
-turn S before h i u r e counts q =
+turn S before h zero l u r e counts q = absurd (omega arith)
+turn S before h (suc i) l u r e counts q =
     let T = view S in
-    let within = links_within T h.links-fit before h.room (i + 1) (omega arith) (omega arith) in
+    let within = links_within T h.links-fit before h.room (suc i) l u in
     let most = counted_most T h.links-fit before h.room i in
-    let first = (T.at (i + 1)).first in
-    let next = (T.at (i + 1)).next in
+    let first = (T.at (suc i)).first in
+    let next = (T.at (suc i)).next in
     let small = sized S h.length_fits in
-    rw (q, e)
+    let passed : suc i - 1 ≡ i = omega arith in
+    rw (q, e, passed)
     (record {
       first_fits = omega (arith, within, counted-length T i before, most first (omega arith), h.few first);
       next_fits = (
@@ -93,7 +94,7 @@ turn S before h i u r e counts q =
           h.few next,
         ),
       );
-      goes_on = rw add-one;
+      goes_on = refl;
     })
 
 zeros_at : (n j : ℕ) → get_or {A = ℕ} (replicate n 0) j 0 ≡ 0

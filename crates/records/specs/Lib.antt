@@ -2,4 +2,3 @@
 pub mod Types
 pub mod Preconditions
 pub mod Counting
-pub mod Every

@@ -4,10 +4,9 @@ ghost use Rattle.records.specs.Types.{declared_of, stored, viewed};
 ghost use Rattle.storage.specs.Children.{starts_above, may_stand, chain_fits, sorts_fit, agrees, record_fits, wrong_children, chain_from};
 ghost use Rattle.records.specs.Preconditions.{Walkable};
 
-use crate::every::{Aspect, every};
 use crate::values::number_fits;
-use crate::{Declared, Form, Record, root};
-use words::Word;
+use crate::{Form, Record, count, root};
+use words::kind::Kind;
 
 // How many records a chain has.
 pub fn chain_length(table: &[u32], form: Form, link: usize) -> usize
@@ -28,10 +27,7 @@ fn starts_above(table: &[u32], form: Form, tag: u32, link: usize) -> bool
     requires { Walkable (stored form table.now) link }
     ensures { result ≡ starts_above tag (chain_from (viewed form table.now) link) }
 {
-    if link == 0 {
-        return true;
-    }
-    tag < Record::at(table, form, link).tag()
+    link == 0 || tag < Record::at(table, form, link).tag()
 }
 
 // Whether a record may stand in a chain of terms, or of branches.
@@ -40,13 +36,11 @@ fn may_stand(table: &[u32], form: Form, at: usize, branches: bool) -> bool
     ensures { result ≡ may_stand branches ((viewed form table.now).at at) (chain_from (viewed form table.now) ((viewed form table.now).at at).next) }
 {
     let record = Record::at(table, form, at);
-    if !branches {
-        return record.kind != Word::BRANCH;
+    if branches {
+        record.is_branch() && starts_above(table, form, record.tag(), record.next)
+    } else {
+        !record.is_branch()
     }
-    if record.kind != Word::BRANCH {
-        return false;
-    }
-    starts_above(table, form, record.tag(), record.next)
 }
 
 // Whether a chain is one of terms, or of branches with rising tags.
@@ -69,27 +63,21 @@ fn sorts_fit(table: &[u32], form: Form, kind: u32, link: usize) -> bool
     requires { Walkable (stored form table.now) link }
     ensures { result ≡ sorts_fit kind (chain_from (viewed form table.now) link) }
 {
-    if kind != Word::CASE {
+    if kind != Kind::Case as u32 {
         return chain_fits(table, form, link, false);
     }
     if link == 0 {
         return true;
     }
     let subject = Record::at(table, form, link);
-    if subject.kind == Word::BRANCH {
-        return false;
-    }
-    chain_fits(table, form, subject.next, true)
+    !subject.is_branch() && chain_fits(table, form, subject.next, true)
 }
 
 // Whether a declared number of children, if there is one, is their number.
-fn agrees(declared: Declared, number: usize) -> bool
+fn agrees(declared: Option<usize>, number: usize) -> bool
     ensures { result ≡ agrees (declared_of declared) number }
 {
-    match declared {
-        Declared::Nothing => true,
-        Declared::Children(count) => count == number,
-    }
+    declared.is_none_or(|count| count == number)
 }
 
 // Whether record i has the children that it declares and that its kind wants.
@@ -99,23 +87,18 @@ pub fn record_fits(table: &[u32], form: Form, i: usize) -> bool
 {
     let record = Record::at(table, form, i);
     let number = chain_length(table, form, record.first);
-    let declared = record.declared;
-    if !agrees(declared, number) {
-        return false;
-    }
-    if !number_fits(record.kind, number) {
-        return false;
-    }
-    sorts_fit(table, form, record.kind, record.first)
+    agrees(record.declared, number)
+        && number_fits(record.kind, number)
+        && sorts_fit(table, form, record.kind, record.first)
 }
 
 pub fn wrong_children(table: &[u32], form: Form) -> bool
     requires { Walkable (stored form table.now) (viewed form table.now).root × (1 ≤ (viewed form table.now).root) }
     ensures { result ≡ wrong_children (viewed form table.now) }
 {
-    if !every(table, form, Aspect::Children) {
+    if !(1..=count(table)).all(|i| record_fits(table, form, i)) {
         return true;
     }
     let top = Record::at(table, form, root(table));
-    top.kind == Word::BRANCH || top.next != 0
+    top.is_branch() || top.next != 0
 }

@@ -14,24 +14,12 @@ pub fn wrong_length(table: &[u32], form: Form) -> bool
         return true;
     }
     let n = count(table);
-    if n < 1 {
-        return true;
-    }
-    if Word::WORKSPACE_MOST < n {
-        return true;
-    }
-    table.len() != words * (n + 1)
+    n < 1 || Word::WORKSPACE_MOST < n || table.len() != words * (n + 1)
 }
 
 pub fn wrong_header(table: &[u32], form: Form) -> bool
     requires { wrong_length (stored form table.now) ≡ false }
     ensures { result ≡ wrong_header (stored form table.now) }
 {
-    if !form.header_fits(table) {
-        return true;
-    }
-    if root(table) < 1 {
-        return true;
-    }
-    count(table) < root(table)
+    !form.header_fits(table) || root(table) < 1 || count(table) < root(table)
 }

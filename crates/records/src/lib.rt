@@ -1,16 +1,16 @@
 // Records of a stored table by value ("The stored table"), the forms in which their words are kept, and the refusals that are about header and records.
 #![tactic(auto)]
 
-mod every;
-
 ghost use Rattle.std.specs.Prelude.{◌≡◌, ◌*◌, ◌^◌, ◌<◌, length, get_or};
 ghost use Rattle.std.proofs.lemmas.List.Edits.{sets};
 ghost use Rattle.calculus.specs.Words.{tag_of};
+ghost use Rattle.storage.specs.Children.{is_branch};
 ghost use Rattle.storage.specs.Records.{header_count, header_root, record_at, form1, in_form1};
 ghost use Rattle.records.specs.Preconditions.{Inside, Puttable};
 ghost use Rattle.records.specs.Types.{form_of, stored, record_of};
 
 use words::Word;
+use words::kind::Kind;
 use words::slices::copy;
 
 pub mod children;
@@ -60,18 +60,12 @@ impl Form {
     }
 }
 
-// How many children a record declares, if it does.
-#[derive(Clone, Copy)]
-pub enum Declared {
-    Nothing,
-    Children(usize),
-}
-
+// The kind is the word that a table has for it, which may be no kind's number. A record may declare how many children it has.
 #[derive(Clone, Copy)]
 pub struct Record {
     pub kind: u32,
     pub value: u32,
-    pub declared: Declared,
+    pub declared: Option<usize>,
     pub first: usize,
     pub next: usize,
 }
@@ -95,7 +89,7 @@ impl Record {
         Record {
             kind: table[from],
             value: table[from + 1],
-            declared: Declared::Nothing,
+            declared: None,
             first: index_at(table, from + 2),
             next: index_at(table, from + 3),
         }
@@ -119,6 +113,12 @@ impl Record {
         copy(&words, 0, Form::ONE_WORDS, table, Form::ONE_WORDS * i);
     }
 
+    pub fn is_branch(self) -> bool
+        ensures { result ≡ is_branch (record_of self) }
+    {
+        self.kind == Kind::Branch as u32
+    }
+
     // The tag of a branch.
     pub fn tag(self) -> u32
         ensures { result ≡ tag_of self.value }
@@ -131,10 +131,7 @@ fn header_one(table: &[u32]) -> bool
     requires { Inside (in_form1 table.now) 0 }
     ensures { result ≡ form1.header_fits table.now }
 {
-    if table[0] != Form::ONE {
-        return false;
-    }
-    table[3] == 0
+    table[0] == Form::ONE && table[3] == 0
 }
 
 fn put_header_one(table: &mut [u32], n: u32, root: u32)

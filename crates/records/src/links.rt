@@ -8,7 +8,6 @@ ghost use Rattle.storage.specs.Links.{link_fits, links_fit, namings, wrong_link}
 ghost use Rattle.records.specs.Counting.{more, counted, room_most, Countable};
 ghost use Rattle.records.specs.Types.{stored, viewed};
 
-use crate::every::{Aspect, every};
 use crate::{Form, Record, count, root};
 use words::Word;
 
@@ -19,13 +18,7 @@ pub const ROOM: usize = Word::WORKSPACE_MOST + 1;
 fn link_fits(n: usize, i: usize, link: usize) -> bool
     ensures { result ≡ link_fits n i link }
 {
-    if link == 0 {
-        return true;
-    }
-    if link <= i {
-        return false;
-    }
-    link <= n
+    link == 0 || i < link && link <= n
 }
 
 // Whether both links of record i fit.
@@ -35,10 +28,7 @@ pub fn links_fit(table: &[u32], form: Form, i: usize) -> bool
 {
     let n = count(table);
     let record = Record::at(table, form, i);
-    if !link_fits(n, i, record.first) {
-        return false;
-    }
-    link_fits(n, i, record.next)
+    link_fits(n, i, record.first) && link_fits(n, i, record.next)
 }
 
 // Counts one more link.
@@ -54,10 +44,7 @@ fn count_links(table: &[u32], form: Form, counts: &mut [u32])
     requires { Countable (stored form table.now) counts.old }
     ensures { counts.new ≡ counted (viewed form table.now) (viewed form table.now).n counts.old }
 {
-    let n = count(table);
-    let mut i = 0;
-    while i < n {
-        i += 1;
+    for i in 1..=count(table) {
         let record = Record::at(table, form, i);
         count_link(counts, record.first);
         count_link(counts, record.next);
@@ -69,14 +56,7 @@ fn all_once(counts: &[u32], n: usize) -> bool
     requires { n < length counts.now }
     ensures { result ≡ everyOf n (λ i. eqb (get_or counts.now i 0) 1) }
 {
-    let mut i = 0;
-    while i < n {
-        i += 1;
-        if counts[i] != 1 {
-            return false;
-        }
-    }
-    true
+    counts[1..=n].iter().all(|named| *named == 1)
 }
 
 // Whether every record is named by exactly one link. The ends of chains are counted at 0.
@@ -96,10 +76,7 @@ pub fn wrong_links(table: &[u32], form: Form, room: &mut [u32]) -> bool
     requires zeros { room.old ≡ replicate room_most 0 }
     ensures { (result ≡ wrong_link (viewed form table.now)) × Room room.old room.new }
 {
-    if !every(table, form, Aspect::Links) {
-        return true;
-    }
-    !named_once(table, form, room)
+    !(1..=count(table)).all(|i| links_fit(table, form, i)) || !named_once(table, form, room)
 }
 
 // Does nothing. Its contract says that the constant is the number that the definitions give its name.

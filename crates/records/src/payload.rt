@@ -5,14 +5,15 @@ ghost use Rattle.storage.specs.Payload.{value_of, payload};
 ghost use Rattle.records.specs.Preconditions.{Wordable};
 
 use words::Word;
+use words::kind::Kind;
 
 // The value of a word's record.
 pub fn value(word: Word) -> u32
     ensures { result ≡ value_of (kind_of word.0) (payload_of word.0) }
 {
     match word.kind() {
-        Word::CONSTRUCTOR => word.tag(),
-        Word::CASE => 0,
+        Kind::Constructor => word.tag(),
+        Kind::Case => 0,
         _ => word.payload(),
     }
 }
@@ -22,9 +23,9 @@ fn payload(kind: u32, value: u32, children: usize) -> u32
     requires { Wordable kind value children }
     ensures { result ≡ payload kind value children }
 {
-    match kind {
-        Word::CONSTRUCTOR => value * Word::COUNT_BASE + children as u32,
-        Word::CASE => children as u32 - 1,
+    match Kind::from(kind) {
+        Kind::Constructor => value * Word::COUNT_BASE + children as u32,
+        Kind::Case => children as u32 - 1,
         _ => value,
     }
 }
@@ -33,5 +34,5 @@ pub fn word(kind: u32, value: u32, children: usize) -> Word
     requires { Wordable kind value children }
     ensures { result.0 ≡ word kind (payload kind value children) }
 {
-    Word::new(kind, payload(kind, value, children))
+    Word::new(Kind::from(kind), payload(kind, value, children))
 }

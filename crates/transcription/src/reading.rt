@@ -15,7 +15,7 @@ use records::{Form, Record};
 pub type Words = [u32; ROOM];
 
 // Writes the words of record `at` with its children from position `out` on, and returns the position after them.
-#[cycle(read_chain_read_term)]
+#[cycle(readers)]
 pub fn read_term(table: &[u32], form: Form, at: usize, words: &mut Words, out: usize) -> usize
     requires readable { Readable (stored form table.now) at × (1 ≤ at) }
     requires room { out + length (term_words (viewed form table.now) at) ≤ workspace_most }
@@ -29,7 +29,7 @@ pub fn read_term(table: &[u32], form: Form, at: usize, words: &mut Words, out: u
 }
 
 // The same of the chain from a link.
-#[cycle(read_chain_read_term)]
+#[cycle(readers)]
 fn read_chain(table: &[u32], form: Form, link: usize, words: &mut Words, out: usize) -> usize
     requires readable { Readable (stored form table.now) link }
     requires room { out + length (chain_words (viewed form table.now) link) ≤ workspace_most }

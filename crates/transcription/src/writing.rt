@@ -8,7 +8,7 @@ ghost use Rattle.records.specs.Types.{record_of};
 ghost use Rattle.transcription.specs.Writing.{link_if, entry_of, entries, pushed, descended};
 
 use records::payload::value;
-use records::{Declared, Form, Record};
+use records::{Form, Record};
 use words::{Word, extent};
 
 // Room for a level for each word and one around them.
@@ -18,10 +18,7 @@ const LEVELS: usize = Word::WORKSPACE_MOST + 1;
 fn link_if(number: usize, link: usize) -> usize
     ensures { result ≡ link_if number link }
 {
-    if number == 0 {
-        return 0;
-    }
-    link
+    if number == 0 { 0 } else { link }
 }
 
 // The record of word i, where so many siblings come after it.
@@ -31,9 +28,9 @@ fn entry(ws: &[u32], i: usize, siblings: usize) -> Record
 {
     let word = Word(ws[i]);
     Record {
-        kind: word.kind(),
+        kind: word.kind() as u32,
         value: value(word),
-        declared: Declared::Nothing,
+        declared: None,
         first: link_if(word.arity(), i + 2),
         next: link_if(siblings, extent(ws, i) + 1),
     }

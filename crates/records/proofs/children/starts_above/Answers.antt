@@ -6,7 +6,7 @@ use Rattle.records.proofs.children.starts_above.Goals as goal
 pub at-requires : goal.at-requires
 at-requires c = walk_inside _ _ c.requires
 
-pub returns : goal.returns
-returns c =
+pub returns-else-link-eq0 : goal.returns-else-link-eq0
+returns-else-link-eq0 c =
     let h = walked _ _ _ c.requires (pos_of_ne-zero c.if-link-eq0.false) c.at.ensures in
     rw (h.goes_on, c.tag.ensures)

@@ -1,17 +1,27 @@
 -- `wrong_children` meets its contract: the children of every record, and then the root.
+use Rattle.std.proofs.Common.{rules, arith, ap, ◌∙◌}
+use Rattle.records.proofs.EveryLaws.{each_callable, every_called}
+use Rattle.records.proofs.RecordLaws.{headed}
 use Rattle.records.proofs.Walks.{walk_inside}
-use Rattle.records.specs.Types.{stored, record_of}
+use Rattle.records.specs.Types.{stored, viewed, record_of}
+use Rattle.records.specs.Preconditions.{Walkable}
 use Rattle.storage.proofs.RecordLaws.{Parts, parts}
-use Rattle.storage.specs.Children.{wrong_children}
+use Rattle.storage.specs.Children.{record_fits, wrong_children}
 use Rattle.storage.specs.Records.{Record, Stored, record_at, view}
 use Prim.Native.Nat.{ℕ}
-use borrow.Author.Tests.{eq-eqb, ne_eqb}
-use mathlib.Core.Path.{◌≡◌, ap, ◌∙◌}
+use mathlib.Core.Path.{◌≡◌}
 use Rattle.records.proofs.children.wrong_children.Goals as goal
 
-pub returns-then-not-every : goal.returns-then-not-every
-unfolding wrong_children
-returns-then-not-every c = rw (← c.every.ensures, c.if-not-every.true)
+pub count-requires : goal.count-requires
+count-requires c = headed _ c.requires.0.length_fits
+
+pub all-requires-clause-callable : goal.all-requires-clause-callable
+all-requires-clause-callable c =
+    each_callable _ c.new.ensures.start c.new.ensures.end c.new.ensures.exhausted (λ x q k. search rules)
+    (λ i l u.
+    let S = stored c.args.form c.args.table.now in
+    let here : Walkable S i = record { length_fits = c.requires.0.length_fits; links-fit = c.requires.0.links-fit; link_within = omega (arith, c.count.ensures) } in
+    search rules)
 
 pub at-top-requires : goal.at-top-requires
 at-top-requires c = rw c.root.ensures (walk_inside _ _ c.requires.0)
@@ -20,14 +30,25 @@ at-top-requires c = rw c.root.ensures (walk_inside _ _ c.requires.0)
 top : (S : Stored) {root : ℕ} (r : Record) → r ≡ record_at S root → root ≡ (view S).root → Parts r (record_at S (view S).root)
 top S r e q = parts (e ∙ ap (record_at S) q)
 
-pub returns-then-top-eq-BRANCH : goal.returns-then-top-eq-BRANCH
+pub returns-then-not-all : goal.returns-then-not-all
 unfolding wrong_children
-returns-then-top-eq-BRANCH c =
-    let r = top (stored c.args.form c.args.table.now) (record_of c.at-top.result) c.at-top.ensures c.root.ensures in
-    rw (← c.every.ensures, c.if-not-every.false, ← r.kind, eq-eqb _ _ c.if-top-eq-BRANCH.true)
+returns-then-not-all c =
+    let made = c.new.ensures in
+    let fit = every_called _ made.start (made.end ∙ c.count.ensures) made.exhausted (record_fits (viewed c.args.form c.args.table.now)) _ _ c.all.result c.all.ensures.ran (λ x b q k. search rules) in
+    rw (← fit, c.if-not-all.true)
 
-pub returns-else-top-eq-BRANCH : goal.returns-else-top-eq-BRANCH
+pub returns-then-is_branch : goal.returns-then-is_branch
 unfolding wrong_children
-returns-else-top-eq-BRANCH c =
+returns-then-is_branch c =
+    let made = c.new.ensures in
+    let fit = every_called _ made.start (made.end ∙ c.count.ensures) made.exhausted (record_fits (viewed c.args.form c.args.table.now)) _ _ c.all.result c.all.ensures.ran (λ x b q k. search rules) in
     let r = top (stored c.args.form c.args.table.now) (record_of c.at-top.result) c.at-top.ensures c.root.ensures in
-    rw (← c.every.ensures, c.if-not-every.false, ← r.kind, ne_eqb _ _ c.if-top-eq-BRANCH.false, ← r.next)
+    rw (← fit, c.if-not-all.false, ← r.kind, ← c.is_branch.ensures, c.if-is_branch.true)
+
+pub returns-else-is_branch : goal.returns-else-is_branch
+unfolding wrong_children
+returns-else-is_branch c =
+    let made = c.new.ensures in
+    let fit = every_called _ made.start (made.end ∙ c.count.ensures) made.exhausted (record_fits (viewed c.args.form c.args.table.now)) _ _ c.all.result c.all.ensures.ran (λ x b q k. search rules) in
+    let r = top (stored c.args.form c.args.table.now) (record_of c.at-top.result) c.at-top.ensures c.root.ensures in
+    rw (← fit, c.if-not-all.false, ← r.kind, ← c.is_branch.ensures, c.if-is_branch.false, ← r.next)

@@ -9,7 +9,7 @@ use Rattle.storage.proofs.RecordLaws.{parts}
 use Rattle.records.proofs.Walks.{walk_inside}
 use Rattle.transcription.proofs.ReadingLaws.{chain_words-end, read_on, term_read}
 use Rattle.words.proofs.PlacedLaws.{placed_none, placed_cons, placed_append}
-use Rattle.transcription.proofs.reading.+read_chain_read_term.Goals as goal
+use Rattle.transcription.proofs.reading.+readers.Goals as goal
 
 pub read_chain-returns-then-link-eq0 : goal.read_chain-returns-then-link-eq0
 read_chain-returns-then-link-eq0 t c = rw (chain_words-end (viewed c.args.form c.args.table.now) _ c.if-link-eq0.true) (placed_none _ _)

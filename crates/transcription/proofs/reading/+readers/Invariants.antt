@@ -3,7 +3,7 @@
 use Prim.Native.Nat.{◌+◌, ◌*◌}
 use Rattle.records.specs.Types.{viewed}
 use Rattle.transcription.specs.Reading.{ahead}
-use Rattle.transcription.proofs.reading.+read_chain_read_term.Given as goal
+use Rattle.transcription.proofs.reading.+readers.Given as goal
 
 abbrev pub decreases-read_chain : goal.decreases-read_chain
 decreases-read_chain l = 2 * ahead (viewed l.form l.table.now) l.link + 1
