@@ -15,8 +15,10 @@ use Rattle.calculus.specs.Skip.{arity, span}
 use Rattle.words.specs.Bound.{bound}
 use Rattle.words.proofs.RoomLaws.{drop-replicate}
 use Rattle.walk.specs.Depths.{depths}
-use Rattle.walk.specs.Rewritten.{place}
+use Rattle.walk.specs.Rewritten.{place, argument_at}
 use Rattle.substitution.specs.Measure.{occurrences, Measurable, Measures}
+use Rattle.std.specs.Prelude.{Some, None}
+use Rattle.walk.proofs.RewrittenLaws.{argument_place, no_argument}
 use Rattle.walk.proofs.ScopeLaws.{to_come, come_first}
 use Rattle.walk.proofs.EnterLaws.{Entered}
 use Rattle.substitution.proofs.WalkLaws.{starts_some}
@@ -115,25 +117,26 @@ module _ {src : List ℕ} {body n : ℕ} {room₀ room occurs : List ℕ} {i pen
         }
 
     -- An argument stands for the word.
-    pub counting_next : {k pending' depth' top' : ℕ} {room' : List ℕ} → k ≡ place n depth w → k < n
+    pub counting_next : {k pending' depth' top' : ℕ} {room' : List ℕ} → argument_at n depth w ≡ Some k
         → Entered (arity w) (bound w) pending depth top room pending' depth' top' room'
         → Counting src body n room₀ room' (set occurs k (get_or occurs k 0 + 1)) (i + 1) pending' depth' top' depth
-    counting_next {k} e l entered =
-        let inside : k < length occurs = omega (arith, l, v.few, v.places) in
+    counting_next {k} e entered =
+        let p = argument_place n depth w e in
+        let inside : k < length occurs = omega (arith, p.1, v.few, v.places) in
         counting_turn
-        (λ j h. told_set occurs k j inside ∙ ap (λ q. get_or occurs j 0 + cond (eqb q j) 1 0) e)
+        (λ j h. told_set occurs k j inside ∙ ap (λ q. get_or occurs j 0 + cond (eqb q j) 1 0) p.0)
         (λ j. omega (arith, told_set occurs k j inside, one (eqb k j)))
         (length-set occurs k _)
-        (drop-set-lt n occurs k _ l)
+        (drop-set-lt n occurs k _ p.1)
         entered
 
     -- None does.
-    pub counting_past : {k pending' depth' top' : ℕ} {room' : List ℕ} → k ≡ place n depth w → n ≤ k
+    pub counting_past : {pending' depth' top' : ℕ} {room' : List ℕ} → argument_at n depth w ≡ None
         → Entered (arity w) (bound w) pending depth top room pending' depth' top' room'
         → Counting src body n room₀ room' occurs (i + 1) pending' depth' top' depth
-    counting_past {k} e l entered =
+    counting_past e entered =
         counting_turn
-        (λ j h. rw (ne_eqb (place n depth w) j (λ q. omega (arith, q, e, l, h))) (omega arith))
+        (λ j h. rw (ne_eqb (place n depth w) j (λ q. omega (arith, q, no_argument n depth w e, h))) (omega arith))
         (λ j. omega arith)
         refl
         refl

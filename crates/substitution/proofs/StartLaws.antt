@@ -1,5 +1,5 @@
 -- Where consecutive items start: the extents of the items before them add up.
-use Prim.Native.Nat.{ℕ, ◌+◌, ◌≤◌, ◌<◌}
+use Prim.Native.Nat.{ℕ, ◌+◌, ◌-◌, ◌≤◌, ◌<◌}
 use mathlib.Core.Path.{◌≡◌, sym, ◌∙◌, ap}
 use mathlib.Core.List.{List}
 use mathlib.Core.Logic.{⊎_elim}
@@ -11,30 +11,35 @@ use Rattle.calculus.specs.Skip.{span}
 use Rattle.calculus.proofs.SkipLaws.{span_zero, span-add}
 use Rattle.substitution.specs.Results.{Positions}
 
--- The positions at which the items from position `args` on start, written up to the j-th.
+-- The positions at which the items from position `args` on start, up to the j-th.
 pub record Offsets (src : List ℕ) (args : ℕ) (starts : List ℕ) (j : ℕ) : Type 0 where
   pub offsets : (i : ℕ) → i ≤ j → get_or starts i 0 ≡ args + span i (drop args src)
 
-pub offsets_first : (src : List ℕ) (args : ℕ) (starts : List ℕ) → get_or starts 0 0 ≡ args → Offsets src args starts 0
-offsets_first src args starts q =
-    record { offsets = λ i h. let e : i ≡ 0 = omega arith in rw e (omega (arith, q, span_zero (drop args src))) }
+-- Those of the items before the j-th are written.
+pub record Started (src : List ℕ) (args : ℕ) (starts : List ℕ) (j : ℕ) : Type 0 where
+  pub each : (i : ℕ) → i < j → get_or starts i 0 ≡ args + span i (drop args src)
 
-pub offsets_next : (src : List ℕ) (args : ℕ) (starts : List ℕ) (j end : ℕ) → j + 1 < length starts → Offsets src args starts j
-    → end ≡ get_or starts j 0 + span 1 (drop (get_or starts j 0) src) → Offsets src args (set starts (j + 1) end) (j + 1)
-offsets_next src args starts j end room p q =
-    record { offsets = λ i h. ⊎_elim (here i) (before i) (eq-or-lt_of_le h) }
+pub started_first : (src : List ℕ) (args : ℕ) (starts : List ℕ) → get_or starts 0 0 ≡ args → Started src args starts 1
+started_first src args starts q =
+    record { each = λ i h. let e : i ≡ 0 = omega arith in rw e (omega (arith, q, span_zero (drop args src))) }
+
+pub started_next : (src : List ℕ) (args : ℕ) (starts : List ℕ) (j end : ℕ) → 1 ≤ j → j < length starts → Started src args starts j
+    → end ≡ get_or starts (j - 1) 0 + span 1 (drop (get_or starts (j - 1) 0) src) → Started src args (set starts j end) (j + 1)
+started_next src args starts j end some room p q =
+    record { each = λ i h. ⊎_elim (here i) (before i) (eq-or-lt_of_le (omega arith)) }
   where
-    next : end ≡ args + span (j + 1) (drop args src)
+    next : end ≡ args + span j (drop args src)
     next =
-        let at : get_or starts j 0 ≡ args + span j (drop args src) = p.offsets j (omega arith) in
-        let e : drop (get_or starts j 0) src ≡ drop (span j (drop args src)) (drop args src) = ap (λ m. drop m src) at ∙ sym (drop-drop _ args src) in
-        omega (arith, q, at, ap (span 1) e, span-add (drop args src) j 1)
+        let at : get_or starts (j - 1) 0 ≡ args + span (j - 1) (drop args src) = p.each (j - 1) (omega arith) in
+        let e : drop (get_or starts (j - 1) 0) src ≡ drop (span (j - 1) (drop args src)) (drop args src) = ap (λ m. drop m src) at ∙ sym (drop-drop _ args src) in
+        let last : j - 1 + 1 ≡ j = omega arith in
+        omega (arith, q, at, ap (span 1) e, span-add (drop args src) (j - 1) 1, ap (λ m. span m (drop args src)) last)
 
-    here : (i : ℕ) → i ≡ j + 1 → get_or (set starts (j + 1) end) i 0 ≡ args + span i (drop args src)
-    here i e = rw e (get_or-set_same starts (j + 1) end 0 room ∙ next)
+    here : (i : ℕ) → i ≡ j → get_or (set starts j end) i 0 ≡ args + span i (drop args src)
+    here i e = rw e (get_or-set_same starts j end 0 room ∙ next)
 
-    before : (i : ℕ) → i < j + 1 → get_or (set starts (j + 1) end) i 0 ≡ args + span i (drop args src)
-    before i l = get_or-set_other starts (j + 1) i end 0 (omega arith) ∙ p.offsets i (omega arith)
+    before : (i : ℕ) → i < j → get_or (set starts j end) i 0 ≡ args + span i (drop args src)
+    before i l = get_or-set_other starts j i end 0 (omega arith) ∙ p.each i (omega arith)
 
 -- Where that position is the end of the last item, it is an offset too.
 pub positions_offsets : {src : List ℕ} {args after n : ℕ} {starts : List ℕ} → Positions src args after n starts → after ≡ args + span n (drop args src)

@@ -17,7 +17,7 @@ ghost use Rattle.substitution.specs.Results.{Positions, Shiftable, shifted, Subs
 
 use kinds::visit;
 use walk::index::{down, up};
-use walk::scope::{Scope, enter};
+use walk::scope::Scope;
 use words::slices::copy;
 use words::{Word, extent};
 
@@ -31,10 +31,8 @@ fn starts(src: &[u32], args: usize, after: usize, count: usize) -> [usize; PLACE
 {
     let mut starts = [0usize; PLACES];
     starts[0] = args;
-    let mut j: usize = 0;
-    while j + 1 < count {
-        starts[j + 1] = extent(src, starts[j]);
-        j += 1;
+    for j in 1..count {
+        starts[j] = extent(src, starts[j - 1]);
     }
     starts[count] = after;
     starts
@@ -57,17 +55,11 @@ fn shift(
     ensures placed { Placed dst.old out (words (shifted src.now at distance)) dst.new result }
     ensures room { Room room.old room.new }
 {
-    let mut i = at;
-    let mut scope = Scope {
-        pending: 1,
-        depth: 0,
-        top: room.len(),
-    };
-    while scope.pending > 0 {
+    let mut scope = Scope::start(room);
+    for i in at..end {
         let here = visit(Word(src[i]), scope.depth, 0, distance);
         dst[out + (i - at)] = here.word.0;
-        scope = enter(here.items, here.binders, scope, room);
-        i += 1;
+        scope = scope.enter(here.items, here.binders, room);
     }
     out + (end - at)
 }
@@ -115,35 +107,24 @@ pub fn substitute(
     let starts = starts(src, args, after, count);
     let lowered = down(count as u32);
     let mut next = out;
-    let mut i = body;
-    let mut at = Scope {
-        pending: 1,
-        depth: 0,
-        top: room.len(),
-    };
-    while i < stop {
-        let depth = at.depth;
-        let top = at.top;
-        let here = visit(Word(src[i]), depth, count, lowered);
-        let j = here.place;
-        if j < count {
+    let mut at = Scope::start(room);
+    for i in body..stop {
+        let here = visit(Word(src[i]), at.depth, count, lowered);
+        if let Some(j) = here.argument {
             next = raise(
                 src,
                 starts[j],
                 starts[j + 1],
-                depth,
+                at.depth,
                 dst,
                 next,
-                &mut room[..top],
+                &mut room[..at.top],
             );
-            at = enter(here.items, here.binders, at, room);
-            i += 1;
         } else {
             dst[next] = here.word.0;
-            at = enter(here.items, here.binders, at, room);
-            i += 1;
             next += 1;
         }
+        at = at.enter(here.items, here.binders, room);
     }
     next
 }

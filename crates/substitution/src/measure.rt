@@ -8,7 +8,7 @@ ghost use Rattle.substitution.specs.Results.{Substitutable, substituted};
 
 use crate::kinds::visit;
 use crate::{PLACES, starts};
-use walk::scope::{Scope, enter};
+use walk::scope::Scope;
 use words::Word;
 
 // The end of a body, how often each argument stands for a word of it, and the binders around its last word.
@@ -28,23 +28,16 @@ pub fn measure(src: &[u32], body: usize, count: usize, room: &mut [u32]) -> Meas
     let mut occurs = [0usize; PLACES];
     let mut i = body;
     let mut last: u32 = 0;
-    let mut at = Scope {
-        pending: 1,
-        depth: 0,
-        top: room.len(),
-    };
+    let mut at = Scope::start(room);
+    // By index: the walk ends where its scopes do, not at a known end.
     while at.pending > 0 {
         last = at.depth;
         let here = visit(Word(src[i]), last, count, 0);
-        let j = here.place;
-        if j < count {
+        if let Some(j) = here.argument {
             occurs[j] += 1;
-            at = enter(here.items, here.binders, at, room);
-            i += 1;
-        } else {
-            at = enter(here.items, here.binders, at, room);
-            i += 1;
         }
+        at = at.enter(here.items, here.binders, room);
+        i += 1;
     }
     Measured {
         end: i,
@@ -69,11 +62,9 @@ pub fn substituted_length(
     let occurs = found.occurs;
     let starts = starts(src, args, after, count);
     let mut total = found.end - body;
-    let mut j: usize = 0;
-    while j < count {
+    for j in 0..count {
         let times = occurs[j];
         total = total - times + times * (starts[j + 1] - starts[j]);
-        j += 1;
     }
     total
 }

@@ -1,19 +1,20 @@
 -- A single word rewritten, by what it is.
 use Prim.Native.Nat.{ℕ, ◌-◌, ◌≤◌, ◌<◌}
-use mathlib.Core.Path.{◌≡◌, sym, ◌∙◌, ap}
+use mathlib.Core.Path.{◌≡◌, refl, sym, ◌∙◌, ap}
 use mathlib.Core.Bool.{Bool, true, false, cond}
 use mathlib.Core.List.{[], ◌∷◌}
 use native.Mathlib.Decide.{ℕ_discrete}
 use native.Mathlib.Omega.{arith}
-use borrow.Author.Tests.{lt-ltb, le-ltb, ne_eqb}
+use borrow.Author.Tests.{lt-ltb, le-ltb, ltb-true, ltb-false, ne_eqb}
 use lib.Dec.{eqb, ltb}
 use lib.IntN.{ℤ}
 use lib.ListN.{length}
+use Rattle.std.specs.Prelude.{Some, None}
 use Rattle.calculus.specs.Term.{Term}
 use Rattle.calculus.specs.Words.{variable_kind, kind_of, payload_of, word, words}
 use Rattle.calculus.specs.Shift.{move}
 use Rattle.calculus.proofs.WordLaws.{word_of_parts}
-use Rattle.walk.specs.Rewritten.{shifting, rewritten, place}
+use Rattle.walk.specs.Rewritten.{shifting, rewritten, place, argument_at}
 
 pub rewritten_variable : (f : ℕ → ℕ → Term) (d w : ℕ) → kind_of w ≡ variable_kind → rewritten f d w ≡ words (f d (payload_of w))
 unfolding rewritten
@@ -59,6 +60,20 @@ pub place_other : (n d w : ℕ) → (kind_of w ≡ variable_kind → ⊥) → pl
 unfolding place
 place_other n d w h = rw (ne_eqb (kind_of w) variable_kind h)
 
+-- The argument that stands for a word is told by its place.
+pub argument_stands : (n d w : ℕ) {j : ℕ} → place n d w ≡ j → j < n → argument_at n d w ≡ Some j
+argument_stands n d w {j} e l = rw (e, lt-ltb j n l)
+
+pub argument_none : (n d w : ℕ) → place n d w ≡ n → argument_at n d w ≡ None
+argument_none n d w e = rw (e, le-ltb n n (omega arith))
+
+pub argument_place : (n d w : ℕ) {j : ℕ} → argument_at n d w ≡ Some j → (j ≡ place n d w) × (j < n)
+argument_place n d w {j} e = go (ltb (place n d w) n) refl e
+  where
+    go : (b : Bool) → ltb (place n d w) n ≡ b → cond b (Some (place n d w)) None ≡ Some j → (j ≡ place n d w) × (j < n)
+    go true t f = let p : j ≡ place n d w = cc in (p, omega (arith, ltb-true (place n d w) n t))
+    go false t f = cc
+
 -- A place is below n or n.
 pub place_most : (n d w : ℕ) → place n d w ≤ n
 unfolding place
@@ -69,3 +84,14 @@ place_most n d w = go (eqb (kind_of w) variable_kind) (ltb (payload_of w) d) (lt
     go true false true = omega arith
     go true false false = omega arith
     go false y z = omega arith
+
+pub no_argument : (n d w : ℕ) → argument_at n d w ≡ None → place n d w ≡ n
+no_argument n d w e = go (ltb (place n d w) n) refl e
+  where
+    go : (b : Bool) → ltb (place n d w) n ≡ b → cond b (Some (place n d w)) None ≡ None → place n d w ≡ n
+    go true t f = cc
+    go false t f = omega (arith, ltb-false (place n d w) n t, place_most n d w)
+
+-- None of no arguments stands for a word.
+pub none_of_none : (d w : ℕ) → argument_at 0 d w ≡ None
+none_of_none d w = argument_none 0 d w (omega (arith, place_most 0 d w))

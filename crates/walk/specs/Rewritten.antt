@@ -1,5 +1,5 @@
 -- What becomes of a single word where terms are put for variables, and what a function that writes words leaves behind.
-use Rattle.std.specs.Prelude.{ℕ, zero, suc, ◌+◌, ◌-◌, cond, List, [], ◌∷◌, ◌++◌, ltb, eqb, ℤ, replicate}
+use Rattle.std.specs.Prelude.{ℕ, zero, suc, ◌+◌, ◌-◌, cond, List, [], ◌∷◌, ◌++◌, ltb, eqb, ℤ, replicate, Option, Some, None}
 use Rattle.calculus.specs.Term.{Term, Terms, var}
 use Rattle.calculus.specs.Words.{variable_kind, kind_of, payload_of, words}
 use Rattle.calculus.specs.Shift.{shift}
@@ -34,3 +34,7 @@ place n d w =
     (cond (ltb (payload_of w - d) n) (n - 1 - (payload_of w - d))
     n))
     n
+
+-- The argument that stands for a word, by its place, if one does.
+abbrev pub argument_at : (n d w : ℕ) → Option ℕ
+argument_at n d w = cond (ltb (place n d w) n) (Some (place n d w)) None

@@ -4,9 +4,10 @@ ghost use Rattle.calculus.specs.Term.{var};
 ghost use Rattle.calculus.specs.Words.{variable_kind, kind_of, payload_of};
 ghost use Rattle.calculus.specs.Shift.{move};
 ghost use Rattle.walk.specs.Index.{distance_bound, Moves, Movable};
-ghost use Rattle.walk.specs.Rewritten.{shifting, rewritten, place};
+ghost use Rattle.walk.specs.Rewritten.{shifting, rewritten, argument_at};
 
 use words::Word;
+use words::kind::Kind;
 
 // The index moved by a signed distance: their sum as integers. No other code adds to an index or takes from it.
 fn moved(index: u32, distance: i32) -> u32
@@ -38,22 +39,22 @@ pub fn shift_variable(word: Word, depth: u32, distance: i32) -> Word
 {
     let index = word.payload();
     if depth <= index {
-        return Word::new(Word::VARIABLE, moved(index, distance));
+        return Word::new(Kind::Variable, moved(index, distance));
     }
     word
 }
 
-// The place, from the first, of the one of `count` arguments that stands for a variable under so many binders, and `count` where none does.
-pub fn argument(word: Word, depth: u32, count: usize) -> usize
+// The place, from the first, of the one of `count` arguments that stands for a variable under so many binders, if one does.
+pub fn argument(word: Word, depth: u32, count: usize) -> Option<usize>
     requires { (kind_of word.0 ≡ variable_kind) × (depth < distance_bound) }
-    ensures { result ≡ place count depth word.0 }
+    ensures { result ≡ argument_at count depth word.0 }
 {
     let index = word.payload();
     if depth <= index {
         let k = moved(index, down(depth)) as usize;
         if k < count {
-            return count - 1 - k;
+            return Some(count - 1 - k);
         }
     }
-    count
+    None
 }

@@ -1,13 +1,10 @@
-use Prim.Native.Nat.{ℕ, suc, ◌-◌, ◌≤◌, ◌<◌}
+use Prim.Native.Nat.{ℕ, suc, ◌-◌, ◌≤◌}
 use Rattle.calculus.specs.Accepted.{argument_limit}
-use Rattle.substitution.proofs.StartLaws.{Offsets}
+use Rattle.substitution.proofs.StartLaws.{Started}
 use lib.ListN.{length, drop, replicate}
 use mathlib.Core.Path.{◌≡◌}
 use Rattle.substitution.proofs.starts.Given as goal
 
 abbrev pub invariant-loop-j : goal.invariant-loop-j
 invariant-loop-j l =
-    (length l.starts ≡ suc argument_limit) × (l.j ≤ l.count) × Offsets l.src l.args l.starts l.j × ((k : ℕ) → l.j < k → drop k l.starts ≡ replicate (suc argument_limit - k) 0)
-
-abbrev pub decreases-loop-j : goal.decreases-loop-j
-decreases-loop-j l = l.count - l.j
+    (length l.starts ≡ suc argument_limit) × (l.j ≤ suc l.count) × Started l.src l.args l.starts l.j × ((k : ℕ) → l.j ≤ k → drop k l.starts ≡ replicate (suc argument_limit - k) 0)

@@ -1,4 +1,3 @@
-use Prim.Native.Nat.{◌-◌}
 use Rattle.calculus.specs.First.{first_terms}
 use Rattle.substitution.proofs.RewritingLaws.{Rewriting}
 use Rattle.walk.specs.Rewritten.{substituting}
@@ -8,6 +7,3 @@ use Rattle.substitution.proofs.substitute.Given as goal
 abbrev pub invariant-loop-i : goal.invariant-loop-i
 invariant-loop-i l =
     Rewriting (substituting (first_terms l.count (drop l.args l.src))) l.src l.body l.stop l.initial.dst l.out l.initial.room l.dst l.room l.next l.i l.at.pending l.at.depth l.at.top
-
-abbrev pub decreases-loop-i : goal.decreases-loop-i
-decreases-loop-i l = l.stop - l.i

@@ -1,9 +1,5 @@
-use Prim.Native.Nat.{◌-◌}
 use Rattle.substitution.proofs.CountLaws.{Adding}
 use Rattle.substitution.proofs.measure.substituted_length.Given as goal
 
 abbrev pub invariant-loop-j : goal.invariant-loop-j
 invariant-loop-j l = Adding l.src l.body l.args l.count l.occurs l.starts l.total l.j
-
-abbrev pub decreases-loop-j : goal.decreases-loop-j
-decreases-loop-j l = l.count - l.j
