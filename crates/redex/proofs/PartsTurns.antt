@@ -15,26 +15,28 @@ use Rattle.calculus.specs.Words.{abstraction_kind, application_kind, constructor
 use Rattle.calculus.specs.Skip.{skip, span}
 use Rattle.calculus.specs.Contraction.{by_beta}
 use Rattle.calculus.proofs.SkipLaws.{skip-drop}
+use Rattle.std.specs.Prelude.{Some, None}
+use Rattle.std.specs.Prelude as code
 use Rattle.redex.specs.declared.Found.{Found}
 use Rattle.redex.specs.declared.Found.TheVariants as found
 use Rattle.redex.specs.Rules.{nothing, parted, numbered, or_default, branch_body, with_body, case_parts, parts_behind, parts}
 
-pub branch_body_none : (before : Found) (t n i : ℕ) (ws : List ℕ) → branch_body before zero t n i ws ≡ before
+pub branch_body_none : (before : code.Option Found) (t n i : ℕ) (ws : List ℕ) → branch_body before zero t n i ws ≡ before
 unfolding branch_body
 branch_body_none before t n i ws = refl
 
-pub branch_body_past : (before : Found) (k t n i : ℕ) (ws : List ℕ) → length ws ≤ i → branch_body before k t n i (drop i ws) ≡ before
+pub branch_body_past : (before : code.Option Found) (k t n i : ℕ) (ws : List ℕ) → length ws ≤ i → branch_body before k t n i (drop i ws) ≡ before
 unfolding branch_body
 branch_body_past before zero t n i ws h = refl
 branch_body_past before (suc k) t n i ws h = rw (drop_of_length-le ws h)
 
 -- The branch at i, or those behind it.
-branch_body-step : (before : Found) (k t n i : ℕ) (ws : List ℕ) → i < length ws → (k ≡ 0 → ⊥)
+branch_body-step : (before : code.Option Found) (k t n i : ℕ) (ws : List ℕ) → i < length ws → (k ≡ 0 → ⊥)
     → branch_body before k t n i (drop i ws)
     ≡ cond (is_default (tag_of (payload_of (get_or ws i 0))) (count_of (payload_of (get_or ws i 0))))
     (branch_body (or_default before (i + 1) (k - 1)) (k - 1) t n (i + 1 + span 1 (drop (i + 1) ws)) (drop (i + 1 + span 1 (drop (i + 1) ws)) ws))
     (cond (eqb t (tag_of (payload_of (get_or ws i 0))))
-    (cond (eqb n (count_of (payload_of (get_or ws i 0)))) (found.Listed (i + 1) (k - 1)) found.Nothing)
+    (cond (eqb n (count_of (payload_of (get_or ws i 0)))) (Some (found.Listed (i + 1) (k - 1))) None)
     (branch_body before (k - 1) t n (i + 1 + span 1 (drop (i + 1) ws)) (drop (i + 1 + span 1 (drop (i + 1) ws)) ws)))
 unfolding branch_body
 branch_body-step before zero t n i ws h z = absurd (z refl)
@@ -43,18 +45,18 @@ branch_body-step before (suc k) t n i ws h z =
     rw (drop-cons ws i 0 h, e, ← drop-drop (span 1 (drop (i + 1) ws)) (i + 1) ws, ← skip-drop 1 (drop (i + 1) ws), add-one i)
 
 -- The branch at i is the default; or it is another that has the tag and binds n variables, or another number; or it has another tag.
-module _ (before : Found) (k t n i : ℕ) (ws : List ℕ) (within : i < length ws) (left : k ≡ 0 → ⊥) {default : Bool}
+module _ (before : code.Option Found) (k t n i : ℕ) (ws : List ℕ) (within : i < length ws) (left : k ≡ 0 → ⊥) {default : Bool}
     (told : default ≡ is_default (tag_of (payload_of (get_or ws i 0))) (count_of (payload_of (get_or ws i 0)))) where
   pub branch_body-default : default ≡ true → {j : ℕ} → j ≡ i + 1 + span 1 (drop (i + 1) ws)
       → branch_body before k t n i (drop i ws) ≡ branch_body (or_default before (i + 1) (k - 1)) (k - 1) t n j (drop j ws)
   branch_body-default d q = branch_body-step before k t n i ws within left ∙ rw (← told, d, q)
 
   pub branch_body_fits : default ≡ false → t ≡ tag_of (payload_of (get_or ws i 0)) → n ≡ count_of (payload_of (get_or ws i 0))
-      → branch_body before k t n i (drop i ws) ≡ found.Listed (i + 1) (k - 1)
+      → branch_body before k t n i (drop i ws) ≡ Some (found.Listed (i + 1) (k - 1))
   branch_body_fits d p q = branch_body-step before k t n i ws within left ∙ rw (← told, d, eq-eqb _ _ p, eq-eqb _ _ q)
 
   pub branch_body-other : default ≡ false → t ≡ tag_of (payload_of (get_or ws i 0)) → (n ≡ count_of (payload_of (get_or ws i 0)) → ⊥)
-      → branch_body before k t n i (drop i ws) ≡ found.Nothing
+      → branch_body before k t n i (drop i ws) ≡ None
   branch_body-other d p q = branch_body-step before k t n i ws within left ∙ rw (← told, d, eq-eqb _ _ p, ne_eqb _ _ q)
 
   pub branch_body_later : default ≡ false → (t ≡ tag_of (payload_of (get_or ws i 0)) → ⊥) → {j : ℕ} → j ≡ i + 1 + span 1 (drop (i + 1) ws)
@@ -62,33 +64,33 @@ module _ (before : Found) (k t n i : ℕ) (ws : List ℕ) (within : i < length w
   branch_body_later d p q = branch_body-step before k t n i ws within left ∙ rw (← told, d, ne_eqb _ _ p, q)
 
 -- How many branches are behind the one that was found: no more than there are.
-abbrev pub behind_of : Found → ℕ
-behind_of found.Nothing = 0
-behind_of (found.Listed body left) = left
-behind_of (found.Default body left) = left
+abbrev pub behind_of : code.Option Found → ℕ
+behind_of None = 0
+behind_of (Some (found.Listed body left)) = left
+behind_of (Some (found.Default body left)) = left
 
 module _ (all : ℕ) where
-  behind_cond : (c : Bool) (r x : Found) → behind_of r ≤ all → behind_of x ≤ all → behind_of (cond c r x) ≤ all
+  behind_cond : (c : Bool) (r x : code.Option Found) → behind_of r ≤ all → behind_of x ≤ all → behind_of (cond c r x) ≤ all
   behind_cond true r x h g = h
   behind_cond false r x h g = g
 
-  behind-default : (before : Found) (body left : ℕ) → behind_of before ≤ all → left ≤ all → behind_of (or_default before body left) ≤ all
-  behind-default found.Nothing body left h l = l
-  behind-default (found.Listed b m) body left h l = h
-  behind-default (found.Default b m) body left h l = h
+  behind-default : (before : code.Option Found) (body left : ℕ) → behind_of before ≤ all → left ≤ all → behind_of (or_default before body left) ≤ all
+  behind-default None body left h l = l
+  behind-default (Some (found.Listed b m)) body left h l = h
+  behind-default (Some (found.Default b m)) body left h l = h
 
-  branch_body-within : (before : Found) (k t n i : ℕ) (ws : List ℕ) → behind_of before ≤ all → k ≤ all → behind_of (branch_body before k t n i ws) ≤ all
+  branch_body-within : (before : code.Option Found) (k t n i : ℕ) (ws : List ℕ) → behind_of before ≤ all → k ≤ all → behind_of (branch_body before k t n i ws) ≤ all
   unfolding branch_body
   branch_body-within before zero t n i ws h m = h
   branch_body-within before (suc k) t n i [] h m = h
   branch_body-within before (suc k) t n i (w ∷ ws) h m =
       behind_cond (is_default (tag_of (payload_of w)) (count_of (payload_of w))) _ _
       (branch_body-within (or_default before (i + 1) k) k t n _ (skip 1 ws) (behind-default before (i + 1) k h (omega arith)) (omega arith))
-      (behind_cond (eqb t (tag_of (payload_of w))) _ _ (behind_cond (eqb n (count_of (payload_of w))) (found.Listed (i + 1) k) found.Nothing (omega arith) (omega arith))
+      (behind_cond (eqb t (tag_of (payload_of w))) _ _ (behind_cond (eqb n (count_of (payload_of w))) (Some (found.Listed (i + 1) k)) None (omega arith) (omega arith))
       (branch_body-within before k t n _ (skip 1 ws) h (omega arith)))
 
-pub branch_body-behind : (k t n i : ℕ) (ws : List ℕ) (r : Found) → r ≡ branch_body found.Nothing k t n i ws → behind_of r ≤ k
-branch_body-behind k t n i ws r e = rw e (branch_body-within k found.Nothing k t n i ws (omega arith) (omega arith))
+pub branch_body-behind : (k t n i : ℕ) (ws : List ℕ) (r : code.Option Found) → r ≡ branch_body None k t n i ws → behind_of r ≤ k
+branch_body-behind k t n i ws r e = rw e (branch_body-within k None k t n i ws (omega arith) (omega arith))
 
 -- The words from a position on, by the first, and by the first two.
 pub first_word : (i : ℕ) (ws : List ℕ) (j : ℕ) → i < length ws → j ≡ i + 1 → drop i ws ≡ get_or ws i 0 ∷ drop j ws
@@ -98,9 +100,9 @@ pub first_two : (i : ℕ) (ws : List ℕ) → i + 1 < length ws → drop i ws �
 first_two i ws h = first_word i ws (i + 1) (omega arith) refl ∙ ap (◌∷◌ (get_or ws i 0)) (first_word (i + 1) ws (i + 2) h (omega arith))
 
 -- A case of a constructor, by what its words and the search among its branches say.
-pub case_parts_found : (i w v : ℕ) (ws : List ℕ) {p t n j : ℕ} {r x : Found}
+pub case_parts_found : (i w v : ℕ) (ws : List ℕ) {p t n j : ℕ} {r x : code.Option Found}
     → p ≡ payload_of w → t ≡ tag_of (payload_of v) → n ≡ count_of (payload_of v) → j ≡ i + 1 + span 1 (drop (i + 1) ws)
-    → r ≡ branch_body found.Nothing p t n j (drop j ws) → r ≡ x → case_parts i w v (drop (i + 1) ws) ≡ with_body (i + 2) n x
+    → r ≡ branch_body None p t n j (drop j ws) → r ≡ x → case_parts i w v (drop (i + 1) ws) ≡ with_body (i + 2) n x
 unfolding case_parts
 case_parts_found i w v ws e₁ e₂ e₃ e₄ e₅ e₆ =
     rw (← e₆, e₅, e₁, e₂, e₃, e₄, ← drop-drop (span 1 (drop (i + 1) ws)) (i + 1) ws, ← skip-drop 1 (drop (i + 1) ws))

@@ -23,6 +23,8 @@ use Rattle.calculus.proofs.WordLaws.{kind_of-word, payload_of-word, tag_of-pack,
 use Rattle.calculus.proofs.SkipLaws.{items_and, skip-words, skip_zero, span-words}
 use Rattle.calculus.proofs.FirstLaws.{span-items}
 use Rattle.calculus.proofs.Substitution.{subst_none}
+use Rattle.std.specs.Prelude.{Some, None}
+use Rattle.std.specs.Prelude as code
 use Rattle.redex.specs.declared.Found.{Found}
 use Rattle.redex.specs.declared.Found.TheVariants as found
 use Rattle.redex.specs.Rules.{Parts, nothing, parted, numbered, or_default, branch_body, with_body, case_parts, parts_behind, parts}
@@ -64,22 +66,22 @@ ending t e {left = left} vs k h h' s q =
     omega (arith, q, ap (span (suc left)) s.from, span-words t left (words e ++ vs) h, span-items e vs k h')
 
 -- What the case rule selects, beside the body that was found, which has no more words than so many, and the branches left behind it.
-data Selected (W : List ℕ) (xs : Terms) (most last : ℕ) : Option Term → Found → Type 0 where
-  nowhere : Selected W xs most last none found.Nothing
-  by_listed : {p left : ℕ} {b : Term} → Stands W p b → size b ≤ most → Ending W p left last → Selected W xs most last (some (substitution xs 0 b)) (found.Listed p left)
-  by_default : {p left : ℕ} {b : Term} → Stands W p b → size b ≤ most → Ending W p left last → Selected W xs most last (some b) (found.Default p left)
+data Selected (W : List ℕ) (xs : Terms) (most last : ℕ) : Option Term → code.Option Found → Type 0 where
+  nowhere : Selected W xs most last none None
+  by_listed : {p left : ℕ} {b : Term} → Stands W p b → size b ≤ most → Ending W p left last → Selected W xs most last (some (substitution xs 0 b)) (Some (found.Listed p left))
+  by_default : {p left : ℕ} {b : Term} → Stands W p b → size b ≤ most → Ending W p left last → Selected W xs most last (some b) (Some (found.Default p left))
 
 -- By the tests of one branch: whether it is the default, whether it has the tag, whether it binds as many as there are arguments.
-by_tests : {W : List ℕ} {xs : Terms} {most last : ℕ} (others : Bool → Option Term) (default tag fits : Bool) {taken : Option Term} {q r o : Found}
+by_tests : {W : List ℕ} {xs : Terms} {most last : ℕ} (others : Bool → Option Term) (default tag fits : Bool) {taken : Option Term} {q r o : code.Option Found}
     → Selected W xs most last (others true) q → Selected W xs most last taken r → Selected W xs most last (others false) o
-    → Selected W xs most last (cond default (others default) (cond tag (cond fits taken none) (others default))) (cond default q (cond tag (cond fits r found.Nothing) o))
+    → Selected W xs most last (cond default (others default) (cond tag (cond fits taken none) (others default))) (cond default q (cond tag (cond fits r None) o))
 by_tests others true tag fits d s o = d
 by_tests others false true true d s o = s
 by_tests others false true false d s o = nowhere
 by_tests others false false fits d s o = o
 
 -- A default among the branches yields to what was found before them.
-earlier : {W : List ℕ} {xs : Terms} {most last : ℕ} {rest : Option Term} {before : Found} {p : ℕ} {b : Term} (left : ℕ) (o : Option Term) → Selected W xs most last rest before
+earlier : {W : List ℕ} {xs : Terms} {most last : ℕ} {rest : Option Term} {before : code.Option Found} {p : ℕ} {b : Term} (left : ℕ) (o : Option Term) → Selected W xs most last rest before
     → Stands W p b → size b ≤ most → Ending W p left last
     → Selected W xs most last (or_else rest (some b)) (or_default before p left) × (or_else (or_else rest (some b)) o ≡ or_else rest (some b))
 unfolding or_else
@@ -92,7 +94,7 @@ unfolding or_else
 none_behind none = refl
 none_behind (some a) = refl
 
-selected : (t : ℕ) (xs : Terms) (bs : Branches) {W : List ℕ} {at : ℕ} {rest : Option Term} {before : Found} (vs : List ℕ) (most last : ℕ) → Selected W xs most last rest before
+selected : (t : ℕ) (xs : Terms) (bs : Branches) {W : List ℕ} {at : ℕ} {rest : Option Term} {before : code.Option Found} (vs : List ℕ) (most last : ℕ) → Selected W xs most last rest before
     → size bs ≤ most → at + size bs ≡ last → Packable bs → From W at (words bs ++ vs)
     → Selected W xs most last (listed (or_else rest (default bs)) t xs bs) (branch_body before (count bs) t (count xs) at (words bs ++ vs))
 unfolding branch_body
@@ -149,7 +151,7 @@ at_function (con t xs) a vs h s = rw (other_function constructor_kind (pack t (c
 at_function (case e bs) a vs h s = rw (other_function case_kind (count bs) _ _ (omega arith) (λ e. omega arith)) stuck
 at_function (num n) a vs h s = rw (other_function numeral_kind n _ _ (omega arith) (λ e. omega arith)) stuck
 
-root_selected : {W : List ℕ} {at : ℕ} {t : Term} {xs : Terms} {a most : ℕ} {o : Option Term} {r : Found} → Selected W xs most (at + size t) o r → Stands W a xs → count xs < count_base
+root_selected : {W : List ℕ} {at : ℕ} {t : Term} {xs : Terms} {a most : ℕ} {o : Option Term} {r : code.Option Found} → Selected W xs most (at + size t) o r → Stands W a xs → count xs < count_base
     → ((limit : ℕ) → IndicesWithin limit t → IndicesWithin limit xs) → most + size xs ≤ size t
     → Root W at t (map (λ u. (by_case, u)) o) (with_body a (count xs) r)
 root_selected nowhere s l i m = stuck
@@ -164,7 +166,7 @@ parts_constructor n p at ws = rw (kind_of-word case_kind n (omega arith), kind_o
 
 case_parts-words : (n t : ℕ) (xs : Terms) (at : ℕ) (vs : List ℕ) → Packable (con t xs)
     → case_parts at (word case_kind n) (word constructor_kind (pack t (count xs))) (words (con t xs) ++ vs)
-    ≡ with_body (at + 2) (count xs) (branch_body found.Nothing n t (count xs) (at + 1 + size (con t xs)) vs)
+    ≡ with_body (at + 2) (count xs) (branch_body None n t (count xs) (at + 1 + size (con t xs)) vs)
 unfolding case_parts
 case_parts-words n t xs at vs h =
     rw (

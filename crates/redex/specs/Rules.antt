@@ -4,7 +4,9 @@
 -- are arguments, or the default where no other has the tag.
 --
 -- The functions are total. They take the words of a workspace from the position `at` on.
-use Rattle.std.specs.Prelude.{ℕ, zero, suc, ◌+◌, cond, List, [], ◌∷◌, eqb}
+use Rattle.std.specs.Prelude.{ℕ, zero, suc, ◌+◌, cond, List, [], ◌∷◌, eqb, Some, None}
+use Rattle.std.specs.Prelude as code
+use Rattle.std.specs.Option.{option_or}
 use Rattle.std.proofs.Math.Option.{Option, some, none}
 use Rattle.calculus.specs.Term.{is_default}
 use Rattle.calculus.specs.Words.{abstraction_kind, application_kind, constructor_kind, case_kind, numeral_kind, kind_of, payload_of, tag_of, count_of}
@@ -25,34 +27,32 @@ rule_of_parts (parted rule body args count left) = some rule
 rule_of_parts (numbered n) = some by_numeral
 
 -- What was found, or else the default with this body.
-abbrev pub or_default : Found → (body left : ℕ) → Found
-or_default found.Nothing body left = found.Default body left
-or_default (found.Listed b l) body left = found.Listed b l
-or_default (found.Default b l) body left = found.Default b l
+abbrev pub or_default : code.Option Found → (body left : ℕ) → code.Option Found
+or_default before body left = option_or before (Some (found.Default body left))
 
 -- Among k branches, the body of the first that lists the tag, if it binds n variables, and the number of branches behind it; where none lists it, what
 -- was found before them, or else the first default among them.
-unfoldable pub branch_body : (before : Found) (k tag n at : ℕ) → List ℕ → Found
+unfoldable pub branch_body : (before : code.Option Found) (k tag n at : ℕ) → List ℕ → code.Option Found
 branch_body before zero t n at ws = before
 branch_body before (suc k) t n at [] = before
 branch_body before (suc k) t n at (w ∷ ws) =
     cond (is_default (tag_of (payload_of w)) (count_of (payload_of w)))
     (branch_body (or_default before (at + 1) k) k t n (at + 1 + span 1 ws) (skip 1 ws))
     (cond (eqb t (tag_of (payload_of w)))
-    (cond (eqb n (count_of (payload_of w))) (found.Listed (at + 1) k) found.Nothing)
+    (cond (eqb n (count_of (payload_of w))) (Some (found.Listed (at + 1) k)) None)
     (branch_body before k t n (at + 1 + span 1 ws) (skip 1 ws)))
 
 -- The parts of a case by the body that a search among the branches found; the default takes no argument.
-abbrev pub with_body : (args n : ℕ) → Found → Parts
-with_body args n found.Nothing = nothing
-with_body args n (found.Listed body left) = parted by_case body args n left
-with_body args n (found.Default body left) = parted by_case body args 0 left
+abbrev pub with_body : (args n : ℕ) → code.Option Found → Parts
+with_body args n None = nothing
+with_body args n (Some (found.Listed body left)) = parted by_case body args n left
+with_body args n (Some (found.Default body left)) = parted by_case body args 0 left
 
 -- The parts of a case of a constructor, by its word, the constructor's word and the words from there on.
 unfoldable pub case_parts : (at w v : ℕ) → List ℕ → Parts
 case_parts at w v vs =
     with_body (at + 2) (count_of (payload_of v))
-    (branch_body found.Nothing (payload_of w) (tag_of (payload_of v)) (count_of (payload_of v)) (at + 1 + span 1 vs) (skip 1 vs))
+    (branch_body None (payload_of w) (tag_of (payload_of v)) (count_of (payload_of v)) (at + 1 + span 1 vs) (skip 1 vs))
 
 -- The parts by the first word and the words behind it: the first of these tells whether there are any.
 unfoldable pub parts_behind : (at w : ℕ) → List ℕ → Parts

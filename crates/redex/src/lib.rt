@@ -1,10 +1,9 @@
 // A redex taken apart, and the plan of its contraction: its rule, what the rule puts, and the length of the next term.
 #![tactic(auto)]
 
-ghost use Rattle.std.specs.Prelude.{◌≡◌, ◌≤◌, ◌<◌, length};
+ghost use Rattle.std.specs.Prelude.{◌≡◌, ◌≤◌, ◌<◌, ◌-◌, ◌↔◌, IsTrue, length, slice_index};
 ghost use Rattle.calculus.specs.Words.{workspace_most};
 ghost use Rattle.words.specs.Room.{Room};
-ghost use Rattle.redex.specs.Rules.{or_default};
 ghost use Rattle.redex.specs.Plan.{Plans, Numbered, EndTold, Applied, Selected};
 
 use substitution::measure::{measure, substituted_length};
@@ -43,39 +42,38 @@ pub struct Redex {
 }
 
 // What a search among the branches of a case finds: the body of the one that lists the tag, or that of the default, with the number of branches behind
-// it, or that there is none.
+// it.
 #[derive(Clone, Copy)]
 pub enum Found {
-    Nothing,
     Listed(usize, u32),
     Default(usize, u32),
 }
 
-impl Found {
-    // What was found, or else the default with this body.
-    pub fn or_default(self, start: usize, left: u32) -> Self
-        ensures { result ≡ or_default self start left }
-    {
-        match self {
-            Found::Nothing => Found::Default(start, left),
-            Found::Listed(body, behind) => Found::Listed(body, behind),
-            Found::Default(body, behind) => Found::Default(body, behind),
-        }
-    }
+// The branch that a case selects: where its body starts, where the arguments that it takes end and how many they are, and how many branches are behind it.
+#[derive(Clone, Copy)]
+pub struct Branch {
+    pub start: usize,
+    pub after: usize,
+    pub count: usize,
+    pub left: usize,
 }
 
-// Where an argument ends, which occurs so often in the body before it, whose last word is under `last` binders. One that occurs once, as that word,
-// stays where it is and nothing is put for another word: it is not walked, and its start serves as its end.
+// Whether the argument that starts at `args` stays where it is: it stands for the word before it, which is under `last` binders.
+fn stays(ws: &[u32], args: usize, last: u32) -> bool
+    requires { (0 < args) × (args ≤ length ws.now) }
+    ensures { IsTrue result ↔ ((last ≡ 0) × (slice_index ws.now (args - 1) ≡ 0)) }
+{
+    last == 0 && ws[args - 1] == VARIABLE
+}
+
+// Where that argument ends, which occurs so often in the body. One that stays and occurs once, as that word, is put for no other word: it is not walked,
+// and its start serves as its end.
 fn argument_end(ws: &[u32], args: usize, times: usize, last: u32) -> usize
     requires { (length ws.now ≤ workspace_most) × (0 < args) × (args ≤ length ws.now) }
     ensures { EndTold ws.now args times last result }
 {
-    if times == 1 {
-        if last == 0 {
-            if ws[args - 1] == VARIABLE {
-                return args;
-            }
-        }
+    if times == 1 && stays(ws, args, last) {
+        return args;
     }
     extent(ws, args)
 }
@@ -94,27 +92,14 @@ pub fn beta(ws: &[u32], n: usize, at: usize, room: &mut [u32]) -> Redex
     let args = found.end;
     let after = argument_end(ws, args, times, found.last);
     let length = at + (args - start - times + times * (after - args)) + (n - after);
-    if found.last == 0 {
-        let stop = args - 1;
-        if ws[stop] == VARIABLE {
-            let body = Body {
-                start,
-                stop,
-                args,
-                after,
-                count: 1,
-            };
-            return Redex {
-                rule: Rule::Beta(body),
-                at,
-                end: args,
-                length,
-            };
-        }
-    }
+    let (stop, end) = if stays(ws, args, found.last) {
+        (args - 1, args)
+    } else {
+        (args, after)
+    };
     let body = Body {
         start,
-        stop: args,
+        stop,
         args,
         after,
         count: 1,
@@ -122,31 +107,24 @@ pub fn beta(ws: &[u32], n: usize, at: usize, room: &mut [u32]) -> Redex
     Redex {
         rule: Rule::Beta(body),
         at,
-        end: after,
+        end,
         length,
     }
 }
 
-// The plan for a case whose branch was selected: its body, the arguments that it takes, up to `after`, and the number of branches behind it. The default
-// takes none.
-pub fn selected(
-    ws: &[u32],
-    n: usize,
-    at: usize,
-    left: usize,
-    start: usize,
-    after: usize,
-    count: usize,
-    room: &mut [u32],
-) -> Redex
-    requires { Selected ws.now n at left start after count room.old }
+// The plan for a case whose branch was selected. The default takes no arguments.
+pub fn selected(ws: &[u32], n: usize, at: usize, branch: Branch, room: &mut [u32]) -> Redex
+    requires { Selected ws.now n at branch.left branch.start branch.after branch.count room.old }
     ensures plans { Plans ws.now n result × (result.at ≡ at) }
     ensures room { Room room.old room.new }
 {
+    let start = branch.start;
+    let after = branch.after;
+    let count = branch.count;
     let args = at + 2;
     let found = measure(ws, start, count, room);
     let stop = found.end;
-    let end = skip(ws, stop, left);
+    let end = skip(ws, stop, branch.left);
     let length = at + substituted_length(ws, start, args, after, count, found) + (n - end);
     let body = Body {
         start,

@@ -23,9 +23,7 @@ fn hop(ws: &[u32], at: usize, items: usize, known: usize, ends: &[u32]) -> usize
     ensures { result ≡ at + span items (drop at ws.now) }
 {
     let mut i = at;
-    let mut left = items;
-    while left > 0 {
-        left -= 1;
+    for _ in 0..items {
         i = end_of(ws, i, known, ends);
     }
     i
@@ -37,9 +35,7 @@ pub fn fill_ends(ws: &[u32], at: usize, ends: &mut [u32]) -> usize
     ensures { Filled ws.now at ends.old result ends.new }
 {
     let end = extent(ws, at);
-    let mut i = end;
-    while at < i {
-        i -= 1;
+    for i in (at..end).rev() {
         let stop = hop(ws, i + 1, Word(ws[i]).arity(), end, ends);
         ends[i] = stop as u32;
     }

@@ -22,16 +22,12 @@ pub fn find(ws: &[u32], n: usize, from: usize, scratch: &mut [u32]) -> Plan
     ensures planned { Planned ws.now n result }
     ensures room { Room scratch.old scratch.new }
 {
-    let mut i = from;
     let mut known: usize = 0;
-    while i < n {
+    for i in from..n {
         match plan_at(ws, n, i, known, scratch) {
             Seen::Redex(redex) => return Some(redex),
-            Seen::Stuck => {
-                known = fill_ends(ws, i, scratch);
-                i += 1;
-            }
-            Seen::Nothing => i += 1,
+            Seen::Stuck => known = fill_ends(ws, i, scratch),
+            Seen::Nothing => {}
         }
     }
     None

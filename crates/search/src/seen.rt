@@ -2,14 +2,13 @@
 ghost use Rattle.std.specs.Prelude.{◌≡◌, ◌+◌, ◌≤◌, ◌<◌, eqb, length, get_or, drop};
 ghost use Rattle.calculus.specs.Words.{workspace_most, kind_of};
 ghost use Rattle.words.specs.Types.{kind_number};
-ghost use Rattle.redex.specs.declared.Found.TheVariants.{Nothing};
 ghost use Rattle.redex.specs.Rules.{branch_body};
 ghost use Rattle.redex.specs.Plan.{At};
 ghost use Rattle.search.specs.Ends.{Ends};
 ghost use Rattle.search.specs.Seen.{SeenAt, Inspected};
 
 use crate::ends::end_of;
-use redex::{Found, Redex, beta, numbered, selected};
+use redex::{Branch, Found, Redex, beta, numbered, selected};
 use words::Word;
 use words::kind::Kind;
 use words::pattern::is_default;
@@ -32,27 +31,25 @@ fn branch_body(
     at: usize,
     known: usize,
     ends: &[u32],
-) -> Found
+) -> Option<Found>
     requires { (length ws.now ≤ workspace_most) × Ends ws.now at known ends.now }
-    ensures { result ≡ branch_body Nothing branches tag count at (drop at ws.now) }
+    ensures { result ≡ branch_body None branches tag count at (drop at ws.now) }
 {
-    let mut found = Found::Nothing;
-    let mut left = branches;
+    let mut found = None;
     let mut i = at;
-    while i < ws.len() {
-        if left == 0 {
+    for left in (0..branches).rev() {
+        if ws.len() <= i {
             return found;
         }
         let word = Word(ws[i]);
         if is_default(word.payload()) {
-            found = found.or_default(i + 1, left - 1);
+            found = found.or(Some(Found::Default(i + 1, left)));
         } else if tag == word.tag() {
             if count == word.count() {
-                return Found::Listed(i + 1, left - 1);
+                return Some(Found::Listed(i + 1, left));
             }
-            return Found::Nothing;
+            return None;
         }
-        left -= 1;
         i = end_of(ws, i + 1, known, ends);
     }
     found
@@ -73,7 +70,7 @@ fn inspect(
 {
     let count = constructor.count();
     let after = end_of(ws, at + 1, known, room);
-    match branch_body(
+    let Some(found) = branch_body(
         ws,
         case.payload(),
         constructor.tag(),
@@ -81,34 +78,28 @@ fn inspect(
         after,
         known,
         room,
-    ) {
-        Found::Listed(start, left) => Seen::Redex(selected(
-            ws,
-            n,
-            at,
-            left as usize,
+    ) else {
+        return if at < known {
+            Seen::Nothing
+        } else {
+            Seen::Stuck
+        };
+    };
+    let taken = match found {
+        Found::Listed(start, left) => Branch {
             start,
             after,
-            count as usize,
-            room,
-        )),
-        Found::Default(start, left) => Seen::Redex(selected(
-            ws,
-            n,
-            at,
-            left as usize,
+            count: count as usize,
+            left: left as usize,
+        },
+        Found::Default(start, left) => Branch {
             start,
-            at + 2,
-            0,
-            room,
-        )),
-        Found::Nothing => {
-            if at < known {
-                return Seen::Nothing;
-            }
-            Seen::Stuck
-        }
-    }
+            after: at + 2,
+            count: 0,
+            left: left as usize,
+        },
+    };
+    Seen::Redex(selected(ws, n, at, taken, room))
 }
 
 // Whether a word of this kind, which is not a variable's, stands behind a position.
@@ -116,10 +107,7 @@ fn follows(ws: &[u32], at: usize, kind: Kind) -> bool
     requires { (at < length ws.now) × (length ws.now ≤ workspace_most) × (0 < kind_number kind) }
     ensures { result ≡ eqb (kind_of (get_or ws.now (at + 1) 0)) (kind_number kind) }
 {
-    if at + 1 < ws.len() {
-        return Word(ws[at + 1]).kind() == kind;
-    }
-    false
+    at + 1 < ws.len() && Word(ws[at + 1]).kind() == kind
 }
 
 // What is seen at a position: the plan for the redex that starts there, if one does. Until then the room is a table of ends, and a redex's walks

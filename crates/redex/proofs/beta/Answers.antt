@@ -18,6 +18,7 @@ use lib.ListN.{get_or, drop, length-drop}
 use mathlib.Core.List.{List, [], ◌∷◌}
 use mathlib.Core.Path.{◌≡◌, refl, sym, ◌∙◌, ap}
 use native.Mathlib.Omega.{arith}
+use Rattle.std.proofs.lemmas.Bool.{iff_false}
 use Rattle.redex.proofs.beta.Goals as goal
 
 pub measure-found-requires : goal.measure-found-requires
@@ -137,26 +138,18 @@ overflow_add-length-3 c =
     let m = c.measure-found.ensures.measures in
     omega (arith, product c.requires m c.argument_end-after.ensures, within c.requires m c.argument_end-after.ensures)
 
-pub offset_bounds-ws-stop : goal.offset_bounds-ws-stop
-offset_bounds-ws-stop c =
-    let m = c.measure-found.ensures.measures in
-    omega (arith, starts c.requires m c.argument_end-after.ensures, within c.requires m c.argument_end-after.ensures, c.requires.place.holds.limit)
-
-pub bounds-ws-stop : goal.bounds-ws-stop
-bounds-ws-stop c =
+pub stays-requires : goal.stays-requires
+stays-requires c =
     let h = c.requires in
     let m = c.measure-found.ensures.measures in
     let told = c.argument_end-after.ensures in
-    omega (arith, starts h m told, within h m told, (start (redex_found h.place (found h m told))).within)
+    (omega (arith, starts h m told), omega (arith, within h m told, (start (redex_found h.place (found h m told))).within))
 
-pub returns-then-ws-stop-eq-VARIABLE-clause-plans : goal.returns-then-ws-stop-eq-VARIABLE-clause-plans
-returns-then-ws-stop-eq-VARIABLE-clause-plans c =
-    (left c.requires c.measure-found.ensures.measures c.argument_end-after.ensures c.if-found-eq0.true c.if-ws-stop-eq-VARIABLE.true, refl)
+pub returns-then-stays-clause-plans : goal.returns-then-stays-clause-plans
+returns-then-stays-clause-plans c =
+    let b = c.stays.ensures.0 c.if-stays.true in
+    (left c.requires c.measure-found.ensures.measures c.argument_end-after.ensures b.0 b.1, refl)
 
-pub returns-else-ws-stop-eq-VARIABLE-clause-plans : goal.returns-else-ws-stop-eq-VARIABLE-clause-plans
-returns-else-ws-stop-eq-VARIABLE-clause-plans c =
-    (replaced c.requires c.measure-found.ensures.measures c.argument_end-after.ensures (λ f g. c.if-ws-stop-eq-VARIABLE.false g), refl)
-
-pub returns-else-found-eq0-clause-plans : goal.returns-else-found-eq0-clause-plans
-returns-else-found-eq0-clause-plans c =
-    (replaced c.requires c.measure-found.ensures.measures c.argument_end-after.ensures (λ f g. c.if-found-eq0.false f), refl)
+pub returns-else-stays-clause-plans : goal.returns-else-stays-clause-plans
+returns-else-stays-clause-plans c =
+    (replaced c.requires c.measure-found.ensures.measures c.argument_end-after.ensures (λ f g. iff_false c.stays.ensures c.if-stays.false (f, g)), refl)

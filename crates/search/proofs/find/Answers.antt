@@ -4,6 +4,7 @@ use lib.ListN.{length}
 use mathlib.Core.Path.{ap}
 use native.Mathlib.Omega.{arith}
 use Rattle.search.proofs.find.Goals as goal
+use Rattle.search.proofs.find.Goals.{in-Stuck, in-Nothing}
 
 pub returns-in-Redex-clause-planned : goal.returns-in-Redex-clause-planned
 returns-in-Redex-clause-planned c =
@@ -15,15 +16,18 @@ fill_ends-known-requires c =
     let v = c.loop-i.invariant in
     (v.searched.holds.limit, omega (arith, ends_inside v.searched.holds c.loop-i-test.true, c.requires.1, v.kept, ap length c.in-Stuck.ensures.1))
 
-pub loop-i-preserved-in-Stuck : goal.loop-i-preserved-in-Stuck
-loop-i-preserved-in-Stuck c =
-    let h = c.in-Stuck.ensures in
-    searching_stuck c.loop-i.invariant c.loop-i-test.true h.0 h.1 c.fill_ends-known.ensures c.fill_ends-known.auto.ends
-
 pub loop-i-preserved : goal.loop-i-preserved
 loop-i-preserved c =
-    let h = c.in-Nothing.ensures in
-    searching_on c.loop-i.invariant c.loop-i-test.true h.0 h.1
+    elim c.match-plan_at.branch [
+      | in-Stuck w ↦
+          let h = w.in-Stuck.ensures in
+          rw (w.scratch-is, w.known-is)
+          (searching_stuck c.loop-i.invariant c.loop-i-test.true h.0 h.1 w.fill_ends-known.ensures w.fill_ends-known.auto.ends)
+      | in-Nothing w ↦
+          let h = w.in-Nothing.ensures in
+          rw (w.scratch-is, w.known-is)
+          (searching_on c.loop-i.invariant c.loop-i-test.true h.0 h.1)
+    ]
 
 pub returns-clause-planned : goal.returns-clause-planned
 returns-clause-planned c = search_ends c.loop-i.invariant c.loop-i-test.false

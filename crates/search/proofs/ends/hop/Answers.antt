@@ -8,16 +8,16 @@ use mathlib.Core.Path.{◌≡◌, ◌∙◌, ap}
 use native.Mathlib.Omega.{arith}
 use Rattle.search.proofs.ends.hop.Goals as goal
 
-pub loop-left-preserved : goal.loop-left-preserved
-loop-left-preserved c =
-    let l = c.loop-left in
-    let one : suc (l.left - 1) ≡ l.left = omega arith in (
-      span_first _ l.i (l.left - 1) c.end_of-i.ensures ∙ ap (λ k. l.i + span k (drop l.i c.args.ws.now)) one ∙ l.invariant.0,
+pub loop-preserved : goal.loop-preserved
+loop-preserved c =
+    let l = c.loop in
+    let one : suc (c.args.items - (l.counter + 1)) ≡ c.args.items - l.counter = omega arith in (
+      span_first _ l.i (c.args.items - (l.counter + 1)) c.end_of-i.ensures ∙ ap (λ k. l.i + span k (drop l.i c.args.ws.now)) one ∙ l.invariant.0,
       omega (arith, c.end_of-i.ensures, l.invariant.1),
     )
 
 pub returns : goal.returns
 returns c =
-    let none : c.loop-left.left ≡ 0 = omega arith in
-    let e = rw (none, span_zero) at c.loop-left.invariant.0 in
+    let none : c.args.items - c.loop.counter ≡ 0 = omega arith in
+    let e = rw (none, span_zero) at c.loop.invariant.0 in
     omega arith
