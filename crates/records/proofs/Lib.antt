@@ -3,3 +3,4 @@ pub mod RecordLaws
 pub mod PayloadLaws
 pub mod Namings
 pub mod Walks
+pub mod Chains

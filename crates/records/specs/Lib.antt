@@ -2,3 +2,4 @@
 pub mod Types
 pub mod Preconditions
 pub mod Counting
+pub mod Chains

@@ -1,9 +1,10 @@
 // Refusal 5: the children of every record, and the root.
 ghost use Rattle.std.specs.Prelude.{◌≡◌, ◌≤◌, length};
-ghost use Rattle.records.specs.Types.{declared_of, stored, viewed};
+ghost use Rattle.records.specs.Types.{declared_of, record_of, stored, viewed};
 ghost use Rattle.storage.specs.Children.{starts_above, may_stand, chain_fits, sorts_fit, agrees, record_fits, wrong_children, chain_from};
 ghost use Rattle.records.specs.Preconditions.{Walkable};
 
+use crate::chain::Chain;
 use crate::values::number_fits;
 use crate::{Form, Record, count, root};
 use words::kind::Kind;
@@ -13,13 +14,7 @@ pub fn chain_length(table: &[u32], form: Form, link: usize) -> usize
     requires { Walkable (stored form table.now) link }
     ensures { result ≡ length (chain_from (viewed form table.now) link) }
 {
-    let mut at = link;
-    let mut passed: usize = 0;
-    while at != 0 {
-        at = Record::at(table, form, at).next;
-        passed += 1;
-    }
-    passed
+    Chain { table, form, link }.count()
 }
 
 // Whether a chain has no records or starts with a tag above this one.
@@ -31,15 +26,14 @@ fn starts_above(table: &[u32], form: Form, tag: u32, link: usize) -> bool
 }
 
 // Whether a record may stand in a chain of terms, or of branches.
-fn may_stand(table: &[u32], form: Form, at: usize, branches: bool) -> bool
-    requires { Walkable (stored form table.now) at × (1 ≤ at) }
-    ensures { result ≡ may_stand branches ((viewed form table.now).at at) (chain_from (viewed form table.now) ((viewed form table.now).at at).next) }
+fn may_stand(table: &[u32], form: Form, child: Record, branches: bool) -> bool
+    requires { Walkable (stored form table.now) child.next }
+    ensures { result ≡ may_stand branches (record_of child) (chain_from (viewed form table.now) child.next) }
 {
-    let record = Record::at(table, form, at);
     if branches {
-        record.is_branch() && starts_above(table, form, record.tag(), record.next)
+        child.is_branch() && starts_above(table, form, child.tag(), child.next)
     } else {
-        !record.is_branch()
+        !child.is_branch()
     }
 }
 
@@ -48,14 +42,7 @@ fn chain_fits(table: &[u32], form: Form, link: usize, branches: bool) -> bool
     requires { Walkable (stored form table.now) link }
     ensures { result ≡ chain_fits branches (chain_from (viewed form table.now) link) }
 {
-    let mut at = link;
-    while at != 0 {
-        if !may_stand(table, form, at, branches) {
-            return false;
-        }
-        at = Record::at(table, form, at).next;
-    }
-    true
+    Chain { table, form, link }.all(|child| may_stand(table, form, child, branches))
 }
 
 // Whether the chain of children of a record of this kind has terms and branches where they belong.

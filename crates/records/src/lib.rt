@@ -13,6 +13,7 @@ use words::Word;
 use words::kind::Kind;
 use words::slices::copy;
 
+mod chain;
 pub mod children;
 pub mod header;
 pub mod links;

@@ -1,30 +1,16 @@
--- `chain_fits` meets its contract. The invariant: the answer is that for the rest of the chain.
-use Rattle.records.proofs.Walks.{walk_inside, Walked, walked}
-use Rattle.records.specs.Types.{stored}
-use Rattle.storage.proofs.RecordLaws.{parts}
-use Rattle.storage.specs.Records.{record_at}
-use lib.ListN.{length}
-use mathlib.Core.Path.{refl, ap}
-use native.Mathlib.Nat.{pos_of_ne-zero}
-use native.Mathlib.Omega.{arith}
+-- `chain_fits` meets its contract: it asks of each record whether it may stand before those after it.
+use Rattle.std.proofs.Common.{rules, ◌∙◌}
+use Rattle.std.proofs.lemmas.Iterator.Search.{all_from_yields_List}
+use Rattle.records.proofs.Chains.{passed, nexts_callable, all_stand}
+use Rattle.records.specs.Types.{stored, viewed}
+use Rattle.storage.specs.Children.{chain_from, may_stand}
 use Rattle.records.proofs.children.chain_fits.Goals as goal
 
-pub returns-then-not-may_stand : goal.returns-then-not-may_stand
-returns-then-not-may_stand c =
-    let here = walked _ _ _ c.loop-at.invariant.0 (pos_of_ne-zero c.loop-at-test.true) refl in
-    rw (← c.loop-at.invariant.1, here.goes_on, ← c.may_stand.ensures, c.if-not-may_stand.true)
+pub all-requires-clause-callable : goal.all-requires-clause-callable
+all-requires-clause-callable c = nexts_callable _ (λ x q k. search rules) (λ x w. search rules)
 
-pub at-at-requires : goal.at-at-requires
-at-at-requires c = walk_inside _ _ c.loop-at.invariant.0
-
--- The record at the link, and the walk on from it.
-here : (c : goal.After-at-at) → let S = stored c.args.form c.args.table.now in Walked S c.loop-at.at (record_at S c.loop-at.at)
-here c = walked _ _ _ c.loop-at.invariant.0 (pos_of_ne-zero c.loop-at-test.true) refl
-
-pub loop-at-smaller : goal.loop-at-smaller
-loop-at-smaller c = rw (parts c.at-at.ensures).next (omega (arith, ap length (here c).goes_on))
-
-pub loop-at-preserved : goal.loop-at-preserved
-loop-at-preserved c =
-    rw (parts c.at-at.ensures).next
-    ((here c).after, rw (← c.loop-at.invariant.1, (here c).goes_on, ← c.may_stand.ensures, c.if-not-may_stand.false))
+pub returns : goal.returns
+returns c =
+    let T = viewed c.args.form c.args.table.now in
+    all_from_yields_List (λ r. may_stand c.args.branches r (chain_from T r.next)) _ _ c.all.result c.all.ensures.ran (passed _) (λ x b q k. search rules)
+    ∙ all_stand (stored c.args.form c.args.table.now) c.args.branches c.args.link c.requires
