@@ -128,49 +128,39 @@ module _ (xs : List ℕ) (at count : ℕ) (inside : at < byte_bits * length xs) 
       let same = get_or-set_same xs (at / byte_bits) (get_or xs (at / byte_bits) 0 + added at count) 0 (omega arith) in
       rw (sym same, e) (packed_below (length xs) (start ++ replicate count true) (at / byte_bits))
 
--- Ones put from a position on, of which some are still left.
-module _ (xs : List ℕ) (from count : ℕ) (fits : from + count ≤ byte_bits * length xs) where
-  abbrev pub put : (left : ℕ) → List Bool
-  put left = take from (unpacked xs) ++ replicate (count - left) true
+-- So many ones put from a position on.
+abbrev pub put : (xs : List ℕ) (from done : ℕ) → List Bool
+put xs from done = take from (unpacked xs) ++ replicate done true
 
-  put-length : (left : ℕ) → length (put left) ≡ from + (count - left)
-  put-length left =
-      length-append (take from (unpacked xs)) (replicate (count - left) true)
-      ∙ omega (arith, length-take-le from (unpacked xs) (omega (arith, length-unpacked xs)), length-replicate (count - left) true)
+-- None of them.
+pub put_none : (xs : List ℕ) (from done : ℕ) → done ≡ 0 → all_zero (drop from (unpacked xs)) ≡ true → AllBytes xs → xs ≡ packed (length xs) (put xs from done)
+put_none xs from done none z f = packed_start xs from f z ∙ ap (packed (length xs)) (rw none (sym (append-nil (take from (unpacked xs)))))
 
-  pub kept-length : {after : List ℕ} (left : ℕ) → after ≡ packed (length xs) (put left) → length after ≡ length xs
-  kept-length left e = ap length e ∙ length-packed (length xs) (put left)
+module _ (xs : List ℕ) (from done : ℕ) (fits : from + done ≤ byte_bits * length xs) where
+  put-length : length (put xs from done) ≡ from + done
+  put-length =
+      length-append (take from (unpacked xs)) (replicate done true)
+      ∙ omega (arith, length-take-le from (unpacked xs) (omega (arith, length-unpacked xs)), length-replicate done true)
 
-  -- None of them, and all of them.
-  pub put_none : all_zero (drop from (unpacked xs)) ≡ true → AllBytes xs → xs ≡ packed (length xs) (put count)
-  put_none z f =
-      let e : count - count ≡ 0 = omega arith in
-      packed_start xs from f z ∙ ap (packed (length xs)) (rw e (sym (append-nil (take from (unpacked xs)))))
-
-  pub put_all : {after : List ℕ} (left : ℕ) → left ≡ 0 → after ≡ packed (length xs) (put left)
-      → after ≡ packed (length xs) (take from (unpacked xs) ++ replicate count true)
-  put_all left z e = let n : count - left ≡ count = omega arith in e ∙ ap (λ k. packed (length xs) (take from (unpacked xs) ++ replicate k true)) n
-
-  module _ {bytes : List ℕ} {at left : ℕ} (few : left ≤ count) (here : at ≡ from + (count - left)) (done : bytes ≡ packed (length xs) (put left)) where
+  module _ {bytes : List ℕ} {at : ℕ} (here : at ≡ from + done) (so_far : bytes ≡ packed (length xs) (put xs from done)) where
     pub bytes_length : length bytes ≡ length xs
-    bytes_length = kept-length left done
+    bytes_length = ap length so_far ∙ length-packed (length xs) (put xs from done)
 
-    room : length (put left) ≤ byte_bits * length xs
-    room = omega (arith, put-length left)
+    room : length (put xs from done) ≤ byte_bits * length xs
+    room = omega (arith, put-length)
 
-    reached : at ≡ length (put left)
-    reached = here ∙ sym (put-length left)
+    reached : at ≡ length (put xs from done)
+    reached = here ∙ sym put-length
 
     pub rest_zero : all_zero (drop at (unpacked bytes)) ≡ true
-    rest_zero = rw (done, reached) (packed-rest (length xs) (put left) room)
+    rest_zero = rw (so_far, reached) (packed-rest (length xs) (put xs from done) room)
 
-    pub put-more : {k : ℕ} (after : List ℕ) → k ≤ left → after ≡ packed (length bytes) (take at (unpacked bytes) ++ replicate k true)
-        → after ≡ packed (length xs) (put (left - k))
-    put-more {k} after h e =
-        let start : take at (unpacked bytes) ≡ put left = rw (done, reached) (packed-bits (length xs) (put left) room) in
-        let more : count - left + k ≡ count - (left - k) = omega arith in
+    pub put-more : (k : ℕ) {after : List ℕ} → after ≡ packed (length bytes) (take at (unpacked bytes) ++ replicate k true)
+        → after ≡ packed (length xs) (put xs from (done + k))
+    put-more k e =
+        let start : take at (unpacked bytes) ≡ put xs from done = rw (so_far, reached) (packed-bits (length xs) (put xs from done) room) in
         e
         ∙ ap₂ (λ n bs. packed n (bs ++ replicate k true)) bytes_length start
         ∙ ap (packed (length xs))
-        (append_assoc (take from (unpacked xs)) (replicate (count - left) true) (replicate k true)
-        ∙ ap (λ bs. take from (unpacked xs) ++ bs) (replicate-append-replicate (count - left) k true ∙ ap (λ n. replicate n true) more))
+        (append_assoc (take from (unpacked xs)) (replicate done true) (replicate k true)
+        ∙ ap (λ bs. take from (unpacked xs) ++ bs) (replicate-append-replicate done k true))

@@ -1,20 +1,22 @@
 -- Windows: the numbers of bytes in a row, and of a window whose first bits are left out.
 use Prim.Native.Nat.{ℕ, zero, suc, ◌+◌, ◌*◌, ◌-◌, ◌/◌, ◌%◌, ◌^◌, ◌≤◌, ◌<◌}
-use mathlib.Core.Path.{◌≡◌, refl, sym, ap, ap₂, ◌∙◌}
+use mathlib.Core.Path.{◌≡◌, refl, sym, ap, ◌∙◌}
 use mathlib.Core.Bool.{Bool, false}
 use mathlib.Core.List.{List, [], ◌∷◌, ◌++◌}
 use native.Mathlib.Decide.{dec_lt}
 use native.Mathlib.Nat.{mod-eq_of_lt, add-zero, add_comm, add-mul, mul_assoc}
 use native.Mathlib.Numerals.{add-one}
 use native.Mathlib.Omega.{arith}
-use lib.Bits.{bit_or, or_shifted}
 use lib.Count.{count_leading_zeros}
 use lib.Dec.{eqb}
-use lib.ListN.{length, take, drop, get_or, drop_of_length-le, get_or-eq_default}
-use lib.Pow.{pow-add, pow_mono, low, shl_lt}
+use lib.ListN.{replicate, length, take, drop, get_or, drop_of_length-le, get_or-eq_default}
+use lib.Pow.{pow-add, low, shl_lt}
 use lib.Seq.{drop-cons, drop-drop, get_or-drop}
 use mir.Syntax.{w8}
 use mir.Val.{Fits}
+use Rattle.std.proofs.Common.{lit<}
+use Rattle.std.proofs.lemmas.List.{length-take}
+use Rattle.std.specs.Int.{w64, from_be_bytes}
 use Rattle.encoding.specs.Bytes.{byte_bits, digits, unpacked, digit, number}
 use Rattle.encoding.proofs.BytesLaws.{number_digits, number-nil, number_below, number_split, drop-unpacked}
 use Rattle.bits.specs.Runs.{window_bits, run}
@@ -52,52 +54,29 @@ number_more i at xs f =
     ∙ number_split (byte_bits * i) byte_bits (unpacked (drop at xs))
     ∙ ap (λ n. number (byte_bits * i) (unpacked (drop at xs)) * 256 + n) (ap (number byte_bits) place ∙ byte)
 
--- A byte put behind others, in the place of zeros.
-or_next : (s n x : ℕ) → x < 2 ^ byte_bits → bit_or (n * 2 ^ (byte_bits + s)) (x * 2 ^ s) ≡ (n * 2 ^ byte_bits + x) * 2 ^ s
-or_next s n x h =
-    or_shifted n (byte_bits + s) (x * 2 ^ s) (shl_lt byte_bits s h)
-    ∙ rw (pow-add 2 byte_bits s, sym (mul_assoc n (2 ^ byte_bits) (2 ^ s)), sym (add-mul (n * 2 ^ byte_bits) x (2 ^ s)))
+-- The number of eight bytes, the first of them highest: a window, if they are those from a position on, with 0 for those past the end.
+pub window_is : (at : ℕ) (xs : List ℕ) → AllBytes xs → (window : List ℕ) → ((i : ℕ) → i < 8 → get_or window i 0 ≡ get_or xs (at + i) 0)
+    → from_be_bytes w64 window ≡ number window_bits (unpacked (drop at xs))
+window_is at xs f window same =
+    let next : (i : ℕ) → i < 8 → number (byte_bits * (i + 1)) (unpacked (drop at xs)) ≡ number (byte_bits * i) (unpacked (drop at xs)) * 256 + get_or window i 0 =
+    λ i h. number_more i at xs f ∙ ap (λ n. number (byte_bits * i) (unpacked (drop at xs)) * 256 + n) (sym (same i h)) in
+    omega (arith, next 0 (lit< tt), next 1 (lit< tt), next 2 (lit< tt), next 3 (lit< tt), next 4 (lit< tt), next 5 (lit< tt), next 6 (lit< tt), next 7 (lit< tt))
 
--- No bit of a byte is lost where it is put.
-put_fits : (s x : ℕ) → byte_bits + s ≤ window_bits → x < 2 ^ byte_bits → x * 2 ^ s % 2 ^ window_bits ≡ x * 2 ^ s
-put_fits s x l h =
-    let most : 2 ^ (byte_bits + s) ≤ 2 ^ window_bits = pow_mono {i = byte_bits + s} {j = window_bits} l in
-    mod-eq_of_lt (omega (arith, shl_lt byte_bits s h, most))
+-- The bytes lent in place of the first zeros.
+zero_at : (n i : ℕ) → get_or (replicate {A = ℕ} n 0) i 0 ≡ 0
+zero_at zero i = refl
+zero_at (suc n) zero = refl
+zero_at (suc n) (suc i) = zero_at n i
 
--- The first bytes stand at the top of a window, and the next one is put.
-module _ (at : ℕ) (xs : List ℕ) (f : AllBytes xs) where
-  abbrev first : ℕ → ℕ
-  first i = number (byte_bits * i) (unpacked (drop at xs))
-
-  put_next : (i s : ℕ) → byte_bits * (i + 1) + s ≡ window_bits → {window : ℕ} → window ≡ first i * 2 ^ (byte_bits + s)
-      → bit_or window (get_or xs (at + i) 0 * 2 ^ s % 2 ^ window_bits) ≡ first (i + 1) * 2 ^ s
-  put_next i s e q =
-      ap₂ bit_or q (put_fits s (get_or xs (at + i) 0) (omega arith) (f (at + i)).fits)
-      ∙ or_next s (first i) (get_or xs (at + i) 0) (f (at + i)).fits
-      ∙ ap (λ n. n * 2 ^ s) (sym (number_more i at xs f))
-
-  put_first : get_or xs at 0 * 2 ^ 56 % 2 ^ window_bits ≡ first 1 * 2 ^ 56
-  put_first = put_fits 56 (get_or xs at 0) (omega arith) (f at).fits ∙ ap (λ n. n * 2 ^ 56) (omega (arith, number_step 0 at xs f))
-
-  -- Eight bytes.
-  pub whole_is :
-      bit_or (bit_or (bit_or (bit_or (bit_or (bit_or (bit_or (get_or xs at 0 * 2 ^ 56 % 2 ^ window_bits) (get_or xs (at + 1) 0 * 2 ^ 48 % 2 ^ window_bits)) (get_or xs (at + 2) 0 * 2 ^ 40 % 2 ^ window_bits)) (get_or xs (at + 3) 0 * 2 ^ 32 % 2 ^ window_bits)) (get_or xs (at + 4) 0 * 2 ^ 24 % 2 ^ window_bits)) (get_or xs (at + 5) 0 * 2 ^ 16 % 2 ^ window_bits)) (get_or xs (at + 6) 0 * 2 ^ 8 % 2 ^ window_bits)) (get_or xs (at + 7) 0)
-      ≡ number window_bits (unpacked (drop at xs))
-  whole_is =
-      let seven = put_next 6 8 refl (put_next 5 16 refl (put_next 4 24 refl (put_next 3 32 refl (put_next 2 40 refl (put_next 1 48 refl put_first))))) in
-      ap (λ n. bit_or n (get_or xs (at + 7) 0)) seven
-      ∙ or_shifted (first 7) byte_bits (get_or xs (at + 7) 0) (f (at + 7)).fits
-      ∙ sym (number_more 7 at xs f)
+pub padded_at : (ys : List ℕ) (n k i : ℕ) → get_or (ys ++ drop k (replicate {A = ℕ} n 0)) i 0 ≡ get_or ys i 0
+padded_at [] n k i = get_or-drop k (replicate {A = ℕ} n 0) i 0 ∙ zero_at n (k + i)
+padded_at (y ∷ ys) n k zero = refl
+padded_at (y ∷ ys) n k (suc i) = padded_at ys n k i
 
 number-take : (k : ℕ) (bs : List Bool) → number k (take k bs) ≡ number k bs
 number-take zero bs = refl
 number-take (suc k) [] = refl
 number-take (suc k) (b ∷ bs) = ap (λ n. digit b * 2 ^ k + n) (number-take k bs)
-
-take_le : (m : ℕ) (bs : List Bool) → length (take m bs) ≤ m
-take_le zero bs = omega arith
-take_le (suc m) [] = omega arith
-take_le (suc m) (b ∷ bs) = omega (arith, take_le m bs)
 
 take-shorter : (n m : ℕ) (bs : List Bool) → m ≤ n → take n (take m bs) ≡ take m bs
 take-shorter zero zero bs h = refl
@@ -114,7 +93,7 @@ shifted s m bs =
     let high : number (s + m) bs * 2 ^ s ≡ number s bs * 2 ^ (s + m) + number m ys * 2 ^ s =
     rw (number_split s m bs, add-mul, mul_assoc, sym (pow-add 2 m s), add_comm m s) in
     let whole : number (s + m) (take m ys) ≡ number m ys * 2 ^ s =
-    rw (add_comm s m) (number_split m s (take m ys) ∙ rw (number-take m ys, drop_of_length-le (take m ys) (take_le m ys), number-nil s) (add-zero _)) in
+    rw (add_comm s m) (number_split m s (take m ys) ∙ rw (number-take m ys, drop_of_length-le (take m ys) {i = m} (omega (arith, length-take m ys)), number-nil s) (add-zero _)) in
     ap (λ n. n % 2 ^ (s + m)) high ∙ low (number s bs) (s + m) small ∙ sym whole
 
 -- Its leading ones.
@@ -155,17 +134,3 @@ window_ones at xs =
     window_run (at % byte_bits) (unpacked (drop (at / byte_bits) xs)) (omega arith)
     ∙ ap (λ bs. run (take (window_bits - at % byte_bits) bs))
     (ap (drop (at % byte_bits)) (sym (drop-unpacked (at / byte_bits) xs)) ∙ drop-drop (at % byte_bits) (byte_bits * (at / byte_bits)) (unpacked xs) ∙ ap (λ i. drop i (unpacked xs)) e)
-
--- A window so far, of i bytes.
-module _ (at i : ℕ) (xs : List ℕ) (f : AllBytes xs) {window : ℕ} (so_far : window ≡ number (byte_bits * i) (unpacked (drop at xs))) where
-  pub window_goes_on : window * 256 + get_or xs (at + i) 0 ≡ number (byte_bits * (i + 1)) (unpacked (drop at xs))
-  window_goes_on = rw so_far (sym (number_more i at xs f))
-
-  pub window_fits : i < 8 → window * 256 + get_or xs (at + i) 0 < 2 ^ window_bits
-  window_fits h =
-      let below = number_below (byte_bits * (i + 1)) (unpacked (drop at xs)) in
-      let most : 2 ^ (byte_bits * (i + 1)) ≤ 2 ^ window_bits = pow_mono {i = byte_bits * (i + 1)} {j = window_bits} (omega arith) in
-      omega (arith, window_goes_on, below, most)
-
-  pub window_past : length xs ≤ at + i → window * 256 ≡ number (byte_bits * (i + 1)) (unpacked (drop at xs))
-  window_past h = omega (arith, window_goes_on, get_or-eq_default xs 0 {n = at + i} h)

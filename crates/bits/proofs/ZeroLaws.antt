@@ -3,19 +3,20 @@ use Prim.Native.Nat.{ℕ, zero, suc, ◌+◌, ◌*◌, ◌-◌, ◌/◌, ◌%◌
 use mathlib.Core.Path.{◌≡◌, refl, sym, ap, ap₂, ◌∙◌}
 use mathlib.Core.Bool.{Bool, true, false, not, ◌&&◌}
 use mathlib.Core.List.{List, [], ◌∷◌, ◌++◌, append-nil}
-use native.Mathlib.Nat.{one-le-pow}
+use native.Mathlib.Decide.{dec_le}
+use native.Mathlib.Nat.{one-le-pow, mod-eq_of_lt}
 use native.Mathlib.Numerals.{add-one}
 use native.Mathlib.Omega.{arith}
-use borrow.Author.Tests.{le-ltb, ne_eqb}
+use borrow.Author.Tests.{lt-ltb, le-ltb, eq-eqb, ne_eqb}
 use lib.Dec.{eqb, ltb}
 use lib.Pow.{pow-add, shl-shr}
-use lib.ListN.{length, drop, get_or}
-use lib.Seq.{drop-cons, drop-drop, drop-append-le}
-use mir.Syntax.{w8}
-use mir.Val.{Fits}
+use lib.ListN.{length, drop, get_or, drop_of_length-le}
+use lib.Seq.{drop-cons, drop-drop, drop-append-le, get_or-drop}
+use Rattle.std.specs.List.{list_all}
 use Rattle.encoding.specs.Bytes.{byte_bits, digits, unpacked, number}
 use Rattle.encoding.specs.Encoded.{all_zero}
-use Rattle.encoding.proofs.BytesLaws.{length_digits, number_digits, drop-unpacked}
+use Rattle.encoding.proofs.BytesLaws.{length_digits, number_digits, drop-unpacked, length-unpacked}
+use Rattle.bits.proofs.WindowLaws.{AllBytes}
 
 all_zero_append : (xs ys : List Bool) → all_zero (xs ++ ys) ≡ (all_zero xs && all_zero ys)
 all_zero_append [] ys = refl
@@ -37,6 +38,12 @@ drop-digits : (j k n : ℕ) → drop j (digits (j + k) n) ≡ digits k n
 drop-digits zero k n = ap (λ m. digits m n) {x = 0 + k} {y = k} (omega arith)
 drop-digits (suc j) k n = let e : suc j + k ≡ suc (j + k) = omega arith in rw e (drop-digits j k n)
 
+zero_bytes : (xs : List ℕ) → AllBytes xs → all_zero (unpacked xs) ≡ list_all (λ b. eqb b 0) xs
+zero_bytes [] f = refl
+zero_bytes (x ∷ xs) f =
+    all_zero_append (digits byte_bits x) (unpacked xs)
+    ∙ ap₂ ◌&&◌ (all_zero_digits byte_bits x ∙ ap (λ n. eqb n 0) (mod-eq_of_lt (f 0).fits)) (zero_bytes xs (λ i. f (suc i)))
+
 module _ (i : ℕ) (xs : List ℕ) (inside : i < length xs) where
   -- The bits from a byte's place on are those of the byte, and then those behind it.
   byte_first : unpacked (drop i xs) ≡ digits byte_bits (get_or xs i 0) ++ unpacked (drop (i + 1) xs)
@@ -53,41 +60,50 @@ module _ (xs : List ℕ) (count : ℕ) where
   lent : count ≤ byte_bits * length xs → (not (ltb (byte_bits * length xs) count) && all_zero (drop count (unpacked xs))) ≡ all_zero (drop count (unpacked xs))
   lent h = rw (le-ltb (byte_bits * length xs) count h)
 
-  -- The count is of whole bytes.
-  pub whole_bytes : count % byte_bits ≡ 0 → count / byte_bits ≤ length xs
-      → all_zero (unpacked (drop (count / byte_bits) xs)) ≡ (not (ltb (byte_bits * length xs) count) && all_zero (drop count (unpacked xs)))
-  whole_bytes z h =
-      let e : byte_bits * (count / byte_bits) ≡ count = omega arith in
-      ap all_zero (sym (drop-unpacked (count / byte_bits) xs) ∙ ap (λ n. drop n (unpacked xs)) e) ∙ sym (lent (omega arith))
+  missing : byte_bits * length xs < count → (not (ltb (byte_bits * length xs) count) && all_zero (drop count (unpacked xs))) ≡ false
+  missing h = rw (lt-ltb (byte_bits * length xs) count h)
 
-  -- It ends inside a byte, after its first bits.
-  module _ (inside : count / byte_bits < length xs) (f : Fits w8 (get_or xs (count / byte_bits) 0)) where
-    abbrev byte : ℕ
-    byte = get_or xs (count / byte_bits) 0
+  -- No byte is behind the count's whole bytes.
+  pub padding_ends : count / byte_bits ≡ length xs → eqb (count % byte_bits) 0 ≡ (not (ltb (byte_bits * length xs) count) && all_zero (drop count (unpacked xs)))
+  padding_ends e =
+      elim (dec_le count (byte_bits * length xs)) [
+        | yes h ↦
+            let none : drop count (unpacked xs) ≡ [] = drop_of_length-le (unpacked xs) (omega (arith, length-unpacked xs)) in
+            eq-eqb (count % byte_bits) 0 (omega arith) ∙ sym (lent h ∙ ap all_zero none)
+        | no h ↦ ne_eqb (count % byte_bits) 0 (omega arith) ∙ sym (missing (omega arith))
+      ]
 
-    abbrev behind : List Bool
-    behind = unpacked (drop (count / byte_bits + 1) xs)
+  -- Fewer bytes are lent than the count has whole.
+  pub padding_missing : length xs < count / byte_bits → eqb (count / byte_bits) (length xs) ≡ (not (ltb (byte_bits * length xs) count) && all_zero (drop count (unpacked xs)))
+  padding_missing h = ne_eqb (count / byte_bits) (length xs) (omega arith) ∙ sym (missing (omega arith))
 
-    past : drop count (unpacked xs) ≡ digits (byte_bits - count % byte_bits) byte ++ behind
+  -- A byte is behind them, whose first bits are before the count.
+  module _ (inside : count / byte_bits < length xs) (f : AllBytes xs) {byte : ℕ} (here : byte ≡ get_or xs (count / byte_bits) 0) where
+    abbrev behind : List ℕ
+    behind = drop (count / byte_bits + 1) xs
+
+    past : drop count (unpacked xs) ≡ digits (byte_bits - count % byte_bits) byte ++ unpacked behind
     past =
         let r = count % byte_bits in
         let e : byte_bits * (count / byte_bits) + r ≡ count = omega arith in
         let d : r + (byte_bits - r) ≡ byte_bits = omega arith in
         ap (λ n. drop n (unpacked xs)) (sym e)
         ∙ sym (drop-drop r (byte_bits * (count / byte_bits)) (unpacked xs))
-        ∙ ap (drop r) (drop-unpacked (count / byte_bits) xs ∙ byte_first (count / byte_bits) xs inside)
-        ∙ drop-append-le r (digits byte_bits byte) behind (omega (arith, length_digits byte_bits byte))
-        ∙ ap (λ bs. bs ++ behind) (ap (λ k. drop r (digits k byte)) (sym d) ∙ drop-digits r (byte_bits - r) byte)
+        ∙ ap (drop r) (drop-unpacked (count / byte_bits) xs ∙ byte_first (count / byte_bits) xs inside ∙ ap (λ b. digits byte_bits b ++ unpacked behind) (sym here))
+        ∙ drop-append-le r (digits byte_bits byte) (unpacked behind) (omega (arith, length_digits byte_bits byte))
+        ∙ ap (λ bs. bs ++ unpacked behind) (ap (λ k. drop r (digits k byte)) (sym d) ∙ drop-digits r (byte_bits - r) byte)
 
-    answer : (not (ltb (byte_bits * length xs) count) && all_zero (drop count (unpacked xs))) ≡ (eqb (byte % 2 ^ (byte_bits - count % byte_bits)) 0 && all_zero behind)
+    answer : (not (ltb (byte_bits * length xs) count) && all_zero (drop count (unpacked xs))) ≡ (eqb (byte % (256 / 2 ^ (count % byte_bits))) 0 && list_all (λ b. eqb b 0) behind)
     answer =
         lent (omega arith)
         ∙ ap all_zero past
-        ∙ all_zero_append (digits (byte_bits - count % byte_bits) byte) behind
-        ∙ ap (λ b. b && all_zero behind) (all_zero_digits (byte_bits - count % byte_bits) byte)
+        ∙ all_zero_append (digits (byte_bits - count % byte_bits) byte) (unpacked behind)
+        ∙ ap₂ ◌&&◌
+        (all_zero_digits (byte_bits - count % byte_bits) byte ∙ ap (λ n. eqb (byte % n) 0) (sym (power_shifted (count % byte_bits) (omega arith))))
+        (zero_bytes behind (λ i. rw (get_or-drop (count / byte_bits + 1) xs i 0) (f (count / byte_bits + 1 + i))))
 
-    pub padding_broken : (byte % (256 / 2 ^ (count % byte_bits)) ≡ 0 → ⊥) → false ≡ (not (ltb (byte_bits * length xs) count) && all_zero (drop count (unpacked xs)))
-    padding_broken n = sym (answer ∙ ap (λ b. b && all_zero behind) (ne_eqb (byte % 2 ^ (byte_bits - count % byte_bits)) 0 (λ e. n (rw (power_shifted (count % byte_bits) (omega arith)) e))))
+    pub padding_broken : (byte % (256 / 2 ^ (count % byte_bits)) ≡ 0 → ⊥) → eqb (byte % (256 / 2 ^ (count % byte_bits))) 0 ≡ (not (ltb (byte_bits * length xs) count) && all_zero (drop count (unpacked xs)))
+    padding_broken n = let e = ne_eqb (byte % (256 / 2 ^ (count % byte_bits))) 0 n in sym (answer ∙ ap (λ b. b && list_all (λ b. eqb b 0) behind) e ∙ sym e)
 
-    pub padding_kept : byte % (256 / 2 ^ (count % byte_bits)) ≡ 0 → all_zero behind ≡ (not (ltb (byte_bits * length xs) count) && all_zero (drop count (unpacked xs)))
-    padding_kept e = sym (answer ∙ ap (λ m. eqb m 0 && all_zero behind) (rw (power_shifted (count % byte_bits) (omega arith)) at e))
+    pub padding_kept : byte % (256 / 2 ^ (count % byte_bits)) ≡ 0 → list_all (λ b. eqb b 0) behind ≡ (not (ltb (byte_bits * length xs) count) && all_zero (drop count (unpacked xs)))
+    padding_kept e = sym (answer ∙ ap (λ b. b && list_all (λ b. eqb b 0) behind) (eq-eqb (byte % (256 / 2 ^ (count % byte_bits))) 0 e))

@@ -7,56 +7,28 @@ ghost use Rattle.bits.specs.Tokens.{token, token_of};
 
 use crate::{BYTE_BITS, WINDOW_BITS};
 
-// A byte counts so many of the one behind it.
-const BYTE_BASE: u64 = 256;
-
 const WINDOW_BYTES: usize = 8;
 
-// What bits start with: nothing, since they end early; one of the two words that have no index; or a variable's.
+// What bits start with: one of the two words that have no index, or a variable's.
 #[derive(Clone, Copy)]
 pub enum Token {
-    Early,
     Abstraction,
     Application,
     Variable(usize),
 }
 
-// The number whose bits are those of eight bytes, the first of them highest; the compiler makes one load of it.
-fn whole_window(bytes: &[u8], at: usize) -> u64
-    requires { at + 8 ≤ length bytes.now }
-    ensures { result ≡ number window_bits (unpacked (drop at bytes.now)) }
-{
-    (bytes[at] as u64) << 56
-        | (bytes[at + 1] as u64) << 48
-        | (bytes[at + 2] as u64) << 40
-        | (bytes[at + 3] as u64) << 32
-        | (bytes[at + 4] as u64) << 24
-        | (bytes[at + 5] as u64) << 16
-        | (bytes[at + 6] as u64) << 8
-        | bytes[at + 7] as u64
-}
-
-// The same with 0 for the bytes past the end.
+// The number whose bits are those of the eight bytes from a position on, the first of them highest, with 0 for the bytes past the end.
 fn window(bytes: &[u8], at: usize) -> u64
     requires { at ≤ length bytes.now }
     ensures { result ≡ number window_bits (unpacked (drop at bytes.now)) }
 {
-    let lent = bytes.len() - at;
-    if WINDOW_BYTES <= lent {
-        return whole_window(bytes, at);
+    let rest = &bytes[at..];
+    if let Some(whole) = rest.first_chunk::<WINDOW_BYTES>() {
+        return u64::from_be_bytes(*whole);
     }
-    let mut window: u64 = 0;
-    let mut i: usize = 0;
-    while i < WINDOW_BYTES {
-        if i < lent {
-            window = window * BYTE_BASE + bytes[at + i] as u64;
-            i += 1;
-        } else {
-            window = window * BYTE_BASE;
-            i += 1;
-        }
-    }
-    window
+    let mut window = [0u8; WINDOW_BYTES];
+    window[..rest.len()].copy_from_slice(rest);
+    u64::from_be_bytes(window)
 }
 
 // The ones in a row from a position on, as many as its window shows: the leading zeros of the window's complement.
@@ -75,6 +47,7 @@ fn ones(bytes: &[u8], from: usize, to: usize) -> usize
 {
     let most = to - from;
     let mut count: usize = 0;
+    // By hand: a turn goes on by as many ones as its window shows.
     while count < most {
         let at = from + count;
         let run = ones_in_window(bytes, at);
@@ -98,23 +71,23 @@ fn is_one(bytes: &[u8], at: usize) -> bool
     (bytes[at / BYTE_BITS] as u32 >> below) % 2 == 1
 }
 
-// What the bits from a position on and before an end start with.
-pub fn first_token(bytes: &[u8], from: usize, to: usize) -> Token
+// What the bits from a position on and before an end start with: nothing where they end early.
+pub fn first_token(bytes: &[u8], from: usize, to: usize) -> Option<Token>
     requires { (from < to) × (to ≤ byte_bits * length bytes.now) }
     ensures { token_of result ≡ token (slice from to (unpacked bytes.now)) }
 {
     if is_one(bytes, from) {
         let run = ones(bytes, from, to);
         if run == to - from {
-            return Token::Early;
+            return None;
         }
-        return Token::Variable(run - 1);
+        return Some(Token::Variable(run - 1));
     }
     if to - from < 2 {
-        return Token::Early;
+        return None;
     }
     if is_one(bytes, from + 1) {
-        return Token::Application;
+        return Some(Token::Application);
     }
-    Token::Abstraction
+    Some(Token::Abstraction)
 }

@@ -24,16 +24,12 @@ pub fn put_ones(bytes: &mut [u8], from: usize, count: usize)
     requires rest_zero { all_zero (drop from (unpacked bytes.old)) ≡ true }
     ensures { bytes.new ≡ packed (length bytes.old) (take from (unpacked bytes.old) ++ replicate count true) }
 {
+    let to = from + count;
     let mut at = from;
-    let mut left = count;
-    while 0 < left {
-        let room = BYTE_BITS - at % BYTE_BITS;
-        if left < room {
-            put_in_byte(bytes, at, left);
-            return;
-        }
-        put_in_byte(bytes, at, room);
-        at += room;
-        left -= room;
+    // By hand: a turn goes on by as many ones as its byte takes.
+    while at < to {
+        let ones = (to - at).min(BYTE_BITS - at % BYTE_BITS);
+        put_in_byte(bytes, at, ones);
+        at += ones;
     }
 }

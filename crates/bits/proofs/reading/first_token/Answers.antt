@@ -8,25 +8,20 @@ use Rattle.bits.proofs.reading.first_token.Goals as goal
 
 pub returns-then-run-to : goal.returns-then-run-to
 returns-then-run-to c =
-    let start = c in
     token_unended (unpacked c.args.bytes.now) c.args.from c.args.to c.requires.0 (omega (arith, length-unpacked c.args.bytes.now)) (sym c.is_one.ensures ∙ c.if-is_one.true) c.ones-run.ensures c.if-run-to.true
 
 pub returns-then-is_one : goal.returns-then-is_one
 returns-then-is_one c =
-    let start = c in
     token_variable (unpacked c.args.bytes.now) c.args.from c.args.to c.requires.0 (omega (arith, length-unpacked c.args.bytes.now)) (sym c.is_one.ensures ∙ c.if-is_one.true) c.ones-run.ensures c.if-run-to.false
 
 pub returns-then-to-from-lt2 : goal.returns-then-to-from-lt2
 returns-then-to-from-lt2 c =
-    let start = c in
     token_short (unpacked c.args.bytes.now) c.args.from c.args.to c.requires.0 (omega (arith, length-unpacked c.args.bytes.now)) (sym c.is_one.ensures ∙ c.if-is_one.false) (omega arith)
 
 pub returns-then-is_one-2 : goal.returns-then-is_one-2
 returns-then-is_one-2 c =
-    let start = c in
     token-application (unpacked c.args.bytes.now) c.args.from c.args.to c.requires.0 (omega (arith, length-unpacked c.args.bytes.now)) (sym c.is_one.ensures ∙ c.if-is_one.false) (omega arith) (sym c.is_one-2.ensures ∙ c.if-is_one-2.true)
 
 pub returns : goal.returns
 returns c =
-    let start = c in
     token-abstraction (unpacked c.args.bytes.now) c.args.from c.args.to c.requires.0 (omega (arith, length-unpacked c.args.bytes.now)) (sym c.is_one.ensures ∙ c.if-is_one.false) (omega arith) (sym c.is_one-2.ensures ∙ c.if-is_one-2.false)

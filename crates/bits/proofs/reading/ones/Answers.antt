@@ -9,23 +9,16 @@ use Rattle.bits.proofs.reading.ones.Goals as goal
 
 pub returns-then-most-count : goal.returns-then-most-count
 returns-then-most-count c =
-    let start = c in
-    let turn = c in
     run_fills (unpacked c.args.bytes.now) c.args.from c.args.to (omega (arith, length-unpacked c.args.bytes.now)) (64 - (c.args.from + c.loop-count.count) % 8) c.loop-count.invariant.1 c.ones_in_window-run.ensures (omega arith) (omega arith)
 
 pub returns-then-run-at : goal.returns-then-run-at
 returns-then-run-at c =
-    let start = c in
-    let turn = c in
     run_stops (unpacked c.args.bytes.now) c.args.from c.args.to (omega (arith, length-unpacked c.args.bytes.now)) (64 - (c.args.from + c.loop-count.count) % 8) c.loop-count.invariant.1 c.ones_in_window-run.ensures (omega arith) (omega arith)
 
 pub loop-count-preserved : goal.loop-count-preserved
 loop-count-preserved c =
-    let start = c in
-    let turn = c in
     (refl, run_goes_on (unpacked c.args.bytes.now) c.args.from c.args.to (omega (arith, length-unpacked c.args.bytes.now)) (64 - (c.args.from + c.loop-count.count) % 8) c.loop-count.invariant.1 c.ones_in_window-run.ensures (omega arith))
 
 pub returns : goal.returns
 returns c =
-    let start = c in
     omega (arith, run_ends (unpacked c.args.bytes.now) c.args.from c.args.to (omega (arith, length-unpacked c.args.bytes.now)), c.loop-count.invariant.1)

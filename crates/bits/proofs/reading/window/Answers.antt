@@ -1,31 +1,19 @@
--- `window` meets its contract. The invariant: the window so far is the number of the first bytes.
-use Rattle.bits.proofs.WindowLaws.{window_fits, window_goes_on, window_past}
-use native.Mathlib.Omega.{arith}
+-- `window` meets its contract.
+use Rattle.bits.proofs.WindowLaws.{window_is, padded_at}
+use Rattle.std.proofs.Common.{◌≡◌, ℕ, ◌+◌, ◌<◌, ◌∙◌, ap, ◌++◌, get_or, length, take, drop, replicate, ◌-◌, arith}
+use Rattle.std.proofs.lemmas.Grind.{common_steps}
 use Rattle.bits.proofs.reading.window.Goals as goal
 
-pub overflow_mul-window : goal.overflow_mul-window
-overflow_mul-window c =
-    let start = c in
-    omega (arith, window_fits c.args.at c.loop-i.i c.args.bytes.now c.type_inv.bytes c.loop-i.invariant.1 (omega arith))
+pub returns-in-Some : goal.returns-in-Some
+returns-in-Some c =
+    let same : (i : ℕ) → i < 8 → get_or c.in-Some.whole.now i 0 ≡ get_or c.args.bytes.now (c.args.at + i) 0 = λ i h. grind (arith, common_steps) in
+    c.from_be_bytes.ensures ∙ window_is c.args.at c.args.bytes.now c.type_inv.bytes c.in-Some.whole.now same
 
-pub overflow_add-window-then-i-lent : goal.overflow_add-window-then-i-lent
-overflow_add-window-then-i-lent c =
-    let start = c in
-    let turn = c in
-    record { fits = window_fits c.args.at c.loop-i.i c.args.bytes.now c.type_inv.bytes c.loop-i.invariant.1 (omega arith) }
-
-pub loop-i-preserved-then-i-lent : goal.loop-i-preserved-then-i-lent
-loop-i-preserved-then-i-lent c =
-    let start = c in
-    let turn = c in
-    (omega arith, window_goes_on c.args.at c.loop-i.i c.args.bytes.now c.type_inv.bytes c.loop-i.invariant.1)
-
-pub overflow_mul-window-else-i-lent : goal.overflow_mul-window-else-i-lent
-overflow_mul-window-else-i-lent c =
-    let start = c in
-    omega (arith, window_fits c.args.at c.loop-i.i c.args.bytes.now c.type_inv.bytes c.loop-i.invariant.1 (omega arith))
-
-pub loop-i-preserved : goal.loop-i-preserved
-loop-i-preserved c =
-    let start = c in
-    (omega arith, window_past c.args.at c.loop-i.i c.args.bytes.now c.type_inv.bytes c.loop-i.invariant.1 (omega arith))
+pub returns : goal.returns
+returns c =
+    let rest = take (length c.args.bytes.now - c.args.at) (drop c.args.at c.args.bytes.now) in
+    let lent : (i : ℕ) → get_or rest i 0 ≡ get_or c.args.bytes.now (c.args.at + i) 0 = λ i. grind (arith, common_steps) in
+    let e : c.copy_from_slice.new.self ≡ rest = c.copy_from_slice.ensures.after in
+    let same : (i : ℕ) → i < 8 → get_or (c.copy_from_slice.new.self ++ drop (length rest) (replicate {A = ℕ} 8 0)) i 0 ≡ get_or c.args.bytes.now (c.args.at + i) 0 =
+    λ i h. padded_at c.copy_from_slice.new.self 8 (length rest) i ∙ ap (λ ys. get_or ys i 0) e ∙ lent i in
+    c.from_be_bytes-2.ensures ∙ window_is c.args.at c.args.bytes.now c.type_inv.bytes (c.copy_from_slice.new.self ++ drop (length rest) (replicate {A = ℕ} 8 0)) same
