@@ -6,11 +6,8 @@ use crate::state::Session;
 use rounds::Shown;
 use words::refusal::Refusal;
 
-#[derive(Clone, Copy)]
-pub enum Answer {
-    Refused(Refusal),
-    Shown(Shown),
-}
+// What is shown, or why the press is refused.
+pub type Answer = Result<Shown, Refusal>;
 
 // The answer with the session as the press leaves it.
 #[derive(Clone, Copy)]
@@ -25,7 +22,7 @@ impl Pressed {
         ensures { result ≡ refused_with refusal session }
     {
         Pressed {
-            answer: Answer::Refused(refusal),
+            answer: Err(refusal),
             session,
         }
     }

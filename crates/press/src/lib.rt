@@ -9,7 +9,7 @@ ghost use Rattle.claim.specs.State.{total_limit};
 ghost use Rattle.claim.specs.Press.{press, conclude};
 ghost use Rattle.press.specs.Types.{session_of, memory_of, call_of, pressed_of};
 
-use answer::{Answer, Pressed};
+use answer::Pressed;
 use rounds::run;
 use state::{Session, budget_passes};
 use words::clear;
@@ -40,14 +40,13 @@ fn press_terms(
     clear(left, shown.left);
     clear(right, shown.right);
     clear(scratch, 0);
-    let verdict = shown.verdict;
     Pressed {
-        answer: Answer::Shown(shown),
+        answer: Ok(shown),
         session: Session {
             total: session.total + shown.spent,
             left: shown.left,
             right: shown.right,
-            verdict,
+            verdict: shown.verdict,
         },
     }
 }

@@ -9,8 +9,7 @@ use Rattle.calculus.specs.Words.{words, size}
 use Rattle.calculus.specs.Position.{redex_at}
 use Rattle.calculus.specs.Rounds.{next}
 use Rattle.redex.specs.declared.Redex.{Redex}
-use Rattle.search.specs.declared.Plan as code
-use Rattle.search.specs.declared.Plan.TheVariants as plan
+use Rattle.std.specs.Prelude as code
 use Rattle.redex.specs.Held.{held, Holds}
 use Rattle.search.specs.Search.{Searched}
 use Rattle.search.specs.Search as search
@@ -40,9 +39,9 @@ module _ (ws : List ℕ) (n : ℕ) where
           rw same (next_term ws n q u c ∙ sym (next_is (held ws n) l))
 
   -- What the search found is the plan of the definition.
-  pub plan_is : (todo : code.Plan) → search.Planned ws n todo → plan_of todo ≡ planned (held ws n)
-  plan_is plan.Normal e = sym (ap (plan_at (held ws n)) e)
-  plan_is (plan.Contract r) p =
+  pub plan_is : (todo : code.Option Redex) → search.Planned ws n todo → plan_of todo ≡ planned (held ws n)
+  plan_is code.None e = sym (ap (plan_at (held ws n)) e)
+  plan_is (code.Some r) p =
       ap (contract r.at) (p.1.length_is ∙ ap size (plan_next p.0)) ∙ sym (ap (plan_at (held ws n)) p.0)
 
 abbrev contracts_at : Plan → Option ℕ
@@ -50,14 +49,14 @@ contracts_at normal = none
 contracts_at (contract p n) = some p
 
 -- A side's part in a round, by its plan.
-module _ {ws scratch room : List ℕ} {n : ℕ} {todo : code.Plan} (h : Advances ws n todo scratch room) where
+module _ {ws scratch room : List ℕ} {n : ℕ} {todo : code.Option Redex} (h : Advances ws n todo scratch room) where
   start : Start ws n (held ws n)
   start = term_at_start ws n (held ws n) h.holds.term
 
   told : plan_of todo ≡ planned (held ws n)
   told = plan_is ws n todo h.plan
 
-  pub advance_normal : todo ≡ plan.Normal → Advanced ws n todo scratch n n ws scratch
+  pub advance_normal : todo ≡ code.None → Advanced ws n todo scratch n n ws scratch
   advance_normal e = by (planned_tells (held ws n)) (sym told ∙ ap plan_of e)
     where
       by : {q : Plan} → Planned (held ws n) q → q ≡ normal → Advanced ws n todo scratch n n ws scratch
@@ -71,8 +70,8 @@ module _ {ws scratch room : List ℕ} {n : ℕ} {todo : code.Plan} (h : Advances
           }
       by (contracts p u r c l) f = absurd (some-ne-none p (ap contracts_at f))
 
-  module _ {r : Redex} (e : todo ≡ plan.Contract r) where
-    found : search.Planned ws n (plan.Contract r)
+  module _ {r : Redex} (e : todo ≡ code.Some r) where
+    found : search.Planned ws n (code.Some r)
     found = rw e at h.plan
 
     to : stepNext.next ws n r.at ≡ next (held ws n)
@@ -83,7 +82,7 @@ module _ {ws scratch room : List ℕ} {n : ℕ} {todo : code.Plan} (h : Advances
         let long : r.length ≡ size (next (held ws n)) = found.1.length_is ∙ ap size to in
         record { plan = found.1; fits = rw long h.fits; scratch_fits = rw long h.scratch_fits; room_fits = h.room_fits }
 
-    pub advance-contracted : {m from : ℕ} {ws' scratch' : List ℕ} → step.Contracted ws n r scratch m ws' scratch' → from ≡ resume_at m (plan_of (plan.Contract r))
+    pub advance-contracted : {m from : ℕ} {ws' scratch' : List ℕ} → step.Contracted ws n r scratch m ws' scratch' → from ≡ resume_at m (plan_of (code.Some r))
         → Advanced ws n todo scratch m from ws' scratch'
     advance-contracted {m} d k =
         record {

@@ -16,15 +16,18 @@ use Rattle.calculus.specs.Rounds.{Verdict, Shown, shown_position, shows, Round, 
 use Rattle.calculus.proofs.AcceptedLaws.{leftmost_keeps_accepted}
 use Rattle.calculus.proofs.WorkspaceLaws.{term_at-words}
 use Rattle.redex.specs.Held.{held, Holds}
-use Rattle.search.specs.declared.Plan as code
+use Rattle.std.specs.Prelude as code
+use Rattle.redex.specs.declared.Redex.{Redex}
 use Rattle.search.specs.Search as search
 use Rattle.search.specs.Search.{Searched}
-use Rattle.turn.specs.Compare.{Agrees, Compares}
-use Rattle.turn.specs.Turn.{Plan, length_in, planned, at_once_in}
+use Rattle.turn.specs.Compare.{Agrees}
+use Rattle.turn.specs.Turn.{Plan, length_in, at_once_in}
+use Rattle.turn.specs.Types.{plan_of}
 use Rattle.turn.specs.Resume.{agreeAfter, Agreeing}
 use Rattle.rounds.specs.Advance.{Advances, Advanced}
 use Rattle.rounds.specs.Run.{Ready, Ran}
 use Rattle.turn.proofs.CompareLaws.{compared_agrees}
+use Rattle.rounds.proofs.RunCode.{plan_is}
 use Rattle.words.proofs.RoomLaws.{room_of_length}
 use Rattle.redex.proofs.HeldLaws.{held_term, holds_term, Start, term_at_start}
 use Rattle.turn.proofs.ResumeLaws.{resumes}
@@ -51,7 +54,7 @@ next_accepted t h = by (planned_tells t)
     by (contracts p u r c l) = rw (next_is t l) (leftmost_keeps_accepted 0 t u l h)
 
 -- A workspace after a side's part in a round.
-module _ {ws ws' scratch scratch' : List ℕ} {n r from : ℕ} {todo : code.Plan} (h : Holds ws n) (kept : length ws' ≡ length ws)
+module _ {ws ws' scratch scratch' : List ℕ} {n r from : ℕ} {todo : code.Option Redex} (h : Holds ws n) (kept : length ws' ≡ length ws)
     (a : Advanced ws n todo scratch r from ws' scratch') where
   now_held : term_at ws' r ≡ some (next (held ws n))
   now_held =
@@ -94,10 +97,10 @@ pub record Going (left₀ right₀ scratch₀ : List ℕ) (l r budget : ℕ) (le
 
 module _ {left₀ right₀ scratch₀ : List ℕ} {l r budget : ℕ} {left right scratch room : List ℕ} {m i n j agree spent : ℕ}
     (g : Going left₀ right₀ scratch₀ l r budget left right scratch room m i n j agree spent) where
-  left_fits : m ≤ length left
+  pub left_fits : m ≤ length left
   left_fits = (begins g.ready.left_holds).within
 
-  right_fits : n ≤ length right
+  pub right_fits : n ≤ length right
   right_fits = (begins g.ready.right_holds).within
 
   -- The scratch serves the searches.
@@ -107,9 +110,6 @@ module _ {left₀ right₀ scratch₀ : List ℕ} {l r budget : ℕ} {left right
   pub right_room : (scratch' : List ℕ) → length scratch' ≡ length scratch → n ≤ length scratch'
   right_room scratch' kept = omega (arith, right_fits, g.ready.scratch_length, g.ready.right-length)
 
-  pub compares : Compares left m right n agree
-  compares = record { left_fits = left_fits; right_fits = right_fits; agrees = g.agrees }
-
   -- A round that is answered at once, and one that is not, by both plans.
   module _ {e : Option Verdict} (h : e ≡ at_once_in (take m left) (take n right)) where
     asked_is : at_once (held left m) (held right n) ≡ e
@@ -118,30 +118,30 @@ module _ {left₀ right₀ scratch₀ : List ℕ} {l r budget : ℕ} {left right
     pub answered : {v : Verdict} → e ≡ some v → round_by at_once (length left₀) (budget - spent) (held left m) (held right n) ≡ ends v
     answered k = rw (asked_is ∙ k)
 
-    pub judged : {a b : Plan} {x : Round} → e ≡ none → a ≡ planned (held left m) → b ≡ planned (held right n)
-        → x ≡ round none (length left) (budget - spent) (length_in a) (length_in b)
+    pub judged : (a b : code.Option Redex) {x : Round} → e ≡ none → search.Planned left m a → search.Planned right n b
+        → x ≡ round none (length left) (budget - spent) (length_in (plan_of a)) (length_in (plan_of b))
         → round_by at_once (length left₀) (budget - spent) (held left m) (held right n) ≡ x
-    judged k p q j = sym (rw (j, p, q, g.left_kept, asked_is ∙ k, planned-length (held left m), planned-length (held right n)))
+    judged a b k p q j = sym (rw (j, plan_is left m a p, plan_is right n b q, g.left_kept, asked_is ∙ k, planned-length (held left m), planned-length (held right n)))
 
   -- What the calls tell that go on from there: the two terms compared, and both plans.
-  module _ {c : Comparison} {a b : Plan} (s : c ≡ compare_words (take m left) (take n right)) (p : a ≡ planned (held left m)) (q : b ≡ planned (held right n)) where
+  module _ {c : Comparison} (s : c ≡ compare_words (take m left) (take n right)) {shared : ℕ} (at : shared ≡ position_of c) where
     -- The words before the position where they differ agree.
-    module _ {shared : ℕ} (at : shared ≡ position_of c) where
-      shared_agrees : Agrees shared (take m left) (take n right)
-      shared_agrees = rw (at, s) (compared_agrees (take m left) (take n right))
+    shared_agrees : Agrees shared (take m left) (take n right)
+    shared_agrees = rw (at, s) (compared_agrees (take m left) (take n right))
 
-      pub agreeing : Agreeing left m shared a
-      agreeing =
-          record { holds = g.ready.left_holds; within = omega (arith, shared_agrees.left_has, length-take-le m left left_fits); plan_is = p }
+    pub agreeing : (a : code.Option Redex) → search.Planned left m a → Agreeing left m shared (plan_of a)
+    agreeing a p =
+        record { holds = g.ready.left_holds; within = omega (arith, shared_agrees.left_has, length-take-le m left left_fits); plan_is = plan_is left m a p }
 
-      -- The words that agree after both sides' parts.
-      agrees-next : Agrees (agreeAfter left m shared a b) (words (next (held left m))) (words (next (held right n)))
-      agrees-next =
-          let ls = begins g.ready.left_holds in
-          let rs = begins g.ready.right_holds in
-          rw (p, q)
-          (agree_after ls rs (omega (arith, left_fits, g.ready.left_holds.limit)) (omega (arith, right_fits, g.ready.right_holds.limit))
-          (rw (ls.taken, rs.taken) shared_agrees) (planned_tells (held left m)) (planned_tells (held right n)))
+    -- The words that agree after both sides' parts.
+    agrees-next : (a b : code.Option Redex) → search.Planned left m a → search.Planned right n b
+        → Agrees (agreeAfter left m shared (plan_of a) (plan_of b)) (words (next (held left m))) (words (next (held right n)))
+    agrees-next a b p q =
+        let ls = begins g.ready.left_holds in
+        let rs = begins g.ready.right_holds in
+        rw (plan_is left m a p, plan_is right n b q)
+        (agree_after ls rs (omega (arith, left_fits, g.ready.left_holds.limit)) (omega (arith, right_fits, g.ready.right_holds.limit))
+        (rw (ls.taken, rs.taken) shared_agrees) (planned_tells (held left m)) (planned_tells (held right n)))
 
   pub ran : {v : Verdict} {shown : Shown} {scratch₁ : List ℕ} → length scratch₁ ≡ length scratch
       → shown ≡ shown_at v (compare_words (take m left) (take n right)) spent m n
@@ -185,7 +185,7 @@ module _ {left₀ right₀ scratch₀ : List ℕ} {l r budget : ℕ} {left right
         let rn : size (held right n) ≤ length left₀ = omega (arith, (begins g.ready.right_holds).long, right_fits, g.left_kept, g.ready.right-length) in
         (omega (arith, f.0 lm, g.left_kept), omega (arith, f.1 rn, g.left_kept))
 
-    pub left_advances : {a : code.Plan} {scratch₁ : List ℕ} → length scratch₁ ≡ length scratch → search.Planned left m a → Advances left m a scratch₁ room
+    pub left_advances : {a : code.Option Redex} {scratch₁ : List ℕ} → length scratch₁ ≡ length scratch → search.Planned left m a → Advances left m a scratch₁ room
     left_advances kept e =
         record {
           holds = g.ready.left_holds;
@@ -195,9 +195,9 @@ module _ {left₀ right₀ scratch₀ : List ℕ} {l r budget : ℕ} {left right
           room_fits = omega (arith, g.room_length);
         }
 
-    module _ {left' scratch₁ scratch' : List ℕ} {m' i' : ℕ} {a : code.Plan} (lk : length left' ≡ length left) (sk : length scratch' ≡ length scratch)
+    module _ {left' scratch₁ scratch' : List ℕ} {m' i' : ℕ} {a : code.Option Redex} (lk : length left' ≡ length left) (sk : length scratch' ≡ length scratch)
         (la : Advanced left m a scratch₁ m' i' left' scratch') where
-      pub right_advances : {b : code.Plan} {room' : List ℕ} → 2 * length room' ≡ workspace_most → search.Planned right n b → Advances right n b scratch' room'
+      pub right_advances : {b : code.Option Redex} {room' : List ℕ} → 2 * length room' ≡ workspace_most → search.Planned right n b → Advances right n b scratch' room'
       right_advances room_length e =
           record {
             holds = g.ready.right_holds;
@@ -207,12 +207,12 @@ module _ {left₀ right₀ scratch₀ : List ℕ} {l r budget : ℕ} {left right
             room_fits = omega arith;
           }
 
-      module _ {right' scratch'' : List ℕ} {n' j' : ℕ} {b : code.Plan} (rk : length right' ≡ length right) (sk' : length scratch'' ≡ length scratch')
+      module _ {right' scratch'' : List ℕ} {n' j' : ℕ} {b : code.Option Redex} (rk : length right' ≡ length right) (sk' : length scratch'' ≡ length scratch')
           (ra : Advanced right n b scratch' n' j' right' scratch'') where
-        pub going_on : {c : Comparison} {shared agree' : ℕ} {x y : Plan} {room' : List ℕ} → 2 * length room' ≡ workspace_most → c ≡ compare_words (take m left) (take n right)
-            → x ≡ planned (held left m) → y ≡ planned (held right n) → shared ≡ position_of c → agree' ≡ agreeAfter left m shared x y
+        pub going_on : {c : Comparison} {shared agree' : ℕ} {room' : List ℕ} → 2 * length room' ≡ workspace_most → c ≡ compare_words (take m left) (take n right)
+            → shared ≡ position_of c → search.Planned left m a → search.Planned right n b → agree' ≡ agreeAfter left m shared (plan_of a) (plan_of b)
             → Going left₀ right₀ scratch₀ l r budget left' right' scratch'' room' m' i' n' j' agree' (spent + p)
-        going_on room_length s x y at k =
+        going_on room_length s at e f k =
             let (pos, h) = spends in
             let less : budget - (spent + p) ≡ budget - spent - p = omega arith in
             let whole : p + (budget - spent - p) ≡ budget - spent = omega arith in
@@ -228,7 +228,7 @@ module _ {left₀ right₀ scratch₀ : List ℕ} {l r budget : ℕ} {left right
               right_searched = advanced_searched g.ready.right_holds rk ra;
               agrees =
                   rw (k, advanced_words g.ready.left_holds lk la, advanced_words g.ready.right_holds rk ra)
-                  (agrees-next s x y at);
+                  (agrees-next s at a b e f);
               left_kept = lk ∙ g.left_kept;
               right_kept = rk ∙ g.right_kept;
               scratch_kept = sk' ∙ sk ∙ g.scratch_kept;

@@ -3,7 +3,7 @@ ghost use Rattle.std.specs.Prelude.{◌≡◌};
 ghost use Rattle.words.specs.Room.{Room};
 ghost use Rattle.rounds.specs.Advance.{Advances, Advanced};
 
-use search::Plan;
+use redex::Redex;
 use turn::resume::before;
 
 // A side's term between two rounds: it has `length` words, and no redex starts before `from`.
@@ -20,28 +20,28 @@ impl Current {
     {
         Current { length, from: 0 }
     }
-}
 
-// A side's part in a round that goes on, through the scratch; the room keeps the scopes of the walk.
-pub fn advance(
-    ws: &mut [u32],
-    side: Current,
-    todo: Plan,
-    scratch: &mut [u32],
-    room: &mut [u32],
-) -> Current
-    requires { Advances ws.old side.length todo scratch.old room.old }
-    ensures advanced { Advanced ws.old side.length todo scratch.old result.length result.from ws.new scratch.new }
-    ensures room { Room room.old room.new }
-{
-    match todo {
-        Plan::Normal => Current {
-            length: side.length,
-            from: side.length,
-        },
-        Plan::Contract(redex) => Current {
-            length: step::contract(ws, side.length, redex, scratch, room),
-            from: before(redex.at),
-        },
+    // A side's part in a round that goes on, through the scratch; the room keeps the scopes of the walk.
+    pub fn advance(
+        self,
+        ws: &mut [u32],
+        todo: Option<Redex>,
+        scratch: &mut [u32],
+        room: &mut [u32],
+    ) -> Self
+        requires { Advances ws.old self.length todo scratch.old room.old }
+        ensures advanced { Advanced ws.old self.length todo scratch.old result.length result.from ws.new scratch.new }
+        ensures room { Room room.old room.new }
+    {
+        match todo {
+            None => Current {
+                length: self.length,
+                from: self.length,
+            },
+            Some(redex) => Current {
+                length: step::contract(ws, self.length, redex, scratch, room),
+                from: before(redex.at),
+            },
+        }
     }
 }

@@ -8,11 +8,11 @@ ghost use Rattle.rounds.specs.Run.{Ready, Ran};
 ghost use Rattle.rounds.specs.Types.{shown_of};
 ghost use Rattle.redex.specs.Held.{held};
 
-use current::{Current, advance};
+use current::Current;
 use search::find;
-use turn::compare::{Comparison, position};
+use turn::compare::position;
 use turn::resume::agreed;
-use turn::{Early, Round, Verdict, ask, judge, shown_position};
+use turn::{Round, Verdict, ask, judge, shown_position};
 use words::Word;
 
 mod current;
@@ -34,7 +34,7 @@ impl Shown {
         spent: u32,
         left: Current,
         right: Current,
-        compared: Comparison,
+        compared: Option<usize>,
     ) -> Self
         ensures { shown_of result ≡ record { verdict = verdict_of verdict; spent = spent; left = left.length; right = right.length; position = shown_position (verdict_of verdict) (comparison_of compared) } }
     {
@@ -69,19 +69,22 @@ pub fn run(
     let mut agree: usize = 0;
     let mut spent: u32 = 0;
     loop {
-        let asked = ask(left, left_side.length, right, right_side.length, agree);
+        let asked = ask(
+            &left[..left_side.length],
+            &right[..right_side.length],
+            agree,
+        );
         let compared = asked.compared;
-        let early = asked.early;
-        if let Early::Ends(verdict) = early {
+        if let Some(verdict) = asked.early {
             return Shown::new(verdict, spent, left_side, right_side, compared);
         }
         let left_plan = find(left, left_side.length, left_side.from, scratch);
         let right_plan = find(right, right_side.length, right_side.from, scratch);
         match judge(left_plan, right_plan, budget - spent, left.len()) {
-            Round::Ends(verdict) => {
+            Round::Break(verdict) => {
                 return Shown::new(verdict, spent, left_side, right_side, compared);
             }
-            Round::Goes(count) => {
+            Round::Continue(count) => {
                 agree = agreed(
                     left,
                     left_side.length,
@@ -89,8 +92,8 @@ pub fn run(
                     left_plan,
                     right_plan,
                 );
-                left_side = advance(left, left_side, left_plan, scratch, &mut room);
-                right_side = advance(right, right_side, right_plan, scratch, &mut room);
+                left_side = left_side.advance(left, left_plan, scratch, &mut room);
+                right_side = right_side.advance(right, right_plan, scratch, &mut room);
                 spent += count;
             }
         }

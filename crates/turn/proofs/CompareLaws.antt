@@ -1,16 +1,16 @@
 -- Comparing two terms word by word, from words that are known to be the same on.
-use Prim.Native.Nat.{ℕ, suc, ◌≤◌, ◌<◌, min}
+use Prim.Native.Nat.{ℕ, suc, ◌≤◌, min}
 use mathlib.Core.Path.{◌≡◌, refl, sym, ◌∙◌, ap}
 use mathlib.Core.Bool.{Bool, true, false}
 use mathlib.Core.List.{List}
 use native.Mathlib.Omega.{arith}
 use lib.Dec.{leb}
 use lib.ListN.{length, take, get_or, length-take}
-use lib.Seq.{take_all, length-take-le, get_or-take}
+use lib.Seq.{take_all, get_or-take}
 use borrow.Author.Tests.{leb-true, leb-false}
 use Rattle.calculus.specs.Comparison.{Comparison, equal, differ, compare_words, position_of}
 use Rattle.calculus.proofs.ComparisonLaws.{comparison_exact}
-use Rattle.turn.specs.Compare.{Agrees, Compares}
+use Rattle.turn.specs.Compare.{Agrees}
 
 pub agrees_none : (ws vs : List ℕ) → Agrees 0 ws vs
 agrees_none ws vs = record { left_has = omega arith; right_has = omega arith; same = refl }
@@ -36,42 +36,22 @@ compared_agrees ws vs = by (compare_words ws vs) refl
         let (same, apart) = ((comparison_exact ws vs).1 p).0 e in
         record { left_has = within p ws vs same apart; right_has = within p vs ws (sym same) (λ q. apart (sym q)); same = same }
 
--- The first n words of one workspace and the first m of another, of which the first i are the same.
-module _ {ws vs : List ℕ} {n m from : ℕ} (c : Compares ws n vs m from) (i : ℕ) (a : Agrees i (take n ws) (take m vs)) where
-  left_long : length (take n ws) ≡ n
-  left_long = length-take-le n ws c.left_fits
+-- Two lists of which the first i words are the same.
+module _ {ws vs : List ℕ} (i : ℕ) (a : Agrees i ws vs) where
+  pub compare-other : (get_or ws i 0 ≡ get_or vs i 0 → ⊥) → compare_words ws vs ≡ differ i
+  compare-other d =
+      ((comparison_exact ws vs).1 i).1
+      (a.same, λ e. d (sym (get_or-take (suc i) ws i 0 (omega arith)) ∙ ap (λ us. get_or us i 0) e ∙ get_or-take (suc i) vs i 0 (omega arith)))
 
-  right_long : length (take m vs) ≡ m
-  right_long = length-take-le m vs c.right_fits
+  module _ (ended : min (length ws) (length vs) ≤ i) where
+    pub compare_equal : length ws ≡ length vs → compare_words ws vs ≡ equal
+    compare_equal e = (comparison_exact ws vs).0.1 (sym (take_all i ws (omega arith)) ∙ a.same ∙ take_all i vs (omega arith))
 
-  module _ (l : i < n) (r : i < m) where
-    -- The word at i of the first words, one more than i.
-    word-at : (k : ℕ) (us : List ℕ) → i < k → get_or (take (suc i) (take k us)) i 0 ≡ get_or us i 0
-    word-at k us h = get_or-take (suc i) (take k us) i 0 (omega arith) ∙ get_or-take k us i 0 h
+    ended_there : i ≡ min (length ws) (length vs)
+    ended_there = omega (arith, a.left_has, a.right_has)
 
-    pub compare-other : (get_or ws i 0 ≡ get_or vs i 0 → ⊥) → compare_words (take n ws) (take m vs) ≡ differ i
-    compare-other d =
-        ((comparison_exact (take n ws) (take m vs)).1 i).1
-        (a.same, λ e. d (sym (word-at n ws l) ∙ ap (λ us. get_or us i 0) e ∙ word-at m vs r))
-
-  module _ (ended : min n m ≤ i) where
-    pub compare_equal : n ≡ m → compare_words (take n ws) (take m vs) ≡ equal
-    compare_equal e =
-        (comparison_exact (take n ws) (take m vs)).0.1
-        (sym (take_all i (take n ws) (omega (arith, left_long))) ∙ a.same ∙ take_all i (take m vs) (omega (arith, right_long)))
-
-    pub compare_longer : (n ≡ m → ⊥) → compare_words (take n ws) (take m vs) ≡ differ i
+    pub compare_longer : (length ws ≡ length vs → ⊥) → compare_words ws vs ≡ differ (min (length ws) (length vs))
     compare_longer d =
-        ((comparison_exact (take n ws) (take m vs)).1 i).1 (
-          a.same,
-          λ e. d (omega (
-            arith,
-            a.left_has,
-            a.right_has,
-            left_long,
-            right_long,
-            length-take (suc i) (take n ws),
-            length-take (suc i) (take m vs),
-            ap length e,
-          )),
-        )
+        ((comparison_exact ws vs).1 i).1
+        (a.same, λ e. d (omega (arith, a.left_has, a.right_has, length-take (suc i) ws, length-take (suc i) vs, ap length e)))
+        ∙ ap differ ended_there

@@ -4,41 +4,39 @@ ghost use Rattle.turn.specs.Turn.{contract};
 ghost use Rattle.turn.specs.Types.{plan_of};
 ghost use Rattle.turn.specs.Resume.{agree_both, agreeAfter, Agreeing};
 
-use crate::compare::least;
-use search::Plan;
+use redex::Redex;
 use words::extent;
 
 // From where the search on a side goes on after a contraction at a position: from the position before it, but 0 for 0.
 pub fn before(at: usize) -> usize
     ensures { result ≡ at - 1 }
 {
-    if at == 0 {
-        return 0;
-    }
-    at - 1
+    at.saturating_sub(1)
 }
 
 // How many first words of both sides agree after a round, of which `agree` do before it, by what the sides do; the left one has `length` words.
-pub fn agreed(ws: &[u32], length: usize, agree: usize, left: Plan, right: Plan) -> usize
+pub fn agreed(
+    ws: &[u32],
+    length: usize,
+    agree: usize,
+    left: Option<Redex>,
+    right: Option<Redex>,
+) -> usize
     requires { Agreeing ws.now length agree (plan_of left) }
     ensures { result ≡ agreeAfter ws.now length agree (plan_of left) (plan_of right) }
 {
-    match left {
-        Plan::Normal => match right {
-            Plan::Normal => agree,
-            Plan::Contract(redex) => least(agree, redex.at),
-        },
-        Plan::Contract(redex) => match right {
-            Plan::Normal => least(agree, redex.at),
-            Plan::Contract(other) => agreed_both(
-                ws,
-                length,
-                agree,
-                redex.at,
-                redex.length,
-                other.at,
-            ),
-        },
+    match (left, right) {
+        (None, None) => agree,
+        (Some(redex), None) => agree.min(redex.at),
+        (None, Some(other)) => agree.min(other.at),
+        (Some(redex), Some(other)) => agreed_both(
+            ws,
+            length,
+            agree,
+            redex.at,
+            redex.length,
+            other.at,
+        ),
     }
 }
 
@@ -54,14 +52,8 @@ fn agreed_both(
     requires { Agreeing ws.now length agree (contract at next) }
     ensures { result ≡ agree_both ws.now length agree at next other }
 {
-    if at != other {
-        return least(agree, least(at, other));
+    if at == other && at < agree && extent(ws, at) <= agree {
+        return next - (length - agree);
     }
-    if at < agree {
-        if extent(ws, at) <= agree {
-            return next - (length - agree);
-        }
-        return at;
-    }
-    agree
+    agree.min(at.min(other))
 }

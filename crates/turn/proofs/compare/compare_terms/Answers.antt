@@ -6,13 +6,14 @@ use Rattle.turn.proofs.compare.compare_terms.Goals as goal
 
 pub returns-then-left-i : goal.returns-then-left-i
 returns-then-left-i c =
-    sym (compare-other c.requires c.loop-i.i c.loop-i.invariant (omega arith) (omega arith) c.if-left-i.true)
+    sym (compare-other c.loop-i.i c.loop-i.invariant c.if-left-i.true)
 
 -- The loop is left where the shorter term ends.
-pub returns-then-left_length-right_length : goal.returns-then-left_length-right_length
-returns-then-left_length-right_length c =
-    sym (compare_equal c.requires c.loop-i.i c.loop-i.invariant (omega (arith, c.least-shorter.ensures)) c.if-left_length-right_length.true)
+pub returns-then-left-right : goal.returns-then-left-right
+returns-then-left-right c =
+    sym (compare_equal c.loop-i.i c.loop-i.invariant (omega (arith, c.min-shorter.ensures)) c.if-left-right.true)
 
 pub returns : goal.returns
 returns c =
-    sym (compare_longer c.requires c.loop-i.i c.loop-i.invariant (omega (arith, c.least-shorter.ensures)) c.if-left_length-right_length.false)
+    rw c.min-shorter.ensures
+    (sym (compare_longer c.loop-i.i c.loop-i.invariant (omega (arith, c.min-shorter.ensures)) c.if-left-right.false))
