@@ -5,34 +5,24 @@ mod tail;
 
 ghost use Rattle.words.specs.Placed.{Placed};
 ghost use Rattle.words.specs.Room.{Room};
-ghost use Rattle.redex.specs.Plan.{substituted_words, put_by, Substituting, Puttable};
+ghost use Rattle.redex.specs.Plan.{put_by, Puttable};
 ghost use Rattle.step.specs.Contract.{Fits, HasRoom, Contracted};
 
-use redex::{Body, Redex, Rule};
+use redex::{Redex, Rule};
 use substitution::substitute;
 use tail::move_words;
 use words::slices::copy;
 
-// Puts a body with its arguments at the start of the scratch, and returns the number of words.
-fn put_body(ws: &[u32], body: Body, scratch: &mut [u32], room: &mut [u32]) -> usize
-    requires { Substituting ws.now body × Fits (substituted_words ws.now body) scratch.old room.old }
-    ensures placed { Placed scratch.old 0 (substituted_words ws.now body) scratch.new result }
-    ensures room { Room room.old room.new }
-{
-    substitute(
-        ws, body.start, body.stop, body.args, body.after, body.count, scratch, 0, room,
-    )
-}
-
-// The same for what a rule puts.
+// Puts what a rule puts at the start of the scratch, and returns the number of words.
 fn put_contractum(ws: &[u32], rule: Rule, scratch: &mut [u32], room: &mut [u32]) -> usize
     requires { Puttable ws.now rule × Fits (put_by ws.now rule) scratch.old room.old }
     ensures placed { Placed scratch.old 0 (put_by ws.now rule) scratch.new result }
     ensures room { Room room.old room.new }
 {
     match rule {
-        Rule::Beta(body) => put_body(ws, body, scratch, room),
-        Rule::Case(body) => put_body(ws, body, scratch, room),
+        Rule::Beta(body) | Rule::Case(body) => substitute(
+            ws, body.start, body.stop, body.args, body.after, body.count, scratch, 0, room,
+        ),
         Rule::Numeral(numeral) => library::put(numeral, scratch, 0),
     }
 }

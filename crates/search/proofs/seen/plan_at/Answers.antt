@@ -48,8 +48,7 @@ told e f = sym (back _) ∙ ap kind_for (e ∙ f) ∙ back _
 pub returns-in_default : goal.returns-in_default
 returns-in_default c =
     let k = c.kind.ensures in
-    let h = c.in_default in
-    (
+    let h = c.in_default in (
       parts-other _ _ (inside c.requires.0) (λ e. h.not-Application (told k e)) (λ e. h.not-Case (told k e)) (λ e. h.not-Numeral (told k e)),
       refl,
       λ q. absurd (h.not-Case (told k q.0)),
