@@ -6,7 +6,7 @@ use mathlib.Core.List.{List, [], ◌∷◌, append-nil}
 use mathlib.Core.Option.{some}
 use native.Mathlib.Omega.{arith}
 use borrow.Author.Tests.{le-leb, lt-leb}
-use lib.ListN.{length, take, replicate, length-replicate}
+use lib.ListN.{length, take}
 use Rattle.calculus.specs.Term.{Term}
 use Rattle.calculus.specs.Words.{words}
 use Rattle.calculus.specs.Workspace.{wrong_workspace, term_at}
@@ -23,10 +23,6 @@ use Rattle.encoding.proofs.PureLaws.{combinator_pure, combinator_accepted}
 use Rattle.encoding.proofs.ExportLaws.{exporting_exact, export_leaves}
 use Rattle.binary.specs.Words.{are_combinators, words_bits}
 use Rattle.binary.proofs.CombinatorLaws.{stands, stands_complete, term_stands, combinator_found, words-bits, and_true}
-
--- Bytes that are all 0.
-pub zeros_length : (n : ℕ) (bytes : List ℕ) → bytes ≡ replicate n 0 → length bytes ≡ n
-zeros_length n bytes e = ap length e ∙ length-replicate {A = ℕ} n 0
 
 module _ (workspace : List ℕ) (len : ℕ) (bytes : List ℕ) (w : wrong_workspace (length workspace) ≡ false) where
   -- The length is above C, or the words are no term.

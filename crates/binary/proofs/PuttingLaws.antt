@@ -10,6 +10,11 @@ use lib.ListN.{length, take, drop, get_or, replicate, length-append, length-repl
 use mir.Syntax.{w32}
 use mir.Val.{Fits}
 use borrow.Author.Tests.{eqb-true, eqb-false, ne_eqb}
+use Rattle.std.specs.Prelude.{sum_by}
+use Rattle.std.proofs.lemmas.List.Sums.{sum_by-cons}
+use Rattle.words.specs.declared.kind.Kind.{Kind}
+use Rattle.words.specs.declared.kind.Kind.TheVariants as kind
+use Rattle.words.specs.Types.{kind_number, kind_for}
 use Rattle.calculus.specs.Words.{variable_kind, abstraction_kind, workspace_most, kind_of, payload_of}
 use Rattle.encoding.specs.Bytes.{byte_bits, unpacked, packed}
 use Rattle.encoding.specs.Encoded.{all_zero}
@@ -51,6 +56,29 @@ most_bits k p = go (eqb k variable_kind) refl
     go : (b : Bool) → eqb k variable_kind ≡ b → length (word_bits k p) ≤ p + 2
     go true e = omega (arith, variable_length k p (eqb-true k variable_kind e))
     go false e = omega (arith, other_length k p (eqb-false k variable_kind e))
+
+-- Each kind is told by its number.
+back : (k : Kind) → kind_for (kind_number k) ≡ k
+back kind.Variable = refl
+back kind.Abstraction = refl
+back kind.Application = refl
+back kind.Constructor = refl
+back kind.Case = refl
+back kind.Branch = refl
+back kind.Numeral = refl
+back kind.Unassigned = refl
+
+pub told : {k l : Kind} {n : ℕ} → kind_number k ≡ n → n ≡ kind_number l → k ≡ l
+told e f = sym (back _) ∙ ap kind_for (e ∙ f) ∙ back _
+
+-- The bits of words are counted word by word.
+abbrev pub bits_at : ℕ → ℕ
+bits_at w = length (word_bits (kind_of w) (payload_of w))
+
+pub sum-bits : (ws : List ℕ) → sum_by bits_at ws ≡ length (words_bits ws)
+sum-bits [] = refl
+sum-bits (w ∷ ws) =
+    sum_by-cons bits_at w ws ∙ ap (λ n. bits_at w + n) (sum-bits ws) ∙ sym (length-append (word_bits (kind_of w) (payload_of w)) (words_bits ws))
 
 -- The words before a position, and one more.
 words_more : (ws : List ℕ) (i : ℕ) → i < length ws

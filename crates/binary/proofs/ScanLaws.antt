@@ -1,21 +1,24 @@
 -- A scan of the bits of an encoding.
-use Prim.Native.Nat.{ℕ, zero, suc, ◌+◌, ◌*◌, ◌-◌, ◌≤◌, ◌<◌}
+use Prim.Native.Nat.{ℕ, min, zero, suc, ◌+◌, ◌*◌, ◌-◌, ◌≤◌, ◌<◌}
 use mathlib.Core.Path.{◌≡◌, refl, sym, ap, ◌∙◌}
 use mathlib.Core.Bool.{Bool, true, false, cond}
 use mathlib.Core.List.{List, [], ◌∷◌, ◌++◌, append_assoc, append-nil}
 use mathlib.Core.Option.{Option, some, none, map}
+use native.Mathlib.Decide.{dec_le, dec_lt}
 use native.Mathlib.Omega.{arith}
-use borrow.Author.Tests.{lt-ltb, le-ltb, ltb-true, ltb-false}
-use lib.Dec.{ltb}
+use borrow.Author.Tests.{eq-eqb, ne_eqb, lt-ltb, le-ltb, ltb-true, ltb-false}
+use lib.Dec.{eqb, ltb}
 use lib.ListN.{length, take, drop, set, length-append, length-drop, drop_of_length-le}
 use lib.Seq.{sets, length-sets, drop-drop, length-take-le}
+use Rattle.std.specs.Bool.{then_some}
+use Rattle.words.proofs.RoomLaws.{room_of_length}
 use Rattle.calculus.specs.Words.{variable_kind, abstraction_kind, application_kind, word, workspace_most}
 use Rattle.encoding.specs.Bytes.{byte_bits, unpacked}
 use Rattle.encoding.specs.Decoding.{words_in}
 use Rattle.encoding.proofs.BytesLaws.{length-unpacked}
 use Rattle.bits.specs.Runs.{run}
 use Rattle.bits.specs.Tokens.{Token, early, abstraction, application, variable, token}
-use Rattle.binary.specs.Scan.{word_most, clipped, all_clipped}
+use Rattle.binary.specs.Scan.{word_most, clipped, all_clipped, Scans}
 
 run_unended : (bs : List Bool) (i n : ℕ) → length bs ≤ run bs → words_in bs (suc i) (suc n) ≡ none
 unfolding words_in
@@ -62,6 +65,13 @@ clipped_variable i h = rw (lt-ltb (word variable_kind i) word_most (omega arith)
 pub clipped_free : (i : ℕ) → workspace_most ≤ i → word_most ≡ clipped (word variable_kind i)
 unfolding clipped
 clipped_free i h = rw (le-ltb (word variable_kind i) word_most (omega arith))
+
+pub clipped_least : (i : ℕ) → word variable_kind (min i workspace_most) ≡ clipped (word variable_kind i)
+clipped_least i =
+    elim (dec_lt i workspace_most) [
+      | yes h ↦ ap (word variable_kind) {x = min i workspace_most} {y = i} (omega arith) ∙ clipped_variable i h
+      | no h ↦ ap (word variable_kind) {x = min i workspace_most} {y = workspace_most} (omega arith) ∙ clipped_free i (omega arith)
+    ]
 
 pub clipped_plain : (k : ℕ) → k ≤ 2 → k ≡ clipped (word k 0)
 unfolding clipped
@@ -171,6 +181,13 @@ module _ {code : List Bool} {bits : ℕ} {words₀ words : List ℕ} {at terms c
   pub whole : terms ≡ 0 → bits ≤ at → words_in code 0 1 ≡ some v.done
   unfolding words_in
   whole z h = all_told {o = some []} (rw (rest_none h, z)) ∙ ap some (append-nil v.done)
+
+  pub scanned : bits ≤ at → Scans (words_in code 0 1) words₀ words (then_some (eqb terms 0) count)
+  scanned h =
+      elim (dec_le terms 0) [
+        | yes z ↦ rw (eq-eqb terms 0 (omega arith)) (v.done, whole (omega arith) h, sym v.length_is, v.put)
+        | no n ↦ rw (ne_eqb terms 0 (omega arith)) (ended_early (omega arith) h, room_of_length scanning_length)
+      ]
 
   -- What the next token says.
   module _ (some_left : terms ≡ 0 → ⊥) where

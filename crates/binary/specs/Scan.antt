@@ -1,11 +1,11 @@
 -- What a scan of an encoding's bits leaves.
 use Rattle.std.specs.Prelude.{ℕ, ◌≡◌, cond, List, [], ◌∷◌, ltb, length}
+use Rattle.std.specs.Prelude.{Some, None}
+use Rattle.std.specs.Prelude as code
 use Rattle.std.proofs.Math.Option.{Option, some, none}
 use Rattle.std.proofs.lemmas.List.Edits.{sets}
 use Rattle.calculus.specs.Words.{variable_kind, word, workspace_most}
 use Rattle.words.specs.Room.{Room}
-use Rattle.binary.specs.declared.scan.Scanned as code
-use Rattle.binary.specs.declared.scan.Scanned.TheVariants as scanned
 
 -- A word that is larger than that of the least index that no term of a workspace binds is put as that.
 abbrev pub word_most : ℕ
@@ -20,6 +20,6 @@ all_clipped (w ∷ ws) = clipped w ∷ all_clipped ws
 
 -- By the words of the one term that the bits are, if they are one: their number is answered, and those that there is room for stand at the start.
 -- Otherwise what stands there is free.
-abbrev pub Scans : Option (List ℕ) → (before after : List ℕ) → code.Scanned → Type 0
-Scans found before after scanned.Wrong = (found ≡ none) × Room before after
-Scans found before after (scanned.Whole n) = (ws : List ℕ) × (found ≡ some ws) × (n ≡ length ws) × (after ≡ sets before 0 (all_clipped ws))
+abbrev pub Scans : Option (List ℕ) → (before after : List ℕ) → code.Option ℕ → Type 0
+Scans found before after None = (found ≡ none) × Room before after
+Scans found before after (Some n) = (ws : List ℕ) × (found ≡ some ws) × (n ≡ length ws) × (after ≡ sets before 0 (all_clipped ws))

@@ -5,6 +5,7 @@ ghost use Rattle.words.specs.Room.{Room};
 ghost use Rattle.binary.specs.Words.{are_combinators};
 
 use words::Word;
+use words::kind::Kind;
 
 // Each argument that is to come was left behind by one word and has another.
 const ROOM: usize = Word::WORKSPACE_MOST / 2;
@@ -18,32 +19,28 @@ fn is_closed_term(words: &[u32], room: &mut [u32]) -> bool
 {
     let mut depth: u32 = 0;
     let mut top = room.len();
-    let mut i: usize = 0;
-    while i < words.len() {
-        let word = Word(words[i]);
-        if word.kind() == Word::VARIABLE {
-            if depth <= word.payload() {
-                return false;
+    for (i, w) in words.iter().enumerate() {
+        let word = Word(*w);
+        match word.kind() {
+            Kind::Variable => {
+                if depth <= word.payload() {
+                    return false;
+                }
+                if top == room.len() {
+                    return i + 1 == words.len();
+                }
+                depth = room[top];
+                top += 1;
             }
-            if top == room.len() {
-                return i + 1 == words.len();
+            Kind::Abstraction if word.payload() == 0 => depth += 1,
+            Kind::Application if word.payload() == 0 => {
+                if top == 0 {
+                    return false;
+                }
+                top -= 1;
+                room[top] = depth;
             }
-            depth = room[top];
-            top += 1;
-            i += 1;
-        } else if word.0 == Word::ABSTRACTION {
-            depth += 1;
-            i += 1;
-        } else {
-            if word.0 != Word::APPLICATION {
-                return false;
-            }
-            if top == 0 {
-                return false;
-            }
-            top -= 1;
-            room[top] = depth;
-            i += 1;
+            _ => return false,
         }
     }
     false

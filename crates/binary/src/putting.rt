@@ -8,28 +8,23 @@ ghost use Rattle.binary.specs.Words.{word_bits, words_bits};
 
 use bits::writing::put_ones;
 use words::Word;
+use words::kind::Kind;
 
 // How many bits a word has: two, and as many more as its index for a variable.
 fn word_bits(word: Word) -> usize
     ensures { result ≡ length (word_bits (kind_of word.0) (payload_of word.0)) }
 {
-    if word.kind() == Word::VARIABLE {
-        return word.payload() as usize + 2;
+    match word.kind() {
+        Kind::Variable => word.payload() as usize + 2,
+        _ => 2,
     }
-    2
 }
 
 pub fn bits_of(words: &[u32]) -> usize
     requires { length words.now ≤ workspace_most }
     ensures { result ≡ length (words_bits words.now) }
 {
-    let mut bits: usize = 0;
-    let mut i: usize = 0;
-    while i < words.len() {
-        bits += word_bits(Word(words[i]));
-        i += 1;
-    }
-    bits
+    words.iter().map(|w| word_bits(Word(*w))).sum()
 }
 
 // Puts the bits of a word from a position on, where all are 0, and returns the position after them.
@@ -41,12 +36,12 @@ fn put_word(word: Word, bytes: &mut [u8], at: usize) -> usize
     ensures position { result ≡ at + length (word_bits (kind_of word.0) (payload_of word.0)) }
 {
     match word.kind() {
-        Word::VARIABLE => {
+        Kind::Variable => {
             let ones = word.payload() as usize + 1;
             put_ones(bytes, at, ones);
             at + ones + 1
         }
-        Word::ABSTRACTION => at + 2,
+        Kind::Abstraction => at + 2,
         _ => {
             put_ones(bytes, at + 1, 1);
             at + 2
@@ -61,9 +56,7 @@ pub fn put(words: &[u32], bytes: &mut [u8])
     ensures { bytes.new ≡ packed (length bytes.old) (words_bits words.now) }
 {
     let mut at: usize = 0;
-    let mut i: usize = 0;
-    while i < words.len() {
-        at = put_word(Word(words[i]), bytes, at);
-        i += 1;
+    for w in words {
+        at = put_word(Word(*w), bytes, at);
     }
 }

@@ -1,10 +1,18 @@
 -- `scan` meets its contract. The invariant is `Scanning`; after each token, the next state tells that the sums fit.
-use Rattle.binary.proofs.ScanLaws.{scanning_start, scanning_length, left_over, ended_early, whole, said_early, said_abstraction, said_application, said_variable}
+use Rattle.binary.proofs.ScanLaws.{scanning_start, scanning_length, left_over, scanned, said_early, said_abstraction, said_application, said_variable}
+use Rattle.bits.specs.declared.reading.Token as code
+use Rattle.bits.specs.Tokens.{Token, token_of}
+use Rattle.std.specs.Prelude.{Some, None}
 use Rattle.words.proofs.RoomLaws.{room_of_length}
 use lib.ListN.{set}
-use mathlib.Core.Path.{sym, ap, refl, ◌∙◌}
+use mathlib.Core.Path.{◌≡◌, sym, ap, refl, ◌∙◌}
 use native.Mathlib.Omega.{arith}
+use borrow.Author.Rules.{rules}
 use Rattle.binary.proofs.scan.scan.Goals as goal
+use Rattle.binary.proofs.scan.scan.Goals.{in-Abstraction, in-Application, in-Variable}
+
+found : {t u : code.Token} {of : Token} → token_of (Some t) ≡ of → t ≡ u → token_of (Some u) ≡ of
+found e is = ap (λ t. token_of (Some t)) (sym is) ∙ e
 
 pub loop-at-init : goal.loop-at-init
 loop-at-init c = scanning_start c.args.bytes.now c.args.bits c.args.words.now c.requires
@@ -12,37 +20,43 @@ loop-at-init c = scanning_start c.args.bytes.now c.args.bits c.args.words.now c.
 pub returns-then-terms-eq0 : goal.returns-then-terms-eq0
 returns-then-terms-eq0 c = let v = c.loop-at.invariant in (left_over v c.if-terms-eq0.true (omega arith), room_of_length (scanning_length v))
 
-pub returns-in-Early : goal.returns-in-Early
-returns-in-Early c =
-    let v = c.loop-at.invariant in (said_early v c.if-terms-eq0.false c.in-Early.ensures, room_of_length (scanning_length v))
-
-pub loop-at-preserved-in-Abstraction : goal.loop-at-preserved-in-Abstraction
-loop-at-preserved-in-Abstraction c = said_abstraction c.loop-at.invariant c.if-terms-eq0.false c.in-Abstraction.ensures _ c.store.ensures
+pub returns-in_err-first_token : goal.returns-in_err-first_token
+returns-in_err-first_token c =
+    let v = c.loop-at.invariant in
+    let none : c.from_residual.result ≡ None = search rules in
+    rw none (said_early v c.if-terms-eq0.false c.in_err-first_token.ensures, room_of_length (scanning_length v))
 
 pub overflow_add-at : goal.overflow_add-at
-overflow_add-at c = let next = said_abstraction c.loop-at.invariant c.if-terms-eq0.false c.in-Abstraction.ensures _ refl in omega (arith, next.inside)
-
-pub loop-at-preserved-in-Application : goal.loop-at-preserved-in-Application
-loop-at-preserved-in-Application c = said_application c.loop-at.invariant c.if-terms-eq0.false c.in-Application.ensures _ c.store-in-Application.ensures
+overflow_add-at c =
+    let next = said_abstraction c.loop-at.invariant c.if-terms-eq0.false (found c.in_ok-first_token.ensures c.in-Abstraction.is) _ refl in omega (arith, next.inside)
 
 pub overflow_add-at-in-Application : goal.overflow_add-at-in-Application
-overflow_add-at-in-Application c = let next = said_application c.loop-at.invariant c.if-terms-eq0.false c.in-Application.ensures _ refl in omega (arith, next.inside)
+overflow_add-at-in-Application c =
+    let next = said_application c.loop-at.invariant c.if-terms-eq0.false (found c.in_ok-first_token.ensures c.in-Application.is) _ refl in omega (arith, next.inside)
+
+pub overflow_add-at-in-Variable : goal.overflow_add-at-in-Variable
+overflow_add-at-in-Variable c =
+    let next = said_variable c.loop-at.invariant c.if-terms-eq0.false c.in-Variable.index (found c.in_ok-first_token.ensures c.in-Variable.is) _ refl in omega (arith, next.inside)
+
+pub overflow_add-at-in-Variable-2 : goal.overflow_add-at-in-Variable-2
+overflow_add-at-in-Variable-2 c =
+    let next = said_variable c.loop-at.invariant c.if-terms-eq0.false c.in-Variable.index (found c.in_ok-first_token.ensures c.in-Variable.is) _ refl in omega (arith, next.inside)
 
 pub loop-at-preserved : goal.loop-at-preserved
 loop-at-preserved c =
     let l = c.loop-at in
-    said_variable l.invariant c.if-terms-eq0.false c.in-Variable.index c.in-Variable.ensures _ (c.store-in-Variable.ensures ∙ ap (set l.words l.count) c.variable.ensures)
-
-pub overflow_add-at-in-Variable : goal.overflow_add-at-in-Variable
-overflow_add-at-in-Variable c =
-    let next = said_variable c.loop-at.invariant c.if-terms-eq0.false c.in-Variable.index c.in-Variable.ensures _ refl in omega (arith, next.inside)
-
-pub overflow_add-at-in-Variable-2 : goal.overflow_add-at-in-Variable-2
-overflow_add-at-in-Variable-2 c =
-    let next = said_variable c.loop-at.invariant c.if-terms-eq0.false c.in-Variable.index c.in-Variable.ensures _ refl in omega (arith, next.inside)
-
-pub returns-then-terms-eq0-2 : goal.returns-then-terms-eq0-2
-returns-then-terms-eq0-2 c = let v = c.loop-at.invariant in (v.done, whole v c.if-terms-eq0-2.true (omega arith), sym v.length_is, v.put)
+    let n = c.if-terms-eq0.false in
+    let e = c.in_ok-first_token.ensures in
+    elim c.match-branch-2.branch [
+      | in-Abstraction w ↦
+          rw (w.words-is, w.at-is, w.terms-is) (said_abstraction l.invariant n (found e w.in-Abstraction.is) _ (w.store.ensures ∙ ap (set l.words l.count) w.new.ensures))
+      | in-Application w ↦
+          rw (w.words-is, w.at-is, w.terms-is)
+          (said_application l.invariant n (found e w.in-Application.is) _ (w.store-in-Application.ensures ∙ ap (set l.words l.count) w.new-in-Application.ensures))
+      | in-Variable w ↦
+          rw (w.words-is, w.at-is, w.terms-is)
+          (said_variable l.invariant n w.in-Variable.index (found e w.in-Variable.is) _ (w.store-in-Variable.ensures ∙ ap (set l.words l.count) w.variable.ensures))
+    ]
 
 pub returns : goal.returns
-returns c = let v = c.loop-at.invariant in (ended_early v c.if-terms-eq0-2.false (omega arith), room_of_length (scanning_length v))
+returns c = rw c.then_some.ensures (scanned c.loop-at.invariant (omega arith))
