@@ -19,52 +19,51 @@ use records::{Form, count, root};
 use terms::is_term;
 use transcription::reading::{Words, read_term};
 use words::refusal::Refusal;
-use words::result::Result;
 
 // The refusal that is met first, 8 by the most words that there is room for; or the number of words of the term, which stand at the start of the room then.
-pub fn judge(table: &[u32], form: Form, most: usize, room: &mut Words) -> Result
+pub fn judge(table: &[u32], form: Form, most: usize, room: &mut Words) -> Result<usize, Refusal>
     requires { room.old ≡ replicate room_most 0 }
     ensures { Judged (viewed form table.now) (table_checks (stored form table.now) most) room.old (result_of result) room.new }
 {
     if wrong_length(table, form) {
-        return Result::Refused(Refusal::WrongLength);
+        return Err(Refusal::WrongLength);
     }
     if wrong_header(table, form) {
-        return Result::Refused(Refusal::WrongHeader);
+        return Err(Refusal::WrongHeader);
     }
     if most < count(table) {
-        return Result::Refused(Refusal::TooLong);
+        return Err(Refusal::TooLong);
     }
     judge_records(table, form, room)
 }
 
 // The same of the refusals that are about the records.
-fn judge_records(table: &[u32], form: Form, room: &mut Words) -> Result
+fn judge_records(table: &[u32], form: Form, room: &mut Words) -> Result<usize, Refusal>
     requires headed { (wrong_length (stored form table.now) ≡ false) × (wrong_header (stored form table.now) ≡ false) }
     requires zeros { room.old ≡ replicate room_most 0 }
     ensures { Judged (viewed form table.now) (record_checks (viewed form table.now)) room.old (result_of result) room.new }
 {
     if wrong_values(table, form) {
-        return Result::Refused(Refusal::WrongValue);
+        return Err(Refusal::WrongValue);
     }
     if wrong_links(table, form, room) {
-        return Result::Refused(Refusal::WrongLink);
+        return Err(Refusal::WrongLink);
     }
     if wrong_children(table, form) {
-        return Result::Refused(Refusal::WrongChildren);
+        return Err(Refusal::WrongChildren);
     }
     judge_free_numbers(table, form, room)
 }
 
 // The same of refusal 6. Everything else that is asked of a term holds by the refusals before, so the words are no accepted term only by a free number.
-fn judge_free_numbers(table: &[u32], form: Form, room: &mut Words) -> Result
+fn judge_free_numbers(table: &[u32], form: Form, room: &mut Words) -> Result<usize, Refusal>
     requires readable { Readable (stored form table.now) (viewed form table.now).root × (1 ≤ (viewed form table.now).root) }
     requires room { length room.old ≡ room_most }
     ensures { Judged (viewed form table.now) ((WrongFree, wrong_free (viewed form table.now)) ∷ []) room.old (result_of result) room.new }
 {
     let end = read_term(table, form, root(table), room, 0);
-    if is_term(room, end) {
-        return Result::Returned(end);
+    if !is_term(room, end) {
+        return Err(Refusal::WrongFree);
     }
-    Result::Refused(Refusal::WrongFree)
+    Ok(end)
 }

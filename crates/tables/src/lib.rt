@@ -15,38 +15,35 @@ use records::links::ROOM;
 use terms::is_term;
 use transcription::writing::put_table;
 use words::refusal::Refusal;
-use words::result::Result;
 use words::workspace::{hold, wrong_workspace};
 
 // Puts the term that a table means into a workspace, with zeros after it. A refusal changes nothing: the words stand in an array of their own until every
 // check has passed.
-pub fn load(table: &[u32], workspace: &mut [u32]) -> Result
+pub fn load(table: &[u32], workspace: &mut [u32]) -> Result<usize, Refusal>
     ensures { brought_of result workspace.new ≡ load table.now workspace.old }
 {
     if wrong_workspace(workspace.len()) {
-        return Result::Refused(Refusal::WrongWorkspace);
+        return Err(Refusal::WrongWorkspace);
     }
     let mut words = [0u32; ROOM];
-    match judge(table, Form::One, workspace.len(), &mut words) {
-        Result::Refused(refusal) => Result::Refused(refusal),
-        Result::Returned(end) => hold(&words, 0, end, workspace),
-    }
+    let end = judge(table, Form::One, workspace.len(), &mut words)?;
+    hold(&words, 0, end, workspace)
 }
 
 // Writes the term that the first `length` words of a workspace are as a table, with its records in prefix order, and returns their number. A
 // refusal changes nothing.
-pub fn write(workspace: &[u32], length: usize, table: &mut [u32]) -> Result
+pub fn write(workspace: &[u32], length: usize, table: &mut [u32]) -> Result<usize, Refusal>
     ensures { written_of result table.new ≡ write workspace.now length table.old }
 {
     if wrong_workspace(workspace.len()) {
-        return Result::Refused(Refusal::WrongWorkspace);
+        return Err(Refusal::WrongWorkspace);
     }
     if !is_term(workspace, length) {
-        return Result::Refused(Refusal::NoTerm);
+        return Err(Refusal::NoTerm);
     }
     if table.len() != Form::ONE_WORDS * (length + 1) {
-        return Result::Refused(Refusal::WrongLength);
+        return Err(Refusal::WrongLength);
     }
     put_table(&workspace[..length], table);
-    Result::Returned(length)
+    Ok(length)
 }

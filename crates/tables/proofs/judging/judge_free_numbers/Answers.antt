@@ -31,18 +31,18 @@ free : (f : Form) (ws before after : List ℕ) (end : ℕ) {b : Bool} → Readab
 free f ws before after end p room placed e =
     free_in_words (stored f ws) p.0 p.1 before after end (omega (arith, room)) placed ∙ sym (ap not e)
 
-pub returns-then-is_term : goal.returns-then-is_term
-returns-then-is_term c =
+pub returns-then-not-is_term : goal.returns-then-not-is_term
+returns-then-not-is_term c =
+    let T = viewed c.args.form c.args.table.now in
+    let placed = rw c.root.ensures at c.read_term-end.ensures in
+    judged_met WrongFree
+    (rw (free c.args.form c.args.table.now _ _ _ c.requires.readable c.requires.room placed c.is_term.ensures, c.if-not-is_term.true))
+    (room_of_length (placed_length {vs = term_words T T.root} placed))
+
+pub returns : goal.returns
+returns c =
     let p = c.requires.readable in
     let whole = root_length _ p.0 p.1 in
     let placed = rw c.root.ensures at c.read_term-end.ensures in
     judged-read whole (omega (arith, whole, root_short _ p.0 p.1, c.requires.room))
-    (rw (free c.args.form c.args.table.now _ _ _ p c.requires.room placed c.is_term.ensures, c.if-is_term.true)) placed
-
-pub returns : goal.returns
-returns c =
-    let T = viewed c.args.form c.args.table.now in
-    let placed = rw c.root.ensures at c.read_term-end.ensures in
-    judged_met WrongFree
-    (rw (free c.args.form c.args.table.now _ _ _ c.requires.readable c.requires.room placed c.is_term.ensures, c.if-is_term.false))
-    (room_of_length (placed_length {vs = term_words T T.root} placed))
+    (rw (free c.args.form c.args.table.now _ _ _ p c.requires.room placed c.is_term.ensures, c.if-not-is_term.false)) placed
