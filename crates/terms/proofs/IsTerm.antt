@@ -7,6 +7,7 @@ use mathlib.Core.Option.{Option, some, none, Option-elim}
 use native.Mathlib.Omega.{arith}
 use lib.Dec.{leb}
 use lib.ListN.{length, take}
+use lib.Seq.{take-length, take_all, length-take-le}
 use borrow.Author.Tests.{le-leb, lt-leb, leb-true, leb-false}
 use Rattle.calculus.specs.Term.{Term}
 use Rattle.calculus.specs.Words.{workspace_most}
@@ -26,9 +27,15 @@ pub is_term_past : (ws : List ℕ) (n : ℕ) → n ≤ workspace_most → length
 unfolding is_term Option-elim
 is_term_past ws n h g = rw (le-leb n workspace_most h, term_at_past ws n g)
 
-pub is_term-scan : (ws : List ℕ) (n : ℕ) → n ≤ workspace_most → n ≤ length ws → scan whole (take n ws) ≡ is_term ws n
+pub is_term-scan : (ws : List ℕ) → length ws ≤ workspace_most → scan whole ws ≡ is_term ws (length ws)
 unfolding is_term term_at
-is_term-scan ws n h g = rw (le-leb n workspace_most h, le-leb n (length ws) g) (scan_exact (take n ws))
+is_term-scan ws h = rw (le-leb (length ws) workspace_most h, le-leb (length ws) (length ws) (omega arith), take-length ws) (scan_exact ws)
+
+-- The first n words alone.
+pub is_term_first : (ws : List ℕ) (n : ℕ) → n ≤ workspace_most → n ≤ length ws → is_term (take n ws) (length (take n ws)) ≡ is_term ws n
+unfolding is_term term_at
+is_term_first ws n h g =
+    rw (length-take-le n ws g, le-leb n workspace_most h, le-leb n n (omega arith), le-leb n (length ws) g, take_all n (take n ws) (omega (arith, length-take-le n ws g)))
 
 -- In a workspace `is_term` tells exactly whether there is a term.
 pub is_term_some : (ws : List ℕ) (n : ℕ) → is_term ws n ≡ true → (t : Term) × (term_at ws n ≡ some t)

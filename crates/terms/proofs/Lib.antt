@@ -1,5 +1,4 @@
-pub mod Frames
-pub mod Packed
+pub mod Entered
 pub mod Scan
 pub mod Stack
 pub mod IsTerm

@@ -1,15 +1,16 @@
--- The scan with its frames packed on a stack: what the loop of `is_term` keeps, and that a turn keeps it.
+-- The scan with its frames packed in a vector: what the loop of `is_term` keeps, and that a turn keeps it.
 use Prim.Native.Nat.{ℕ, zero, suc, ◌+◌, ◌*◌, ◌/◌, ◌≤◌, ◌<◌}
 use mathlib.Core.Path.{◌≡◌, refl, sym, ◌∙◌, ap}
 use mathlib.Core.Bool.{Bool, true, false, cond, ◌&&◌, false≢true, and-eq-true_iff}
-use mathlib.Core.List.{List, [], ◌∷◌}
+use mathlib.Core.List.{List, [], ◌∷◌, ◌++◌, map, reverse}
 use mathlib.Core.Option.{some, none}
-use native.Mathlib.Nat.{le_refl}
+use Rattle.std.proofs.lemmas.List.{reverse-append, length-reverse, length-map, length-append}
+use Rattle.terms.specs.declared.frame.Frame as codeFrame
 use native.Mathlib.Numerals.{add-one}
 use native.Mathlib.Omega.{arith}
 use lib.Dec.{eqb, eqb-suc-zero}
-use lib.ListN.{length, get_or, take, set, length-set}
-use lib.Seq.{get_or-set_same, get_or-set_other, slice, slice-cons, slice_empty, length-slice}
+use lib.ListN.{length, get_or, drop, length-drop, drop_of_length-le}
+use lib.Seq.{drop-cons}
 use Rattle.calculus.specs.Words.{kind_of, payload_of, workspace_most}
 use Rattle.calculus.specs.Accepted.{argument_limit}
 use Rattle.terms.specs.Frames.{Frame, is_filled, inside_by, inside, allowed, rest_by, rest, entered}
@@ -58,21 +59,15 @@ frames_above ws fs h = go (scan fs ws) refl
     go true e = absurd (omega (arith, frames_within ws fs e))
     go false e = refl
 
--- The first entries of the stack as frames, the last of them in front.
-abbrev pub stacked : ℕ → List ℕ → List Frame
-stacked zero l = []
-stacked (suc k) l = unpacked (get_or l k 0) ∷ stacked k l
+-- The frames of a vector, the last of it in front.
+abbrev pub stacked : List codeFrame.Frame → List Frame
+stacked xs = map (λ x. unpacked x.0) (reverse xs)
 
-stacked_length : (k : ℕ) (l : List ℕ) → length (stacked k l) ≡ k
-stacked_length zero l = refl
-stacked_length (suc k) l = ap suc (stacked_length k l)
+stacked_length : (xs : List codeFrame.Frame) → length (stacked xs) ≡ length xs
+stacked_length xs = simp (length-map, length-reverse)
 
-stacked_set : (k j : ℕ) (l : List ℕ) (w : ℕ) → k ≤ j → stacked k (set l j w) ≡ stacked k l
-stacked_set zero j l w h = refl
-stacked_set (suc k) j l w h = rw (get_or-set_other l j k w 0 (omega arith), stacked_set k j l w (omega arith))
-
-stacked_more : (k : ℕ) (l : List ℕ) (w : ℕ) → k < length l → stacked (k + 1) (set l k w) ≡ unpacked w ∷ stacked k l
-stacked_more k l w h = rw (add-one, get_or-set_same l k w 0 h, stacked_set k k l w (le_refl k))
+stacked_more : (xs : List codeFrame.Frame) (x : codeFrame.Frame) → stacked (xs ++ x ∷ []) ≡ unpacked x.0 ∷ stacked xs
+stacked_more xs x = rw reverse-append
 
 -- Something is to come at each of the frames, and none is under more than m binders.
 abbrev pub Waiting : ℕ → List Frame → Type 0
@@ -92,20 +87,21 @@ rest_depth (suc n) b d t p = refl
 abbrev pub room : ℕ
 room = workspace_most / 2
 
--- The loop's invariant: the scan of the words that are left, with the current frame f and those on the stack, answers as that of all words does. A
+-- The loop's invariant: the scan of the words that are left, with the current frame f and those that wait, answers as that of all words does. A
 -- word adds at most one frame, and `argument_limit` binders.
-pub record Scanning (ws : List ℕ) (n : ℕ) (stack : List ℕ) (top f i : ℕ) : Type 0 where
-  pub within : i ≤ n
-  pub each : top ≤ i
-  pub full : length stack ≡ room
-  pub fits : top ≤ room
+pub record Scanning (ws : List ℕ) (waiting : List codeFrame.Frame) (f i : ℕ) : Type 0 where
+  pub each : length waiting ≤ i
   pub shallow : (unpacked f).depth ≤ i * argument_limit
-  pub waiting : Waiting (i * argument_limit) (stacked top stack)
-  pub left : scan (push (unpacked f) (stacked top stack)) (slice i n ws) ≡ scan whole (take n ws)
+  pub waits : Waiting (i * argument_limit) (stacked waiting)
+  pub left : scan (push (unpacked f) (stacked waiting)) (drop i ws) ≡ scan whole ws
 
-pub scanning_starts : (ws : List ℕ) (n : ℕ) (stack : List ℕ) → length stack ≡ room → Scanning ws n stack 0 1 0
-scanning_starts ws n stack h =
-    record { within = omega arith; each = omega arith; full = h; fits = omega arith; shallow = omega arith; waiting = tt; left = refl }
+-- The same where something is to come at the current frame.
+pub record Opened (ws : List ℕ) (waiting : List codeFrame.Frame) (f i : ℕ) : Type 0 where
+  pub kept : Scanning ws waiting f i
+  pub unfilled : is_filled (unpacked f) ≡ false
+
+pub scanning_starts : (ws : List ℕ) → Scanning ws [] 1 0
+scanning_starts ws = record { each = omega arith; shallow = omega arith; waits = tt; left = refl }
 
 -- What a word comes to at a frame.
 pub entered_some : (f s : Frame) (w : ℕ) → some s ≡ entered f w → (allowed f w ≡ true) × (s ≡ inside f.depth w)
@@ -122,69 +118,67 @@ entered_none f w = go (allowed f w) refl
     go true e q = absurd (let z : ◌≡◌ {A = ℕ} 0 1 = cc in omega arith)
     go false e q = e
 
-module _ {ws : List ℕ} {n : ℕ} {stack : List ℕ} {top f i : ℕ} (state : Scanning ws n stack top f i) where
+module _ {ws : List ℕ} {waiting : List codeFrame.Frame} {f i : ℕ} (state : Scanning ws waiting f i) where
   -- At the end the scan succeeds if no frame is left.
-  ended : n ≤ i → scan (push (unpacked f) (stacked top stack)) [] ≡ scan whole (take n ws)
-  ended past = let e : i ≡ n = omega (arith, state.within) in rw (e, slice_empty) at state.left
+  ended : length ws ≤ i → scan (push (unpacked f) (stacked waiting)) [] ≡ scan whole ws
+  ended past = rw (drop_of_length-le ws past) at state.left
 
-  pub ends_stacked : (top ≡ 0 → ⊥) → n ≤ i → false ≡ scan whole (take n ws)
-  ends_stacked h past =
-      frames_above [] (push (unpacked f) (stacked top stack)) (omega (arith, push_longer (unpacked f) (stacked top stack), stacked_length top stack))
-      ∙ ended past
-
-  pub ends_empty : top ≡ 0 → n ≤ i → is_filled (unpacked f) ≡ scan whole (take n ws)
+  pub ends_open : is_filled (unpacked f) ≡ false → length ws ≤ i → false ≡ scan whole ws
   unfolding scan
-  ends_empty h past = go (is_filled (unpacked f)) refl (rw h at (ended past))
+  ends_open q past = rw (push_open (unpacked f) (stacked waiting) q) at (ended past)
+
+  pub ends_filled : is_filled (unpacked f) ≡ true → length ws ≤ i → eqb (length waiting) 0 ≡ scan whole ws
+  unfolding scan
+  ends_filled q past = go (stacked waiting) (stacked_length waiting) (rw (push_filled (unpacked f) (stacked waiting) q) at (ended past))
     where
-      go : (b : Bool) → is_filled (unpacked f) ≡ b → scan (push (unpacked f) []) [] ≡ scan whole (take n ws) → b ≡ scan whole (take n ws)
-      go true e q = rw (push_filled (unpacked f) [] e) at q
-      go false e q = rw (push_open (unpacked f) [] e) at q
+      go : (fs : List Frame) → length fs ≡ length waiting → scan fs [] ≡ scan whole ws → eqb (length waiting) 0 ≡ scan whole ws
+      go [] e r = rw (← e) r
+      go (g ∷ fs) e r = rw (← e, eqb-suc-zero) r
 
-  -- The current frame is filled: the next one is that on top of the stack.
-  pub filled_more : is_filled (unpacked f) ≡ true → top ≡ 0 → i < n → n ≤ length ws → false ≡ scan whole (take n ws)
+  -- The current frame is filled: the next one is the last that waits.
+  pub filled_more : is_filled (unpacked f) ≡ true → waiting ≡ [] → i < length ws → false ≡ scan whole ws
   unfolding scan
-  filled_more q empty more given =
-      rw (push_filled (unpacked f) (stacked top stack) q, empty, slice-cons i n ws 0 more given) at state.left
+  filled_more q empty more =
+      rw (push_filled (unpacked f) (stacked waiting) q, empty, drop-cons ws i 0 more) at state.left
 
-  pub popped : is_filled (unpacked f) ≡ true → (k : ℕ) → top ≡ suc k → Scanning ws n stack k (get_or stack k 0) i
-  popped q k e =
-      let w : Waiting (i * argument_limit) (stacked (suc k) stack) = rw e at state.waiting in
+  pub popped : is_filled (unpacked f) ≡ true → (xs : List codeFrame.Frame) (x : codeFrame.Frame) → waiting ≡ xs ++ x ∷ [] → Opened ws xs x.0 i
+  popped q xs x e =
+      let p : stacked waiting ≡ unpacked x.0 ∷ stacked xs = rw e (stacked_more xs x) in
+      let w : Waiting (i * argument_limit) (unpacked x.0 ∷ stacked xs) = rw p at state.waits in
+      let more : length waiting ≡ length xs + 1 = rw (e, length-append) in
       record {
-        within = state.within;
-        each = omega (arith, state.each);
-        full = state.full;
-        fits = omega (arith, state.fits);
-        shallow = w.0;
-        waiting = w.2;
-        left =
-            rw (push_open (unpacked (get_or stack k 0)) (stacked k stack) w.1)
-            (rw (push_filled (unpacked f) (stacked top stack) q, e) at state.left);
+        unfilled = w.1;
+        kept = record {
+          each = omega (arith, state.each, more);
+          shallow = w.0;
+          waits = w.2;
+          left = rw (push_open (unpacked x.0) (stacked xs) w.1) (rw (push_filled (unpacked f) (stacked waiting) q, p) at state.left);
+        };
       }
 
   -- Something is to come at the current frame: a turn reads a word.
-  module _ (unfilled : is_filled (unpacked f) ≡ false) (more : i < n) (given : n ≤ length ws) where
-    pub turn : scan whole (take n ws) ≡ (allowed (unpacked f) (get_or ws i 0) && scan (after (unpacked f) (get_or ws i 0) (stacked top stack)) (slice (i + 1) n ws))
+  module _ (unfilled : is_filled (unpacked f) ≡ false) (more : i < length ws) where
+    pub turn : scan whole ws ≡ (allowed (unpacked f) (get_or ws i 0) && scan (after (unpacked f) (get_or ws i 0) (stacked waiting)) (drop (i + 1) ws))
     unfolding scan
-    turn = sym state.left ∙ rw (push_open (unpacked f) (stacked top stack) unfilled, add-one, slice-cons i n ws 0 more given)
+    turn = sym state.left ∙ rw (push_open (unpacked f) (stacked waiting) unfilled, add-one, drop-cons ws i 0 more)
 
-    pub turn_refused : allowed (unpacked f) (get_or ws i 0) ≡ false → false ≡ scan whole (take n ws)
+    pub turn_refused : allowed (unpacked f) (get_or ws i 0) ≡ false → false ≡ scan whole ws
     turn_refused q = sym (turn ∙ rw q)
 
 -- The word at i is allowed at the frame f: s is to come after it, and then r, what is left of the frame.
-pub record Turns (ws : List ℕ) (n f i r s : ℕ) : Type 0 where
+pub record Turns (ws : List ℕ) (f i r s : ℕ) : Type 0 where
   pub unfilled : is_filled (unpacked f) ≡ false
-  pub more : i < n
-  pub given : n ≤ length ws
+  pub more : i < length ws
   pub is_rest : unpacked r ≡ rest (unpacked f) (get_or ws i 0)
   pub is_inside : unpacked s ≡ inside (unpacked f).depth (get_or ws i 0)
   pub allows : allowed (unpacked f) (get_or ws i 0) ≡ true
 
-module _ {ws : List ℕ} {n : ℕ} {stack : List ℕ} {top f i r s : ℕ} (state : Scanning ws n stack top f i) (t : Turns ws n f i r s) where
-  on : scan (push (unpacked s) (push (unpacked r) (stacked top stack))) (slice (i + 1) n ws) ≡ scan whole (take n ws)
+module _ {ws : List ℕ} {waiting : List codeFrame.Frame} {f i r s : ℕ} (state : Scanning ws waiting f i) (t : Turns ws f i r s) where
+  on : scan (push (unpacked s) (push (unpacked r) (stacked waiting))) (drop (i + 1) ws) ≡ scan whole ws
   on =
-      ap (λ h. scan (push h (push (unpacked r) (stacked top stack))) (slice (i + 1) n ws)) t.is_inside
-      ∙ ap (λ h. scan (push (inside (unpacked f).depth (get_or ws i 0)) (push h (stacked top stack))) (slice (i + 1) n ws)) t.is_rest
-      ∙ sym (rw t.allows at (turn state t.unfilled t.more t.given))
+      ap (λ h. scan (push h (push (unpacked r) (stacked waiting))) (drop (i + 1) ws)) t.is_inside
+      ∙ ap (λ h. scan (push (inside (unpacked f).depth (get_or ws i 0)) (push h (stacked waiting))) (drop (i + 1) ws)) t.is_rest
+      ∙ sym (rw t.allows at (turn state t.unfilled t.more))
 
   rest_shallow : (unpacked r).depth ≤ (i + 1) * argument_limit
   rest_shallow =
@@ -197,50 +191,42 @@ module _ {ws : List ℕ} {n : ℕ} {stack : List ℕ} {top f i r s : ℕ} (state
       let w = get_or ws i 0 in
       omega (arith, ap (λ h. h.depth) t.is_inside, binding_few (kind_of w) (payload_of w), state.shallow)
 
-  waits : Waiting ((i + 1) * argument_limit) (stacked top stack)
-  waits = waiting_more _ _ (stacked top stack) (omega arith) state.waiting
+  waits_on : Waiting ((i + 1) * argument_limit) (stacked waiting)
+  waits_on = waiting_more _ _ (stacked waiting) (omega arith) state.waits
 
-  pub turn_on : is_filled (unpacked s) ≡ true → Scanning ws n stack top r (i + 1)
+  pub turn_on : is_filled (unpacked s) ≡ true → Scanning ws waiting r (i + 1)
   turn_on q =
       record {
-        within = omega (arith, t.more);
         each = omega (arith, state.each);
-        full = state.full;
-        fits = state.fits;
         shallow = rest_shallow;
-        waiting = waits;
-        left = rw (push_filled (unpacked s) (push (unpacked r) (stacked top stack)) q) at on;
+        waits = waits_on;
+        left = rw (push_filled (unpacked s) (push (unpacked r) (stacked waiting)) q) at on;
       }
 
-  pub turn_in : is_filled (unpacked r) ≡ true → Scanning ws n stack top s (i + 1)
+  pub turn_in : is_filled (unpacked r) ≡ true → Scanning ws waiting s (i + 1)
   turn_in q =
       record {
-        within = omega (arith, t.more);
         each = omega (arith, state.each);
-        full = state.full;
-        fits = state.fits;
         shallow = inside_shallow;
-        waiting = waits;
-        left = rw (push_filled (unpacked r) (stacked top stack) q) at on;
+        waits = waits_on;
+        left = rw (push_filled (unpacked r) (stacked waiting) q) at on;
       }
 
-  module _ (waits-too : is_filled (unpacked r) ≡ false) where
-    pub turn_pushes : top < room → Scanning ws n (set stack top r) (top + 1) s (i + 1)
-    turn_pushes h =
-        let e = stacked_more top stack r (omega (arith, state.full)) in
+  module _ (waits_too : is_filled (unpacked r) ≡ false) where
+    pub turn_pushes : (xs : List codeFrame.Frame) (x : codeFrame.Frame) → x.0 ≡ r → xs ≡ waiting ++ x ∷ [] → Scanning ws xs s (i + 1)
+    turn_pushes xs x is e =
+        let p : stacked xs ≡ unpacked r ∷ stacked waiting = rw (e, ← is) (stacked_more waiting x) in
+        let more : length xs ≡ length waiting + 1 = rw (e, length-append) in
         record {
-          within = omega (arith, t.more);
-          each = omega (arith, state.each);
-          full = simp length-set state.full;
-          fits = omega arith;
+          each = omega (arith, state.each, more);
           shallow = inside_shallow;
-          waiting = rw e (rest_shallow, waits-too, waits);
-          left = rw e (rw (push_open (unpacked r) (stacked top stack) waits-too) at on);
+          waits = rw p (rest_shallow, waits_too, waits_on);
+          left = rw p (rw (push_open (unpacked r) (stacked waiting) waits_too) at on);
         }
 
     -- There are more frames than words.
-    pub turn_full : is_filled (unpacked s) ≡ false → top ≡ room → n ≤ workspace_most → false ≡ scan whole (take n ws)
+    pub turn_full : is_filled (unpacked s) ≡ false → length waiting ≡ room → length ws ≤ workspace_most → false ≡ scan whole ws
     turn_full q h most =
-        frames_above (slice (i + 1) n ws) (unpacked s ∷ unpacked r ∷ stacked top stack)
-        (omega (arith, length-slice (i + 1) n ws t.given, stacked_length top stack, state.each))
-        ∙ (rw (push_open (unpacked s) (push (unpacked r) (stacked top stack)) q, push_open (unpacked r) (stacked top stack) waits-too) at on)
+        frames_above (drop (i + 1) ws) (unpacked s ∷ unpacked r ∷ stacked waiting)
+        (omega (arith, length-drop (i + 1) ws, stacked_length waiting, state.each))
+        ∙ (rw (push_open (unpacked s) (push (unpacked r) (stacked waiting)) q, push_open (unpacked r) (stacked waiting) waits_too) at on)

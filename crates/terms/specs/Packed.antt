@@ -1,10 +1,10 @@
 -- A frame in one word of 32 bits: the terms to come lowest, above them the branches, the least tag and the number of binders.
-use Rattle.std.specs.Prelude.{ℕ, suc, ◌/◌, ◌%◌, ◌^◌, ◌≤◌, ◌<◌}
+use Rattle.std.specs.Prelude.{ℕ, suc, ◌/◌, ◌%◌, ◌^◌, ◌≤◌, ◌<◌, Some, None}
+use Rattle.std.specs.Prelude as codeOption
 use Rattle.std.proofs.Math.Option.{Option, some, none}
 use Rattle.calculus.specs.Accepted.{tag_limit, argument_limit, branch_limit}
 use Rattle.terms.specs.Frames.{Frame, frame}
-use Rattle.terms.specs.declared.frame.Entered.{Entered}
-use Rattle.terms.specs.declared.frame.Entered.TheVariants as entered
+use Rattle.terms.specs.declared.frame.Frame as codeFrame
 
 abbrev pub terms_base : ℕ
 terms_base = 16
@@ -31,6 +31,6 @@ pub record Packs (terms branches depth least : ℕ) : Type 0 where
   pub least_fits : least ≤ suc tag_limit
 
 -- What a word comes to at a frame, as the code answers it.
-abbrev pub entered_of : Entered → Option Frame
-entered_of entered.Nowhere = none
-entered_of (entered.Inside f) = some (unpacked f.0)
+abbrev pub entered_of : codeOption.Option codeFrame.Frame → Option Frame
+entered_of None = none
+entered_of (Some f) = some (unpacked f.0)

@@ -7,19 +7,16 @@ ghost use Rattle.terms.specs.Frames.{depth_limit, frame, is_filled, allowed, res
 ghost use Rattle.terms.specs.Packed.{unpacked, Packs, entered_of};
 
 use words::Word;
+use words::kind::Kind;
 use words::payload::payload_fits;
 
 // So many terms, then so many branches whose tags rise, the first one at least `least`, all under so many binders: four numbers in one word, the terms
 // lowest.
-#[derive(Clone, Copy)]
+#[derive(Clone, Copy, Default)]
 pub struct Frame(pub u32);
 
-// What a word comes to at a frame: it may not stand there, or it leads to the frame of what follows it.
-#[derive(Clone, Copy)]
-pub enum Entered {
-    Nowhere,
-    Inside(Frame),
-}
+// The most frames that wait in a term of a workspace.
+pub const ROOM: usize = Word::WORKSPACE_MOST / 2;
 
 impl Frame {
     // Above the terms stand the branches, above them the least tag, and above it the binders.
@@ -31,9 +28,6 @@ impl Frame {
 
     // One term under no binder.
     pub const WHOLE: Frame = Frame(1);
-
-    // The most frames that wait in a term of a workspace.
-    pub const ROOM: usize = Word::WORKSPACE_MOST / 2;
 
     fn new(terms: u32, branches: u32, depth: u32, least: u32) -> Frame
         requires { Packs terms branches depth least }
@@ -71,14 +65,11 @@ impl Frame {
     pub fn is_filled(self) -> bool
         ensures { result ≡ is_filled (unpacked self.0) }
     {
-        if self.terms() == 0 {
-            return self.branches() == 0;
-        }
-        false
+        self.terms() == 0 && self.branches() == 0
     }
 
-    // What the word comes to as the next one.
-    pub fn enter(self, word: Word) -> Entered
+    // The frame of what follows the word, or none where it may not come next.
+    pub fn enter(self, word: Word) -> Option<Frame>
         requires { (unpacked self.0).depth ≤ depth_limit }
         ensures { entered_of result ≡ entered (unpacked self.0) word.0 }
     {
@@ -88,7 +79,7 @@ impl Frame {
         if self.branches() > 0 {
             return enter_branch(word, self.depth(), self.least());
         }
-        Entered::Nowhere
+        None
     }
 
     // What is to come after the item that the word starts.
@@ -104,73 +95,48 @@ impl Frame {
     }
 }
 
-// The frame, where the word before it is allowed.
-fn inside_if(allowed: bool, inside: Frame) -> Entered
-    ensures { entered_of result ≡ cond allowed (some (unpacked inside.0)) none }
-{
-    if allowed {
-        return Entered::Inside(inside);
-    }
-    Entered::Nowhere
-}
-
 // The word as the first one of a term under `depth` binders.
-fn enter_term(word: Word, depth: u32) -> Entered
+fn enter_term(word: Word, depth: u32) -> Option<Frame>
     requires { depth ≤ depth_limit }
     ensures { entered_of result ≡ entered_by (starts_term depth (kind_of word.0) (payload_of word.0)) depth word.0 }
 {
+    let kind = word.kind();
     let payload = word.payload();
-    match word.kind() {
-        Word::VARIABLE => inside_if(
-            payload <= depth + Word::FREE_MOST,
-            Frame::new(0, 0, depth, 0),
-        ),
-        Word::ABSTRACTION => inside_if(
-            payload_fits(Word::ABSTRACTION, payload),
-            Frame::new(1, 0, depth + 1, 0),
-        ),
-        Word::APPLICATION => inside_if(
-            payload_fits(Word::APPLICATION, payload),
-            Frame::new(2, 0, depth, 0),
-        ),
-        Word::CONSTRUCTOR => inside_if(
-            payload_fits(Word::CONSTRUCTOR, payload),
-            Frame::new(word.count(), 0, depth, 0),
-        ),
-        Word::CASE => {
-            if payload_fits(Word::CASE, payload) {
-                return Entered::Inside(Frame::new(1, payload, depth, 0));
-            }
-            Entered::Nowhere
+    let fits = payload_fits(kind as u32, payload);
+    match kind {
+        Kind::Variable => {
+            let in_range = payload <= depth + Word::FREE_MOST;
+            in_range.then_some(Frame::new(0, 0, depth, 0))
         }
-        Word::NUMERAL => inside_if(
-            payload_fits(Word::NUMERAL, payload),
-            Frame::new(0, 0, depth, 0),
-        ),
-        _ => Entered::Nowhere,
+        Kind::Abstraction => fits.then_some(Frame::new(1, 0, depth + 1, 0)),
+        Kind::Application => fits.then_some(Frame::new(2, 0, depth, 0)),
+        Kind::Constructor => fits.then_some(Frame::new(word.count(), 0, depth, 0)),
+        Kind::Case => {
+            if !fits {
+                return None;
+            }
+            Some(Frame::new(1, payload, depth, 0))
+        }
+        Kind::Numeral => fits.then_some(Frame::new(0, 0, depth, 0)),
+        Kind::Branch | Kind::Unassigned => None,
     }
 }
 
 // The word as that of a branch under `depth` binders, of a tag that is at least `least`.
-fn enter_branch(word: Word, depth: u32, least: u32) -> Entered
+fn enter_branch(word: Word, depth: u32, least: u32) -> Option<Frame>
     requires { depth ≤ depth_limit }
     ensures { entered_of result ≡ entered_by (starts_branch least (kind_of word.0) (payload_of word.0)) depth word.0 }
 {
-    if word.kind() == Word::BRANCH {
-        return inside_if(
-            pattern_from(word, least),
-            Frame::new(1, 0, depth + word.count(), 0),
-        );
+    if word.kind() != Kind::Branch {
+        return None;
     }
-    Entered::Nowhere
+    let frame = Frame::new(1, 0, depth + word.count(), 0);
+    pattern_from(word, least).then_some(frame)
 }
 
 // Whether a branch may have the payload of the word, with a tag that is at least `least`.
 fn pattern_from(word: Word, least: u32) -> bool
     ensures { result ≡ (leb least (tag_of (payload_of word.0)) && payload_fits branch_kind (payload_of word.0)) }
 {
-    if word.tag() < least {
-        return false;
-    }
-    payload_fits(Word::BRANCH, word.payload())
+    least <= word.tag() && payload_fits(Kind::Branch as u32, word.payload())
 }

@@ -1,73 +1,86 @@
--- `is_whole` meets its contract: the loop is the scan for one whole term, with its frames on the stack.
-use Prim.Native.Nat.{ℕ, ◌≤◌, ◌<◌}
+-- `is_whole` meets its contract: the loop is the scan for one whole term, with the frames that wait in a vector.
 use Rattle.terms.proofs.IsTerm.{is_term-scan}
-use Rattle.terms.proofs.Scan.{scan, whole}
-use Rattle.terms.proofs.Stack.{Turns, entered_some, entered_none, ends_stacked, ends_empty, filled_more}
+use borrow.Author.Tests.{eqb-true}
+use Rattle.terms.proofs.Stack.{room, Opened, Turns, popped, entered_some, entered_none, ends_open, ends_filled, filled_more}
 use Rattle.terms.proofs.Stack.{turn_refused, turn_on, turn_in, turn_pushes, turn_full}
-use Rattle.terms.specs.Frames.{is_filled, rest, entered}
-use Rattle.terms.specs.IsTerm.{is_term}
+use Rattle.terms.specs.Frames.{is_filled}
 use Rattle.terms.specs.Packed.{unpacked}
-use lib.ListN.{length, get_or, take}
-use mathlib.Core.List.{List}
-use mathlib.Core.Option.{some}
-use Rattle.calculus.specs.Words.{workspace_most}
-use mathlib.Core.Bool.{false}
-use mathlib.Core.Path.{◌≡◌, sym, ◌∙◌}
+use lib.ListN.{length, get_or}
+use Rattle.terms.specs.declared.frame.Frame as codeFrame
+use mathlib.Core.List.{List, [], ◌∷◌}
+use mathlib.Core.Bool.{true, false, false≢true}
+use mathlib.Core.Path.{◌≡◌, refl, sym, ◌∙◌}
 use native.Mathlib.Omega.{arith}
 use Rattle.terms.proofs.is_whole.Goals as goal
+use Rattle.terms.proofs.is_whole.Goals.{then-is_filled+in-Some, else-is_filled, then-not-is_filled+else-is_full, else-not-is_filled, Joined-is_filled, After-rest-rest}
+use Prim.Native.Nat.{◌<◌}
 
-scanned : (ws : List ℕ) (n : ℕ) → (n ≤ workspace_most) × (n ≤ length ws) → scan whole (take n ws) ≡ is_term ws n
-scanned ws n h = is_term-scan ws n h.0 h.1
+no_items : (xs : List codeFrame.Frame) → (false ≡ true → 0 < length xs) × (0 < length xs → false ≡ true) → xs ≡ []
+no_items [] h = refl
+no_items (x ∷ xs) h = absurd (false≢true (h.1 (omega arith)))
 
--- The word that a turn reads leads to the frame s, and r is left of the frame f.
-turns : (ws : List ℕ) (n f i r s : ℕ) → is_filled (unpacked f) ≡ false → i < n → n ≤ length ws
-    → unpacked r ≡ rest (unpacked f) (get_or ws i 0) → some (unpacked s) ≡ entered (unpacked f) (get_or ws i 0) → Turns ws n f i r s
-turns ws n f i r s unfilled more given is_rest led =
-    let told = entered_some (unpacked f) (unpacked s) (get_or ws i 0) led in
-    record { unfilled = unfilled; more = more; given = given; is_rest = is_rest; is_inside = told.1; allows = told.0 }
+-- The current frame, once a filled one has made room for the next.
+opened : (c : Joined-is_filled) → Opened c.args.ws.now c.if-is_filled.waiting.items c.if-is_filled.frame.0 c.loop-w.w-index
+opened c =
+    elim c.if-is_filled.branch [
+      | then-is_filled+in-Some w ↦
+          rw (w.waiting-is, w.frame-is)
+          (popped c.loop-w.invariant (sym w.if-is_filled.ensures) w.pop.new.self.items w.in-Some.next w.in-Some.ensures.items)
+      | else-is_filled w ↦
+          rw (w.waiting-is, w.frame-is) (record { kept = c.loop-w.invariant; unfilled = sym w.if-is_filled.ensures })
+    ]
 
-pub returns-then-top-eq0 : goal.returns-then-top-eq0
-returns-then-top-eq0 c =
-    filled_more c.loop-i.invariant (sym c.is_filled.ensures ∙ c.if-is_filled.true) c.if-top-eq0.true c.loop-i-test.true c.requires.1
-    ∙ scanned _ _ c.requires
+-- The word that a turn reads leads to a frame, and the rest is left of the current one.
+turns : (c : After-rest-rest) → is_filled (unpacked c.if-is_filled.frame.0) ≡ false
+    → Turns c.args.ws.now c.if-is_filled.frame.0 c.loop-w.w-index c.rest-rest.result.0 c.in-Some-enter.inside.0
+turns c unfilled =
+    let told = entered_some (unpacked c.if-is_filled.frame.0) (unpacked c.in-Some-enter.inside.0) (get_or c.args.ws.now c.loop-w.w-index 0) c.in-Some-enter.ensures in
+    record {
+      unfilled = unfilled;
+      more = c.loop-w-test.true;
+      is_rest = c.rest-rest.ensures;
+      is_inside = told.1;
+      allows = told.0;
+    }
 
 pub returns-in_default : goal.returns-in_default
 returns-in_default c =
-    turn_refused c.loop-i.invariant (sym c.is_filled.ensures ∙ c.if-is_filled.false) c.loop-i-test.true c.requires.1
-    (entered_none (unpacked c.loop-i.frame.0) (get_or c.args.ws.now c.loop-i.i 0) c.in_default.ensures)
-    ∙ scanned _ _ c.requires
+    filled_more c.loop-w.invariant (sym c.if-is_filled.ensures) (no_items c.loop-w.waiting.items c.in_default.ensures.variant) c.loop-w-test.true
+    ∙ is_term-scan c.args.ws.now c.requires
 
-pub loop-i-preserved-then-is_filled-2 : goal.loop-i-preserved-then-is_filled-2
-loop-i-preserved-then-is_filled-2 c =
-    turn_on c.loop-i.invariant
-    (turns _ _ _ _ c.rest-rest.result.0 c.in-Inside.inside.0 (sym c.is_filled.ensures ∙ c.if-is_filled.false) c.loop-i-test.true c.requires.1 c.rest-rest.ensures c.in-Inside.ensures)
-    (sym c.is_filled-in-loop-i.ensures ∙ c.if-is_filled-2.true)
+pub returns-in_default-enter : goal.returns-in_default-enter
+returns-in_default-enter c =
+    let o = opened (goal.at.returns-in_default-enter c).Joined-is_filled in
+    turn_refused o.kept o.unfilled c.loop-w-test.true (entered_none (unpacked c.if-is_filled.frame.0) _ c.in_default-enter.ensures)
+    ∙ is_term-scan c.args.ws.now c.requires
 
-pub returns-then-top-eq-ROOM : goal.returns-then-top-eq-ROOM
-returns-then-top-eq-ROOM c =
-    turn_full c.loop-i.invariant
-    (turns _ _ _ _ c.rest-rest.result.0 c.in-Inside.inside.0 (sym c.is_filled.ensures ∙ c.if-is_filled.false) c.loop-i-test.true c.requires.1 c.rest-rest.ensures c.in-Inside.ensures)
-    (sym c.is_filled-in-loop-i-2.ensures ∙ c.if-not-is_filled.true)
-    (sym c.is_filled-in-loop-i.ensures ∙ c.if-is_filled-2.false)
-    c.if-top-eq-ROOM.true c.requires.0
-    ∙ scanned _ _ c.requires
+pub loop-w-preserved-then-is_filled-2 : goal.loop-w-preserved-then-is_filled-2
+loop-w-preserved-then-is_filled-2 c =
+    let o = opened (goal.at.loop-w-preserved-then-is_filled-2 c).Joined-is_filled in
+    let t = turns (goal.at.loop-w-preserved-then-is_filled-2 c).After-rest-rest o.unfilled in
+    turn_on o.kept t (sym c.if-is_filled-2.ensures)
 
-pub loop-i-preserved-then-not-is_filled : goal.loop-i-preserved-then-not-is_filled
-loop-i-preserved-then-not-is_filled c =
-    turn_pushes c.loop-i.invariant
-    (turns _ _ _ _ c.rest-rest.result.0 c.in-Inside.inside.0 (sym c.is_filled.ensures ∙ c.if-is_filled.false) c.loop-i-test.true c.requires.1 c.rest-rest.ensures c.in-Inside.ensures)
-    (sym c.is_filled-in-loop-i-2.ensures ∙ c.if-not-is_filled.true)
-    (omega (arith, c.loop-i.invariant.fits, c.if-top-eq-ROOM.false))
+pub returns-then-is_full : goal.returns-then-is_full
+returns-then-is_full c =
+    let o = opened (goal.at.returns-then-is_full c).Joined-is_filled in
+    let t = turns (goal.at.returns-then-is_full c).After-rest-rest o.unfilled in
+    turn_full o.kept t (sym c.if-not-is_filled.ensures) (sym c.if-is_filled-2.ensures) (eqb-true _ room (sym c.if-is_full.ensures.value)) c.requires
+    ∙ is_term-scan c.args.ws.now c.requires
 
-pub loop-i-preserved : goal.loop-i-preserved
-loop-i-preserved c =
-    turn_in c.loop-i.invariant
-    (turns _ _ _ _ c.rest-rest.result.0 c.in-Inside.inside.0 (sym c.is_filled.ensures ∙ c.if-is_filled.false) c.loop-i-test.true c.requires.1 c.rest-rest.ensures c.in-Inside.ensures)
-    (sym c.is_filled-in-loop-i-2.ensures ∙ c.if-not-is_filled.false)
+pub loop-w-preserved : goal.loop-w-preserved
+loop-w-preserved c =
+    let o = opened (goal.at.loop-w-preserved c).Joined-is_filled in
+    let t = turns (goal.at.loop-w-preserved c).After-rest-rest o.unfilled in
+    elim c.if-not-is_filled.branch [
+      | then-not-is_filled+else-is_full w ↦
+          rw w.waiting-is (turn_pushes o.kept t (sym w.if-not-is_filled.ensures) _ c.rest-rest.result refl w.push.ensures.items)
+      | else-not-is_filled w ↦ rw w.waiting-is (turn_in o.kept t (sym w.if-not-is_filled.ensures))
+    ]
 
-pub returns-then-top-eq0-2 : goal.returns-then-top-eq0-2
-returns-then-top-eq0-2 c =
-    c.is_filled-then-top-eq0-2.ensures ∙ ends_empty c.loop-i.invariant c.if-top-eq0-2.true c.loop-i-test.false ∙ scanned _ _ c.requires
+pub returns-then-is_filled-3 : goal.returns-then-is_filled-3
+returns-then-is_filled-3 c =
+    c.is_empty.ensures ∙ ends_filled c.loop-w.invariant (sym c.if-is_filled-3.ensures) c.loop-w-test.false ∙ is_term-scan c.args.ws.now c.requires
 
-pub returns : goal.returns
-returns c = ends_stacked c.loop-i.invariant c.if-top-eq0-2.false c.loop-i-test.false ∙ scanned _ _ c.requires
+pub returns-else-is_filled-3 : goal.returns-else-is_filled-3
+returns-else-is_filled-3 c =
+    c.if-is_filled-3.false ∙ ends_open c.loop-w.invariant (sym c.if-is_filled-3.ensures) c.loop-w-test.false ∙ is_term-scan c.args.ws.now c.requires

@@ -1,64 +1,67 @@
 -- `enter_term` meets its contract: in each arm the kind is known, and what the word comes to computes there.
 use Rattle.calculus.proofs.PayloadLaws.{case_most}
+use Rattle.calculus.specs.Payload.{payload_fits}
 use Rattle.calculus.specs.Skip.{following}
-use Rattle.terms.proofs.Frames.{starts_none}
+use Rattle.terms.proofs.Entered.{entered_if}
 use Rattle.terms.specs.Frames.{inside_by, starts_term}
 use Rattle.words.specs.Bound.{binding}
-use Rattle.calculus.specs.Words.{payload_of}
+use mathlib.Core.Logic.{inl, inr}
 use mathlib.Core.Option.{some}
 use mathlib.Core.Path.{sym, ◌∙◌, ap}
 use native.Mathlib.Nat.{add-zero}
 use native.Mathlib.Omega.{arith}
 use Rattle.terms.proofs.frame.enter_term.Goals as goal
 
-pub new-requires-then-payload_fits : goal.new-requires-then-payload_fits
-new-requires-then-payload_fits c =
-    let most = case_most _ (sym c.payload_fits-in-4.ensures ∙ c.if-payload_fits.true) in
-    record { terms_fit = omega arith; branches_fit = most; depth_fits = omega arith; least_fits = omega arith }
-
-pub returns-then-payload_fits : goal.returns-then-payload_fits
+pub returns-in-Variable : goal.returns-in-Variable
 unfolding starts_term inside_by binding following
-returns-then-payload_fits c =
-    rw (← c.payload-payload.ensures, sym c.kind.ensures ∙ c.in-4.is, ← c.payload_fits-in-4.ensures, c.if-payload_fits.true, add-zero)
-    (ap some c.new-then-payload_fits.ensures)
+returns-in-Variable c =
+    entered_if _ _ c.then_some.ensures
+    ∙ rw (c.new.ensures, c.payload-payload.ensures, sym c.in-Variable.ensures) (simp add-zero)
 
-pub returns-in-0 : goal.returns-in-0
+pub returns-in-Abstraction : goal.returns-in-Abstraction
 unfolding starts_term inside_by binding following
-returns-in-0 c =
-    c.inside_if.ensures
-    ∙ rw (c.new.ensures, c.payload-payload.ensures, sym c.kind.ensures ∙ c.in-0.is) (simp add-zero)
+returns-in-Abstraction c =
+    entered_if _ _ c.then_some-in-Abstraction.ensures
+    ∙ rw (c.new-in-Abstraction.ensures, c.payload_fits-fits.ensures, c.payload-payload.ensures, c.in-Abstraction.is, sym c.in-Abstraction.ensures)
 
-pub returns-in-1 : goal.returns-in-1
+pub returns-in-Application : goal.returns-in-Application
 unfolding starts_term inside_by binding following
-returns-in-1 c =
-    c.inside_if-in-1.ensures
-    ∙ rw (c.new-in-1.ensures, c.payload_fits.ensures, c.payload-payload.ensures, sym c.kind.ensures ∙ c.in-1.is)
-
-pub returns-in-2 : goal.returns-in-2
-unfolding starts_term inside_by binding following
-returns-in-2 c =
-    c.inside_if-in-2.ensures
-    ∙ rw (c.new-in-2.ensures, c.payload_fits-in-2.ensures, c.payload-payload.ensures, sym c.kind.ensures ∙ c.in-2.is) (simp add-zero)
-
-pub returns-in-3 : goal.returns-in-3
-unfolding starts_term inside_by binding following
-returns-in-3 c =
-    c.inside_if-in-3.ensures
-    ∙ rw (c.new-in-3.ensures, c.count.ensures, c.payload_fits-in-3.ensures, c.payload-payload.ensures, sym c.kind.ensures ∙ c.in-3.is)
+returns-in-Application c =
+    entered_if _ _ c.then_some-in-Application.ensures
+    ∙ rw (c.new-in-Application.ensures, c.payload_fits-fits.ensures, c.payload-payload.ensures, c.in-Application.is, sym c.in-Application.ensures)
     (simp add-zero)
 
-pub returns-else-payload_fits : goal.returns-else-payload_fits
-unfolding starts_term
-returns-else-payload_fits c =
-    rw (← c.payload-payload.ensures, sym c.kind.ensures ∙ c.in-4.is, ← c.payload_fits-in-4.ensures, c.if-payload_fits.false)
-
-pub returns-in-6 : goal.returns-in-6
+pub returns-in-Constructor : goal.returns-in-Constructor
 unfolding starts_term inside_by binding following
-returns-in-6 c =
-    c.inside_if-in-6.ensures
-    ∙ rw (c.new-in-6.ensures, c.payload_fits-in-6.ensures, c.payload-payload.ensures, sym c.kind.ensures ∙ c.in-6.is) (simp add-zero)
+returns-in-Constructor c =
+    entered_if _ _ c.then_some-in-Constructor.ensures
+    ∙ rw (c.new-in-Constructor.ensures, c.count.ensures, c.payload_fits-fits.ensures, c.payload-payload.ensures, c.in-Constructor.is, sym c.in-Constructor.ensures)
+    (simp add-zero)
 
-pub returns-in_default : goal.returns-in_default
-returns-in_default c =
-    let e = starts_none c.args.depth c.kind.result (payload_of c.args.word.0) (omega arith) (omega arith) (omega arith) (omega arith) (omega arith) (omega arith) in
-    rw (← c.kind.ensures, e)
+pub returns-in-Numeral : goal.returns-in-Numeral
+unfolding starts_term inside_by binding following
+returns-in-Numeral c =
+    entered_if _ _ c.then_some-in-Numeral.ensures
+    ∙ rw (c.new-in-Numeral.ensures, c.payload_fits-fits.ensures, c.payload-payload.ensures, c.in-Numeral.is, sym c.in-Numeral.ensures)
+    (simp add-zero)
+
+pub new-requires-in-Case : goal.new-requires-in-Case
+new-requires-in-Case c =
+    let most = case_most c.payload-payload.result (sym (rw c.in-Case.is at c.if-not-fits.ensures)) in
+    record { terms_fit = omega arith; branches_fit = most; depth_fits = omega arith; least_fits = omega arith }
+
+pub returns-then-not-fits : goal.returns-then-not-fits
+unfolding starts_term
+returns-then-not-fits c =
+    rw (← c.payload-payload.ensures, sym c.in-Case.ensures, sym (rw c.in-Case.is at c.if-not-fits.ensures))
+
+pub returns-else-not-fits : goal.returns-else-not-fits
+unfolding starts_term inside_by binding following
+returns-else-not-fits c =
+    rw (← c.payload-payload.ensures, sym c.in-Case.ensures, sym (rw c.in-Case.is at c.if-not-fits.ensures), add-zero)
+    (ap some c.new-in-Case.ensures)
+
+pub returns-in-Branch : goal.returns-in-Branch
+unfolding starts_term payload_fits
+returns-in-Branch c =
+    elim c.in-Branch.is [ inl e ↦ rw (← c.kind-kind.ensures, e) | inr e ↦ rw (← c.kind-kind.ensures, e) ]
