@@ -13,7 +13,7 @@ use lib.Seq.{drop-cons, drop-set-lt, get_or-set_same, get_or-set_other}
 use Rattle.calculus.specs.Accepted.{argument_limit}
 use Rattle.calculus.specs.Skip.{arity, span}
 use Rattle.words.specs.Bound.{bound}
-use Rattle.words.proofs.RoomLaws.{drop-replicate}
+use Rattle.std.proofs.lemmas.List.{drop-replicate}
 use Rattle.walk.specs.Depths.{depths}
 use Rattle.walk.specs.Rewritten.{place, argument_at}
 use Rattle.substitution.specs.Measure.{occurrences, Measurable, Measures}
@@ -69,7 +69,7 @@ counting_start {src} {room} {occurs} {body} {n} h z =
       places = ap length z;
       small = λ j. omega (arith, zeros j);
       counted = λ j l. rw (zeros j, drop_of_length-le room {i = length room} (omega arith)) (omega arith);
-      rest = rw z (drop-replicate 0 n (suc argument_limit));
+      rest = rw z (drop-replicate n (suc argument_limit) 0);
       passed = λ q. absurd (omega arith);
     }
 

@@ -26,6 +26,7 @@ impl Scope {
     }
 
     // Where the walk stands after a word that so many items follow, under so many binders more than the word.
+    #[tactic(auto, unfolding(crate::specs::Scopes::entered))]
     pub fn enter(self, items: usize, binders: u32, room: &mut [u32]) -> Self
         requires { Enters items binders self.pending self.depth self.top room.old }
         ensures { (result, room.new) ≡ entered items binders self room.old }

@@ -1,19 +1,19 @@
 -- Words put into a slice: one after the other, a word more of those that a loop puts, and slices that they fill to the end.
 use Prim.Native.Nat.{ℕ, suc, ◌+◌, ◌-◌, ◌≤◌, ◌<◌}
-use mathlib.Core.Path.{◌≡◌, refl, sym, ◌∙◌, ap, ap₂}
+use mathlib.Core.Path.{◌≡◌, refl, sym, ◌∙◌, ap}
 use mathlib.Core.List.{List, [], ◌∷◌, ◌++◌, append-nil, append_assoc}
 use native.Mathlib.Nat.{add-zero}
 use native.Mathlib.Numerals.{add-one}
 use native.Mathlib.Omega.{arith}
-use lib.ListN.{length, get_or, take, drop, set, replicate, length-set, length-append, length-replicate, drop_of_length-le}
-use lib.Seq.{sets, sets-eq, length-sets, slice, slice_empty, slice-cons, length-slice, drop-cons, drop-set-lt, drop-drop, get_or-set_same, take-append_seam, take-take, take-set-le}
+use lib.ListN.{length, get_or, take, drop, set, length-set, length-append, drop_of_length-le}
+use lib.Seq.{sets, sets-eq, length-sets, slice, slice-cons, drop-drop, take-append_seam, take-take, take-set-le}
 use borrow.Rule.Slice.PartMut.{put_mid}
+use Rattle.std.proofs.lemmas.List.{drop-set as stored}
 use Rattle.words.specs.Placed.{Placed, Copies}
 
 -- A word stored, and what stands from there on.
 pub drop-set : (l : List ℕ) (i v : ℕ) → i < length l → drop i (set l i v) ≡ v ∷ drop (suc i) l
-drop-set l i v h =
-    drop-cons (set l i v) i 0 (omega (arith, length-set l i v)) ∙ ap₂ ◌∷◌ (get_or-set_same l i v 0 h) (drop-set-lt (suc i) l i v (omega arith))
+drop-set l i v h = stored l i v h ∙ rw (add-one i)
 
 pub sets-append : (xs ys l : List ℕ) (i : ℕ) → sets l i (xs ++ ys) ≡ sets (sets l i xs) (i + length xs) ys
 sets-append [] ys l i = rw add-zero
@@ -67,25 +67,12 @@ sets_part vs l i to p e h =
 pub placed_part : {X : Type 0} {part : List X} (vs l : List X) (out end : ℕ) → part ≡ vs → out + length vs ≡ end → end ≤ length l → Placed l out vs (put_mid out (end - out) l part) end
 placed_part vs l out end p e h = record { slice = sets_part vs l out end p e h; position = omega arith }
 
--- Filling: a place more, and none left.
-pub fill_turn : (l : List ℕ) (i to w : ℕ) → i < to → sets (set l i w) (i + 1) (replicate (to - (i + 1)) w) ≡ sets l i (replicate (to - i) w)
-fill_turn l i to w h = let e : to - i ≡ suc (to - (i + 1)) = omega arith in rw (e, add-one i)
-
-pub fill_ends : (l : List ℕ) (i to w : ℕ) → to ≤ i → sets l i (replicate (to - i) w) ≡ l
-fill_ends l i to w h = let e : to - i ≡ 0 = omega arith in rw e
-
-pub fill_end : (l : List ℕ) (i w : ℕ) → i ≤ length l → sets l i (replicate (length l - i) w) ≡ take i l ++ replicate (length l - i) w
-fill_end l i w h = sets_end _ l i (omega (arith, length-replicate (length l - i) w))
-
 -- Copying: the words from i on, put from o on, make of dst what all of them make of dst₀.
 pub record Copying (src : List ℕ) (from to : ℕ) (dst₀ : List ℕ) (out : ℕ) (dst : List ℕ) (i o : ℕ) : Type 0 where
   pub left : Copies src i to dst o
   pub work : sets dst o (slice i to src) ≡ sets dst₀ out (slice from to src)
   pub place : o + (to - i) ≡ out + (to - from)
   pub kept : length dst ≡ length dst₀
-
-pub copying_starts : {src : List ℕ} {from to : ℕ} {dst : List ℕ} {out : ℕ} → Copies src from to dst out → Copying src from to dst out dst from out
-copying_starts h = record { left = h; work = refl; place = refl; kept = refl }
 
 pub copying_turn : {src : List ℕ} {from to : ℕ} {dst₀ : List ℕ} {out : ℕ} {dst : List ℕ} {i o : ℕ} → Copying src from to dst₀ out dst i o → i < to
     → Copying src from to dst₀ out (set dst o (get_or src i 0)) (i + 1) (o + 1)
@@ -96,13 +83,4 @@ copying_turn {src} {to = to} {dst = dst} {i} {o} c l =
       work = rw (add-one i, add-one o, ← c.work, slice-cons i to src 0 l c.left.within);
       place = omega arith;
       kept = n ∙ c.kept;
-    }
-
-pub copying_ends : {src : List ℕ} {from to : ℕ} {dst₀ : List ℕ} {out : ℕ} {dst : List ℕ} {i o : ℕ} → Copies src from to dst₀ out → Copying src from to dst₀ out dst i o → to ≤ i
-    → Placed dst₀ out (slice from to src) dst o
-copying_ends {src} {from} {to} {i = i} h c l =
-    let e : i ≡ to = omega (arith, c.left.ordered) in
-    record {
-      slice = rw (e, slice_empty) at c.work;
-      position = omega (arith, c.place, length-slice from to src h.within);
     }

@@ -6,7 +6,7 @@ use mathlib.Core.List.{List}
 use native.Mathlib.Numerals.{add-one}
 use native.Mathlib.Omega.{arith}
 use lib.Dec.{eqb}
-use lib.ListN.{length, get_or, drop, drop_of_length-le}
+use lib.ListN.{length, get_or, drop}
 use lib.Seq.{drop-cons, drop-drop}
 use Rattle.calculus.specs.Words.{abstraction_kind, application_kind, constructor_kind, case_kind, branch_kind, kind_of, payload_of, count_of}
 use Rattle.calculus.specs.Skip.{following, arity, span}
@@ -33,9 +33,6 @@ span-step ws i zero h n = absurd (n refl)
 span-step ws i (suc k) h n =
     let p : suc k - 1 ≡ k = omega arith in
     rw (p, add-one, drop-cons ws i 0) (omega arith)
-
-pub span_past : (ws : List ℕ) (i k : ℕ) → length ws ≤ i → span k (drop i ws) ≡ 0
-span_past ws i k h = rw (drop_of_length-le ws h)
 
 -- Some items end where those behind the first do.
 pub span_first : (ws : List ℕ) (i k : ℕ) {j : ℕ} → j ≡ i + span 1 (drop i ws) → j + span k (drop j ws) ≡ i + span (suc k) (drop i ws)

@@ -86,6 +86,7 @@ impl Word {
     }
 
     // How many items follow the word.
+    #[tactic(auto, unfolding(calculus::specs::Skip::following))]
     pub fn arity(self) -> usize
         ensures { result ≡ arity self.0 }
     {

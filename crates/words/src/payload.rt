@@ -7,6 +7,7 @@ use crate::kind::Kind;
 use crate::pattern::{is_pattern, is_tagged};
 
 // Where the kind is a constant, the compiler leaves the test of that kind alone.
+#[tactic(auto, unfolding(calculus::specs::Payload::payload_fits))]
 pub fn payload_fits(kind: u32, payload: u32) -> bool
     ensures { result ≡ payload_fits kind payload }
 {

@@ -1,7 +1,7 @@
 -- `starts` meets its contract. The invariant: the starts of the items before the j-th are written, and the places behind hold 0.
 use Rattle.calculus.specs.Accepted.{argument_limit}
 use Rattle.substitution.proofs.StartLaws.{started_first, started_next}
-use Rattle.words.proofs.RoomLaws.{drop-replicate}
+use Rattle.std.proofs.lemmas.List.{drop-replicate}
 use Rattle.words.proofs.PlacedLaws.{drop-set}
 use lib.ListN.{replicate, length-set}
 use lib.Seq.{drop-set-lt, get_or-set_other}
@@ -16,7 +16,7 @@ loop-j-init c = (
   refl,
   omega arith,
   started_first c.args.src.now c.args.args _ refl,
-  λ k l. drop-set-lt k (replicate (suc argument_limit) 0) 0 c.args.args l ∙ drop-replicate 0 k (suc argument_limit),
+  λ k l. drop-set-lt k (replicate (suc argument_limit) 0) 0 c.args.args l ∙ drop-replicate k (suc argument_limit) 0,
 )
 
 pub loop-j-preserved : goal.loop-j-preserved
