@@ -24,7 +24,7 @@ use Rattle.substitution.proofs.CountLaws.{occurs_twice}
 use Rattle.calculus.specs.Numeral.{numeral}
 use Rattle.calculus.specs.Contraction.{Rule as CalculusRule, by_beta}
 use Rattle.calculus.specs.Position.{step_at, contract_at}
-use Rattle.redex.specs.declared.Body.{Body}
+use Rattle.substitution.specs.declared.Body.{Body}
 use Rattle.redex.specs.declared.Rule.{Rule}
 use Rattle.redex.specs.declared.Rule.TheVariants as rule
 use Rattle.redex.specs.Held.{held, Holds}

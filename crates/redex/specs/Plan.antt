@@ -16,7 +16,7 @@ use Rattle.calculus.specs.Position.{step_at}
 use Rattle.words.specs.Limits.{payload_bound}
 use Rattle.walk.specs.Rewritten.{substituting, standing}
 use Rattle.substitution.specs.Results.{Substitutable, Replaced}
-use Rattle.redex.specs.declared.Body.{Body}
+use Rattle.substitution.specs.declared.Body.{Body}
 use Rattle.redex.specs.declared.Rule.{Rule}
 use Rattle.redex.specs.declared.Rule.TheVariants as rule
 use Rattle.redex.specs.declared.Redex.{Redex}

@@ -6,23 +6,13 @@ ghost use Rattle.calculus.specs.Words.{workspace_most};
 ghost use Rattle.words.specs.Room.{Room};
 ghost use Rattle.redex.specs.Plan.{Plans, Numbered, EndTold, Applied, Selected};
 
+use substitution::Body;
 use substitution::measure::{measure, substituted_length};
 use words::kind::Kind;
 use words::{Word, extent, skip};
 
 // The word of variable 0.
 const VARIABLE: u32 = Kind::Variable as u32;
-
-// A body that arguments are put into: where it starts and the word that its rewriting stops at, the arguments up to `after` (which means nothing where
-// none is put for a word before `stop`) and their number.
-#[derive(Clone, Copy)]
-pub struct Body {
-    pub start: usize,
-    pub stop: usize,
-    pub args: usize,
-    pub after: usize,
-    pub count: usize,
-}
 
 // The rule by which a redex contracts, with what it puts: a body with its arguments, or the entry of a numeral.
 #[derive(Clone, Copy)]
@@ -118,21 +108,16 @@ pub fn selected(ws: &[u32], n: usize, at: usize, branch: Branch, room: &mut [u32
     ensures plans { Plans ws.now n result × (result.at ≡ at) }
     ensures room { Room room.old room.new }
 {
-    let start = branch.start;
-    let after = branch.after;
-    let count = branch.count;
-    let args = at + 2;
-    let found = measure(ws, start, count, room);
-    let stop = found.end;
-    let end = skip(ws, stop, branch.left);
-    let length = at + substituted_length(ws, start, args, after, count, found) + (n - end);
+    let found = measure(ws, branch.start, branch.count, room);
     let body = Body {
-        start,
-        stop,
-        args,
-        after,
-        count,
+        start: branch.start,
+        stop: found.end,
+        args: at + 2,
+        after: branch.after,
+        count: branch.count,
     };
+    let end = skip(ws, body.stop, branch.left);
+    let length = at + substituted_length(ws, body, found) + (n - end);
     Redex {
         rule: Rule::Case(body),
         at,

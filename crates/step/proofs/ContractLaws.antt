@@ -9,7 +9,7 @@ use Rattle.calculus.specs.Words.{words, size}
 use Rattle.words.specs.Placed.{Placed, Copies}
 use Rattle.words.proofs.PlacedLaws.{sets-append, placed_length, placed_start}
 use Rattle.substitution.specs.Results.{Substitutes}
-use Rattle.redex.specs.declared.Body.{Body}
+use Rattle.substitution.specs.declared.Body.{Body}
 use Rattle.redex.specs.declared.Redex.{Redex}
 use Rattle.redex.specs.Next.{next, next_from}
 use Rattle.redex.specs.Plan.{contractum, Substituting, Puttable}

@@ -20,9 +20,7 @@ fn put_contractum(ws: &[u32], rule: Rule, scratch: &mut [u32], room: &mut [u32])
     ensures room { Room room.old room.new }
 {
     match rule {
-        Rule::Beta(body) | Rule::Case(body) => substitute(
-            ws, body.start, body.stop, body.args, body.after, body.count, scratch, 0, room,
-        ),
+        Rule::Beta(body) | Rule::Case(body) => substitute(ws, body, scratch, 0, room),
         Rule::Numeral(numeral) => library::put(numeral, scratch, 0),
     }
 }

@@ -21,20 +21,31 @@ use walk::scope::Scope;
 use words::slices::copy;
 use words::{Word, extent};
 
+// A body that arguments are put into: where it starts and the word that its rewriting stops at, the arguments up to `after` (which means nothing where
+// none is put for a word before `stop`) and their number.
+#[derive(Clone, Copy)]
+pub struct Body {
+    pub start: usize,
+    pub stop: usize,
+    pub args: usize,
+    pub after: usize,
+    pub count: usize,
+}
+
 // A place for each argument of a redex, and one more.
 const PLACES: usize = Word::ARGUMENTS_MOST as usize + 1;
 
-// The positions at which `count` consecutive items start, and after them the end of the last, where the caller knows it.
-fn starts(src: &[u32], args: usize, after: usize, count: usize) -> [usize; PLACES]
-    requires { (length src.now ≤ workspace_most) × (count ≤ argument_limit) }
-    ensures { Positions src.now args after count result }
+// The positions at which the arguments of a body start, and after them the end of the last, where the caller knows it.
+fn starts(src: &[u32], body: Body) -> [usize; PLACES]
+    requires { (length src.now ≤ workspace_most) × (body.count ≤ argument_limit) }
+    ensures { Positions src.now body.args body.after body.count result }
 {
     let mut starts = [0usize; PLACES];
-    starts[0] = args;
-    for j in 1..count {
+    starts[0] = body.args;
+    for j in 1..body.count {
         starts[j] = extent(src, starts[j - 1]);
     }
-    starts[count] = after;
+    starts[body.count] = body.after;
     starts
 }
 
@@ -86,30 +97,20 @@ fn raise(
     copy(src, at, end, dst, out)
 }
 
-// Writes what stands for the words of a body before `stop`, where its arguments are put for its first indices, as many as there are arguments and
+// Writes what stands for the words of a body before its stop, where its arguments are put for its first indices, as many as there are arguments and
 // the last one for index 0, and returns the position after it. Where the arguments end is asked only if one is put. The room keeps the scopes of the walk.
-pub fn substitute(
-    src: &[u32],
-    body: usize,
-    stop: usize,
-    args: usize,
-    after: usize,
-    count: usize,
-    dst: &mut [u32],
-    out: usize,
-    room: &mut [u32],
-) -> usize
-    requires substitutes { Substitutes src.now body stop args after count room.old }
-    requires fits { out + length (standing (substituting (first_terms count (drop args src.now))) (stop - body) (0 ∷ []) (drop body src.now)) ≤ length dst.old }
-    ensures placed { Placed dst.old out (standing (substituting (first_terms count (drop args src.now))) (stop - body) (0 ∷ []) (drop body src.now)) dst.new result }
+pub fn substitute(src: &[u32], body: Body, dst: &mut [u32], out: usize, room: &mut [u32]) -> usize
+    requires substitutes { Substitutes src.now body.start body.stop body.args body.after body.count room.old }
+    requires fits { out + length (standing (substituting (first_terms body.count (drop body.args src.now))) (body.stop - body.start) (0 ∷ []) (drop body.start src.now)) ≤ length dst.old }
+    ensures placed { Placed dst.old out (standing (substituting (first_terms body.count (drop body.args src.now))) (body.stop - body.start) (0 ∷ []) (drop body.start src.now)) dst.new result }
     ensures room { Room room.old room.new }
 {
-    let starts = starts(src, args, after, count);
-    let lowered = down(count as u32);
+    let starts = starts(src, body);
+    let lowered = down(body.count as u32);
     let mut next = out;
     let mut at = Scope::start(room);
-    for i in body..stop {
-        let here = visit(Word(src[i]), at.depth, count, lowered);
+    for i in body.start..body.stop {
+        let here = visit(Word(src[i]), at.depth, body.count, lowered);
         if let Some(j) = here.argument {
             next = raise(
                 src,

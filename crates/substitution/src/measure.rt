@@ -7,7 +7,7 @@ ghost use Rattle.substitution.specs.Measure.{Measurable, Measures};
 ghost use Rattle.substitution.specs.Results.{Substitutable, substituted};
 
 use crate::kinds::visit;
-use crate::{PLACES, starts};
+use crate::{Body, PLACES, starts};
 use walk::scope::Scope;
 use words::Word;
 
@@ -47,22 +47,15 @@ pub fn measure(src: &[u32], body: usize, count: usize, room: &mut [u32]) -> Meas
 }
 
 // The length in words of a measured body with its arguments put in, from how often each occurs: nothing is written to find it.
-pub fn substituted_length(
-    src: &[u32],
-    body: usize,
-    args: usize,
-    after: usize,
-    count: usize,
-    found: Measured,
-) -> usize
-    requires substitutable { Substitutable src.now body args count × (after ≡ args + span count (drop args src.now)) }
-    requires measures { Measures src.now body count found.end found.last found.occurs }
-    ensures { result ≡ size (substituted src.now body args count) }
+pub fn substituted_length(src: &[u32], body: Body, found: Measured) -> usize
+    requires substitutable { Substitutable src.now body.start body.args body.count × (body.after ≡ body.args + span body.count (drop body.args src.now)) }
+    requires measures { Measures src.now body.start body.count found.end found.last found.occurs }
+    ensures { result ≡ size (substituted src.now body.start body.args body.count) }
 {
     let occurs = found.occurs;
-    let starts = starts(src, args, after, count);
-    let mut total = found.end - body;
-    for j in 0..count {
+    let starts = starts(src, body);
+    let mut total = found.end - body.start;
+    for j in 0..body.count {
         let times = occurs[j];
         total = total - times + times * (starts[j + 1] - starts[j]);
     }

@@ -5,11 +5,11 @@ use mathlib.Core.List.{List, [], ◌∷◌, ◌++◌, append-nil, append_assoc}
 use native.Mathlib.Nat.{add-zero}
 use native.Mathlib.Numerals.{add-one}
 use native.Mathlib.Omega.{arith}
-use lib.ListN.{length, get_or, take, drop, set, length-set, length-append, drop_of_length-le}
-use lib.Seq.{sets, sets-eq, length-sets, slice, slice-cons, drop-drop, take-append_seam, take-take, take-set-le}
+use lib.ListN.{length, take, drop, set, length-append, drop_of_length-le}
+use lib.Seq.{sets, sets-eq, length-sets, slice, drop-drop, take-append_seam, take-take, take-set-le}
 use borrow.Rule.Slice.PartMut.{put_mid}
 use Rattle.std.proofs.lemmas.List.{drop-set as stored}
-use Rattle.words.specs.Placed.{Placed, Copies}
+use Rattle.words.specs.Placed.{Placed}
 
 -- A word stored, and what stands from there on.
 pub drop-set : (l : List ℕ) (i v : ℕ) → i < length l → drop i (set l i v) ≡ v ∷ drop (suc i) l
@@ -66,21 +66,3 @@ sets_part vs l i to p e h =
 
 pub placed_part : {X : Type 0} {part : List X} (vs l : List X) (out end : ℕ) → part ≡ vs → out + length vs ≡ end → end ≤ length l → Placed l out vs (put_mid out (end - out) l part) end
 placed_part vs l out end p e h = record { slice = sets_part vs l out end p e h; position = omega arith }
-
--- Copying: the words from i on, put from o on, make of dst what all of them make of dst₀.
-pub record Copying (src : List ℕ) (from to : ℕ) (dst₀ : List ℕ) (out : ℕ) (dst : List ℕ) (i o : ℕ) : Type 0 where
-  pub left : Copies src i to dst o
-  pub work : sets dst o (slice i to src) ≡ sets dst₀ out (slice from to src)
-  pub place : o + (to - i) ≡ out + (to - from)
-  pub kept : length dst ≡ length dst₀
-
-pub copying_turn : {src : List ℕ} {from to : ℕ} {dst₀ : List ℕ} {out : ℕ} {dst : List ℕ} {i o : ℕ} → Copying src from to dst₀ out dst i o → i < to
-    → Copying src from to dst₀ out (set dst o (get_or src i 0)) (i + 1) (o + 1)
-copying_turn {src} {to = to} {dst = dst} {i} {o} c l =
-    let n = length-set dst o (get_or src i 0) in
-    record {
-      left = record { ordered = omega arith; within = c.left.within; fits = omega arith };
-      work = rw (add-one i, add-one o, ← c.work, slice-cons i to src 0 l c.left.within);
-      place = omega arith;
-      kept = n ∙ c.kept;
-    }

@@ -15,8 +15,8 @@ pub loop-j-init : goal.loop-j-init
 loop-j-init c = (
   refl,
   omega arith,
-  started_first c.args.src.now c.args.args _ refl,
-  λ k l. drop-set-lt k (replicate (suc argument_limit) 0) 0 c.args.args l ∙ drop-replicate k (suc argument_limit) 0,
+  started_first c.args.src.now c.args.body.args _ refl,
+  λ k l. drop-set-lt k (replicate (suc argument_limit) 0) 0 c.args.body.args l ∙ drop-replicate k (suc argument_limit) 0,
 )
 
 pub loop-j-preserved : goal.loop-j-preserved
@@ -24,16 +24,16 @@ loop-j-preserved c =
     let l = c.loop-j in (
       simp length-set l.invariant.0,
       omega arith,
-      started_next c.args.src.now c.args.args l.starts l.j c.extent.result l.auto.j (omega arith) l.invariant.2 c.extent.ensures,
+      started_next c.args.src.now c.args.body.args l.starts l.j c.extent.result l.auto.j (omega arith) l.invariant.2 c.extent.ensures,
       λ k m. drop-set-lt k l.starts l.j c.extent.result (omega arith) ∙ l.invariant.3 k (omega arith),
     )
 
 pub returns : goal.returns
 returns c =
     let l = c.loop-j in
-    let n = c.args.count in
+    let n = c.args.body.count in
     let e : 16 - suc n ≡ argument_limit - n = omega arith in
     record {
-      each = λ i h. get_or-set_other l.starts n i c.args.after 0 (omega arith) ∙ l.invariant.2.each i (omega arith);
-      rest = drop-set l.starts n c.args.after (omega arith) ∙ ap (◌∷◌ c.args.after) (l.invariant.3 (suc n) (omega arith) ∙ ap (λ m. replicate m 0) e);
+      each = λ i h. get_or-set_other l.starts n i c.args.body.after 0 (omega arith) ∙ l.invariant.2.each i (omega arith);
+      rest = drop-set l.starts n c.args.body.after (omega arith) ∙ ap (◌∷◌ c.args.body.after) (l.invariant.3 (suc n) (omega arith) ∙ ap (λ m. replicate m 0) e);
     }

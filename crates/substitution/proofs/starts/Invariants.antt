@@ -7,4 +7,4 @@ use Rattle.substitution.proofs.starts.Given as goal
 
 abbrev pub invariant-loop-j : goal.invariant-loop-j
 invariant-loop-j l =
-    (length l.starts ≡ suc argument_limit) × (l.j ≤ suc l.count) × Started l.src l.args l.starts l.j × ((k : ℕ) → l.j ≤ k → drop k l.starts ≡ replicate (suc argument_limit - k) 0)
+    (length l.starts ≡ suc argument_limit) × (l.j ≤ suc l.body.count) × Started l.src l.body.args l.starts l.j × ((k : ℕ) → l.j ≤ k → drop k l.starts ≡ replicate (suc argument_limit - k) 0)

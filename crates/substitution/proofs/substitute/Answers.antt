@@ -66,7 +66,7 @@ visit-here-requires c =
     let distance = to_z-of_z w32 c.down-lowered.result (record { sfits = c.down-lowered.type_inv }) ∙ c.down-lowered.ensures in
     record {
       few = omega (arith, few);
-      movable = λ v e. rw distance (movable_body c.args.count c.loop-i.at.depth _ (omega (arith, e)) (c.type_inv.src c.loop-i.i).fits v);
+      movable = λ v e. rw distance (movable_body c.args.body.count c.loop-i.at.depth _ (omega (arith, e)) (c.type_inv.src c.loop-i.i).fits v);
     }
 
 pub raise-next-requires-clause-shiftable : goal.raise-next-requires-clause-shiftable
