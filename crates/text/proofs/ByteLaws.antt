@@ -1,30 +1,27 @@
 -- Words that are a byte each: what a test of one tells, and putting them into a slice of bytes, one after the other.
 use Prim.Native.Nat.{ℕ, ◌+◌, ◌≤◌, ◌<◌}
-use mathlib.Core.Path.{◌≡◌, sym, ap, ◌∙◌}
-use mathlib.Core.Bool.{true, false, ◌&&◌, and-eq-true_iff}
-use mathlib.Core.List.{List}
+use mathlib.Core.Path.{◌≡◌, refl, ap, ◌∙◌}
+use mathlib.Core.Bool.{true, ◌&&◌, and-eq-true_iff}
+use mathlib.Core.List.{List, [], ◌∷◌}
+use Rattle.std.specs.List.{list_all}
 use native.Mathlib.Numerals.{add-one}
 use native.Mathlib.Omega.{arith}
 use lib.Dec.{ltb}
 use lib.ListN.{length, drop, set, get_or, length-set, drop_of_length-le}
 use lib.Seq.{sets, drop-cons}
-use borrow.Author.Tests.{lt-ltb, le-ltb, ltb-true}
+use borrow.Author.Tests.{ltb-true}
 use Rattle.words.specs.Placed.{Placed}
 use Rattle.text.specs.Bytes.{byte_base, are_bytes}
 
-pub byte_first : (ws : List ℕ) (i : ℕ) → i < length ws → (ltb (get_or ws i 0) byte_base && are_bytes (drop (i + 1) ws)) ≡ are_bytes (drop i ws)
+byte_first : (ws : List ℕ) (i : ℕ) → i < length ws → (ltb (get_or ws i 0) byte_base && are_bytes (drop (i + 1) ws)) ≡ are_bytes (drop i ws)
 unfolding are_bytes
 byte_first ws i h = rw (add-one i, drop-cons ws i 0 h)
 
-pub byte_none : (ws : List ℕ) (i : ℕ) → i < length ws → byte_base ≤ get_or ws i 0 → false ≡ are_bytes (drop i ws)
-byte_none ws i h g = sym (ap (λ b. b && are_bytes (drop (i + 1) ws)) (le-ltb (get_or ws i 0) byte_base g)) ∙ byte_first ws i h
-
-pub byte_some : (ws : List ℕ) (i : ℕ) → i < length ws → get_or ws i 0 < byte_base → are_bytes (drop (i + 1) ws) ≡ are_bytes (drop i ws)
-byte_some ws i h g = sym (ap (λ b. b && are_bytes (drop (i + 1) ws)) (lt-ltb (get_or ws i 0) byte_base g)) ∙ byte_first ws i h
-
-pub byte_end : (ws : List ℕ) (i : ℕ) → length ws ≤ i → true ≡ are_bytes (drop i ws)
+-- The test, element by element.
+pub all_bytes : (ws : List ℕ) → list_all (λ w. ltb w byte_base) ws ≡ are_bytes ws
 unfolding are_bytes
-byte_end ws i h = rw (drop_of_length-le ws h)
+all_bytes [] = refl
+all_bytes (w ∷ ws) = ap (λ b. ltb w byte_base && b) (all_bytes ws)
 
 -- The bytes still to put make of the slice what all of them make of it at entry.
 pub record Narrowing (ws bytes₀ bytes : List ℕ) (i : ℕ) : Type 0 where

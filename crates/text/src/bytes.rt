@@ -1,27 +1,20 @@
 // Little-endian 32-bit words in bytes, and words that are a byte each.
 ghost use Rattle.std.specs.Prelude.{◌≡◌, ◌≤◌, ◌+◌, ◌*◌, length, true};
 ghost use Rattle.words.specs.Placed.{Placed};
-ghost use Rattle.text.specs.Bytes.{word_bytes, word_of, are_bytes};
+ghost use Rattle.text.specs.Bytes.{word_bytes, are_bytes};
 ghost use Rattle.text.specs.Decode.{word_at, words_from};
 
 pub const WORD_BYTES: usize = 4;
 
-// A byte stands for so many of the byte before it.
+// The words below it are bytes.
 const BYTE_BASE: u32 = 256;
-
-// The word of four bytes, the lowest first.
-fn word_of(a: u8, b: u8, c: u8, d: u8) -> u32
-    ensures { result ≡ word_of a b c d }
-{
-    a as u32 + BYTE_BASE * (b as u32 + BYTE_BASE * (c as u32 + BYTE_BASE * d as u32))
-}
 
 // The word whose first byte stands at a position.
 pub fn word_at(bytes: &[u8], at: usize) -> u32
     requires { at + word_bytes ≤ length bytes.now }
     ensures { result ≡ word_at bytes.now at }
 {
-    word_of(bytes[at], bytes[at + 1], bytes[at + 2], bytes[at + 3])
+    u32::from_le_bytes([bytes[at], bytes[at + 1], bytes[at + 2], bytes[at + 3]])
 }
 
 // Fills a slice with the words from a position on.
@@ -29,10 +22,8 @@ pub fn words_from(bytes: &[u8], at: usize, words: &mut [u32])
     requires { at + word_bytes * length words.old ≤ length bytes.now }
     ensures { words.new ≡ words_from (length words.old) bytes.now at }
 {
-    let mut i = 0;
-    while i < words.len() {
-        words[i] = word_at(bytes, at + WORD_BYTES * i);
-        i += 1;
+    for (i, word) in words.iter_mut().enumerate() {
+        *word = word_at(bytes, at + WORD_BYTES * i);
     }
 }
 
@@ -40,14 +31,7 @@ pub fn words_from(bytes: &[u8], at: usize, words: &mut [u32])
 pub fn are_bytes(words: &[u32]) -> bool
     ensures { result ≡ are_bytes words.now }
 {
-    let mut i = 0;
-    while i < words.len() {
-        if BYTE_BASE <= words[i] {
-            return false;
-        }
-        i += 1;
-    }
-    true
+    words.iter().all(|w| *w < BYTE_BASE)
 }
 
 // Puts words that are bytes at the start of a slice of bytes, and returns how many they are.
@@ -56,12 +40,10 @@ pub fn narrow(words: &[u32], bytes: &mut [u8]) -> usize
     requires words_in_bounds { length words.now ≤ length bytes.old }
     ensures { Placed bytes.old 0 words.now bytes.new result }
 {
-    let mut i = 0;
-    while i < words.len() {
-        bytes[i] = words[i] as u8;
-        i += 1;
+    for (i, word) in words.iter().enumerate() {
+        bytes[i] = *word as u8;
     }
-    i
+    words.len()
 }
 
 // Puts bytes as words at the start of a slice of words, and returns how many they are.
@@ -69,10 +51,8 @@ pub fn widen(bytes: &[u8], words: &mut [u32]) -> usize
     requires { length bytes.now ≤ length words.old }
     ensures { Placed words.old 0 bytes.now words.new result }
 {
-    let mut i = 0;
-    while i < bytes.len() {
-        words[i] = bytes[i] as u32;
-        i += 1;
+    for (i, byte) in bytes.iter().enumerate() {
+        words[i] = u32::from(*byte);
     }
-    i
+    bytes.len()
 }

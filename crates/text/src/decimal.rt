@@ -3,6 +3,8 @@ ghost use Rattle.std.specs.Prelude.{◌≡◌, [], ◌∷◌, ◌≤◌, ◌+◌
 ghost use Rattle.words.specs.Placed.{Placed};
 ghost use Rattle.text.specs.Decimal.{digits_most, decimal, field, newline};
 
+use words::slices::copy;
+
 // A number of 64 bits has at most so many digits.
 pub const DIGITS_MOST: usize = 20;
 
@@ -12,12 +14,7 @@ pub fn put_bytes(bytes: &[u8], out: &mut [u8], at: usize) -> usize
     requires { at + length bytes.now ≤ length out.old }
     ensures { Placed out.old at bytes.now out.new result }
 {
-    let mut i = 0;
-    while i < bytes.len() {
-        out[at + i] = bytes[i];
-        i += 1;
-    }
-    at + i
+    copy(bytes, 0, bytes.len(), out, at)
 }
 
 // Keeps the digits of a number, the lowest at the end, and returns where they start.
@@ -25,17 +22,15 @@ fn keep_digits(n: usize, kept: &mut [u8]) -> usize
     requires { length kept.old ≡ digits_most }
     ensures { Placed kept.old result (decimal n) kept.new digits_most }
 {
-    let mut i = DIGITS_MOST;
     let mut rest = n;
-    while i > 0 {
-        i -= 1;
+    for i in (0..DIGITS_MOST).rev() {
         kept[i] = (rest % BASE) as u8 + b'0';
         if rest < BASE {
             return i;
         }
         rest /= BASE;
     }
-    i
+    0
 }
 
 // A number in base ten.

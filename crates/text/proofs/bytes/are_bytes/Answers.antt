@@ -1,16 +1,13 @@
--- `are_bytes` meets its contract: the words from i on tell what all of them tell.
-use Rattle.text.proofs.ByteLaws.{byte_none, byte_some, byte_end}
+-- `are_bytes` meets its contract.
+use Rattle.text.proofs.ByteLaws.{all_bytes}
+use Rattle.std.proofs.Common.{rules}
+use Rattle.std.proofs.lemmas.Iterator.{YieldsList-from_slice}
+use Rattle.std.proofs.lemmas.Iterator.Search.{all_from_yields_List}
+use Rattle.text.specs.Bytes.{byte_base}
+use lib.Dec.{ltb}
 use mathlib.Core.Path.{◌∙◌}
-use native.Mathlib.Omega.{arith}
 use Rattle.text.proofs.bytes.are_bytes.Goals as goal
 
-pub returns-then-words-i-ge-BYTE_BASE : goal.returns-then-words-i-ge-BYTE_BASE
-returns-then-words-i-ge-BYTE_BASE c = let l = c.loop-i in byte_none c.args.words.now l.i (omega arith) (omega arith) ∙ l.invariant.1
-
-pub loop-i-preserved : goal.loop-i-preserved
-loop-i-preserved c =
-    let l = c.loop-i in
-    (omega arith, byte_some c.args.words.now l.i (omega arith) (omega arith) ∙ l.invariant.1)
-
 pub returns : goal.returns
-returns c = let l = c.loop-i in byte_end c.args.words.now l.i (omega arith) ∙ l.invariant.1
+returns c =
+    all_from_yields_List (λ w. ltb w byte_base) _ _ _ c.all.ensures.ran (YieldsList-from_slice c.args.words.now cc) (λ x b q k. search rules) ∙ all_bytes c.args.words.now

@@ -1,4 +1,3 @@
-use Prim.Native.Nat.{◌-◌, ◌≤◌}
 use Rattle.text.specs.Decode.{words_from}
 use lib.ListN.{length, drop}
 use lib.Seq.{sets}
@@ -6,7 +5,5 @@ use mathlib.Core.Path.{◌≡◌}
 use Rattle.text.proofs.bytes.words_from.Given as goal
 
 abbrev pub invariant-loop-i : goal.invariant-loop-i
-invariant-loop-i l = (l.i ≤ length l.initial.words) × (length l.words ≡ length l.initial.words) × (sets l.words l.i (drop l.i (words_from (length l.initial.words) l.bytes l.at)) ≡ sets l.initial.words 0 (words_from (length l.initial.words) l.bytes l.at))
-
-abbrev pub decreases-loop-i : goal.decreases-loop-i
-decreases-loop-i l = length l.initial.words - l.i
+invariant-loop-i l =
+    sets l.words l.i (drop l.i (words_from (length l.initial.words) l.bytes l.at)) ≡ sets l.initial.words 0 (words_from (length l.initial.words) l.bytes l.at)

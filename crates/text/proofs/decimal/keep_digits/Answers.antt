@@ -11,24 +11,23 @@ use Rattle.text.proofs.decimal.keep_digits.Goals as goal
 
 pub loop-i-init : goal.loop-i-init
 unfolding decimal
-loop-i-init c =
-    (omega arith, c.requires, rw (drop_of_length-le c.args.kept.now {i = digits_most} (omega arith), append-nil), refl)
+loop-i-init c = record { digits = rw (drop_of_length-le c.args.kept.now {i = digits_most} (omega arith), append-nil); before = refl }
 
 pub returns-then-rest-lt-BASE : goal.returns-then-rest-lt-BASE
 returns-then-rest-lt-BASE c =
     let l = c.loop-i in
     let e = digits_last l.kept l.i l.rest (omega arith) (omega arith) (omega arith) in
-    kept_placed _ _ _ _ (omega arith) c.requires (simp length-set l.invariant.1) (taken_set _ _ (l.i - 1) l.i _ (omega arith) l.invariant.3) (e ∙ l.invariant.2)
+    kept_placed _ _ _ _ (omega arith) c.requires (simp length-set (omega arith)) (taken_set _ _ (l.i - 1) l.i _ (omega arith) l.invariant.before) (e ∙ l.invariant.digits)
 
 pub loop-i-preserved : goal.loop-i-preserved
 loop-i-preserved c =
     let l = c.loop-i in
     let e = digits-next l.kept l.i l.rest (omega arith) (omega arith) (omega arith) in
-    (omega arith, simp length-set l.invariant.1, e ∙ l.invariant.2, taken_set _ _ (l.i - 1) l.i _ (omega arith) l.invariant.3)
+    record { digits = e ∙ l.invariant.digits; before = taken_set _ _ (l.i - 1) l.i _ (omega arith) l.invariant.before }
 
 pub returns : goal.returns
 unfolding digits
 returns c =
     let l = c.loop-i in
     let e : l.i ≡ 0 = omega arith in
-    kept_placed _ _ _ _ (omega arith) c.requires l.invariant.1 l.invariant.3 (rw e (rw e at l.invariant.2))
+    kept_placed _ _ _ _ (omega arith) c.requires (omega arith) refl (rw e at l.invariant.digits)
