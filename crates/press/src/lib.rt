@@ -52,7 +52,7 @@ fn press_terms(
 }
 
 // A press: refusals 7, 9, 10 on the left and 10 on the right, in this order, which change nothing; otherwise the rounds. Words beyond the given
-// lengths don't matter, and of the session only the total is read.
+// lengths don't matter, and of the session only the total is read. What is lent is passed piece by piece, as C has it.
 pub fn press(
     left: &mut [u32],
     right: &mut [u32],

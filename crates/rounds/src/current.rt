@@ -6,7 +6,8 @@ ghost use Rattle.rounds.specs.Advance.{Advances, Advanced};
 use redex::Redex;
 use turn::resume::before;
 
-// A side's term between two rounds: it has `length` words, and no redex starts before `from`.
+// A side's term between two rounds: it has `length` words, and no redex starts before `from`. Its workspace stands beside it: a struct that held what is
+// lent would say in each contract that it holds the same slice still.
 #[derive(Clone, Copy)]
 pub struct Current {
     pub length: usize,
