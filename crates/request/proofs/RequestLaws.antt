@@ -11,8 +11,8 @@ use lib.ListN.{length, take, drop}
 use lib.Seq.{take_all, length-take-le}
 use borrow.Author.Tests.{leb-true, leb-false, le-leb, lt-leb, eq-eqb, ne_eqb}
 use Rattle.request.specs.declared.Table.{Table}
-use Rattle.request.specs.declared.Found.{Found}
-use Rattle.request.specs.declared.Found.TheVariants as found
+use Rattle.std.specs.Prelude.{Some, None}
+use Rattle.std.specs.Prelude as code_option
 use Rattle.text.specs.Bytes.{word_bytes, words_of}
 use Rattle.text.specs.Decode.{word_at, words_from}
 use Rattle.request.specs.Request.{Request, table_limit, input_most, counted, complete, request_of, request}
@@ -20,9 +20,9 @@ use Rattle.request.specs.Parse.{end, table_at, words_of_table, Stands}
 use Rattle.text.proofs.DecodeLaws.{length-words_from, take-words_from, drop-words_from, words_of_whole, words_of_part}
 
 -- What is made of the table, if it is there.
-abbrev pub with : {A : Type 0} → Found → (Table → Option A) → Option A
-with (found.Table t) k = k t
-with found.Nothing k = none
+abbrev pub with : {A : Type 0} → code_option.Option Table → (Table → Option A) → Option A
+with (Some t) k = k t
+with None k = none
 
 -- What holds of a table that is there.
 pub record There (bytes : List ℕ) (at : ℕ) (t : Table) : Type 0 where
@@ -30,11 +30,11 @@ pub record There (bytes : List ℕ) (at : ℕ) (t : Table) : Type 0 where
   pub counts : t.words ≡ word_at bytes at
   pub stands : Stands bytes t
 
-same-table : (b : Bool) (t u : Table) → cond b (found.Table t) found.Nothing ≡ found.Table u → (b ≡ true) × (t ≡ u)
+same-table : (b : Bool) (t u : Table) → cond b (Some t) None ≡ Some u → (b ≡ true) × (t ≡ u)
 same-table true t u e = (refl, cc)
-same-table false t u e = let z : ◌≡◌ {A = ℕ} 0 1 = cc in absurd (omega arith)
+same-table false t u e = cc
 
-pub there : (bytes : List ℕ) (at : ℕ) {t : Table} → table_at bytes at ≡ found.Table t → There bytes at t
+pub there : (bytes : List ℕ) (at : ℕ) {t : Table} → table_at bytes at ≡ Some t → There bytes at t
 unfolding table_at
 there bytes at {t} e =
     let s = same-table _ _ t e in
@@ -47,22 +47,22 @@ there bytes at {t} e =
     })
 
 -- No table stands where its count or its words run past the end, or its count is above the limit; else one does.
-pub count_missing : (bytes : List ℕ) (at : ℕ) → length bytes < at + word_bytes → table_at bytes at ≡ found.Nothing
+pub count_missing : (bytes : List ℕ) (at : ℕ) → length bytes < at + word_bytes → table_at bytes at ≡ None
 unfolding table_at
 count_missing bytes at h = rw (lt-leb (at + word_bytes) (length bytes) h)
 
-pub too_many : (bytes : List ℕ) (at : ℕ) → table_limit < word_at bytes at → table_at bytes at ≡ found.Nothing
+pub too_many : (bytes : List ℕ) (at : ℕ) → table_limit < word_at bytes at → table_at bytes at ≡ None
 unfolding table_at
 too_many bytes at h = rw (lt-leb (word_at bytes at) table_limit h, and-false)
 
-pub words_missing : (bytes : List ℕ) (at : ℕ) → length bytes < at + word_bytes + word_bytes * word_at bytes at → table_at bytes at ≡ found.Nothing
+pub words_missing : (bytes : List ℕ) (at : ℕ) → length bytes < at + word_bytes + word_bytes * word_at bytes at → table_at bytes at ≡ None
 unfolding table_at
 words_missing bytes at h = rw (lt-leb (at + word_bytes + word_bytes * word_at bytes at) (length bytes) h, and-false, and-false)
 
 abbrev table_behind : List ℕ → ℕ → Table
 table_behind bytes at = record { at = at + word_bytes; words = word_at bytes at }
 
-pub stands_there : (bytes : List ℕ) (at : ℕ) → Stands bytes (table_behind bytes at) → table_at bytes at ≡ found.Table (table_behind bytes at)
+pub stands_there : (bytes : List ℕ) (at : ℕ) → Stands bytes (table_behind bytes at) → table_at bytes at ≡ Some (table_behind bytes at)
 unfolding table_at
 stands_there bytes at s =
     rw (
@@ -126,22 +126,22 @@ words_at : (n : ℕ) (bytes : List ℕ) → length bytes ≡ left_count + word_b
     ≡ with (table_at bytes left_count) (left_at bytes)
 words_at n bytes e = counted-at n bytes left_count _ e ∙ left (table_at bytes left_count) refl
   where
-    right : (l : Table) (k : ℕ) → length bytes ≡ end l + word_bytes * k → (f : Found) → table_at bytes (end l) ≡ f
+    right : (l : Table) (k : ℕ) → length bytes ≡ end l + word_bytes * k → (f : code_option.Option Table) → table_at bytes (end l) ≡ f
         → with f (λ r. complete (word_at bytes 0) (word_at bytes word_bytes) (words_of_table bytes l) (words_of_table bytes r) (words_from (k - (1 + r.words)) bytes (end r)))
         ≡ with f (right_at bytes l)
-    right l k d (found.Table r) g =
+    right l k d (Some r) g =
         let t = there bytes (end l) g in
         complete-at (k - (1 + r.words)) _ _ _ _ bytes (end r) (omega (arith, t.behind, t.stands.inside))
-    right l k d found.Nothing g = refl
+    right l k d None g = refl
 
-    left : (f : Found) → table_at bytes left_count ≡ f
+    left : (f : code_option.Option Table) → table_at bytes left_count ≡ f
         → with f (λ t. counted (words_from (n - (1 + t.words)) bytes (end t)) (complete (word_at bytes 0) (word_at bytes word_bytes) (words_of_table bytes t)))
         ≡ with f (left_at bytes)
-    left (found.Table l) g =
+    left (Some l) g =
         let t = there bytes left_count g in
         let d : length bytes ≡ end l + word_bytes * (n - (1 + l.words)) = omega (arith, t.behind, t.stands.inside) in
         counted-at (n - (1 + l.words)) bytes (end l) _ d ∙ right l (n - (1 + l.words)) d (table_at bytes (end l)) refl
-    left found.Nothing g = refl
+    left None g = refl
 
 -- The request that bytes are, by where its parts stand.
 pub request-at : (bytes : List ℕ) → request bytes ≡ with (table_at bytes left_count) (left_at bytes)
@@ -154,47 +154,47 @@ request-at bytes = split (length bytes % word_bytes) (length bytes / word_bytes)
     whole (suc (suc n)) e = rw (words_of_whole bytes (suc (suc n)) e) (words_at n bytes (omega arith))
 
     -- The parts of a request take whole words.
-    right : (l : Table) → There bytes left_count l → 0 < length bytes % word_bytes → (f : Found) → table_at bytes (end l) ≡ f → none ≡ with f (right_at bytes l)
-    right l t h (found.Table r) g =
+    right : (l : Table) → There bytes left_count l → 0 < length bytes % word_bytes → (f : code_option.Option Table) → table_at bytes (end l) ≡ f → none ≡ with f (right_at bytes l)
+    right l t h (Some r) g =
         let u = there bytes (end l) g in
         rw (ne_eqb (end r) (length bytes) (λ same. omega (arith, t.behind, u.behind)))
-    right l t h found.Nothing g = refl
+    right l t h None g = refl
 
-    left : 0 < length bytes % word_bytes → (f : Found) → table_at bytes left_count ≡ f → none ≡ with f (left_at bytes)
-    left h (found.Table l) g = right l (there bytes left_count g) h (table_at bytes (end l)) refl
-    left h found.Nothing g = refl
+    left : 0 < length bytes % word_bytes → (f : code_option.Option Table) → table_at bytes left_count ≡ f → none ≡ with f (left_at bytes)
+    left h (Some l) g = right l (there bytes left_count g) h (table_at bytes (end l)) refl
+    left h None g = refl
 
     split : (r n : ℕ) → length bytes ≡ word_bytes * n + r → length bytes % word_bytes ≡ r → bind (words_of bytes) request_of ≡ with (table_at bytes left_count) (left_at bytes)
     split zero n e f = whole n (omega arith)
     split (suc r) n e f = rw (words_of_part bytes (omega arith)) (left (omega arith) (table_at bytes left_count) refl)
 
 -- What each answer of the two searches makes of the bytes.
-pub no_left : (bytes : List ℕ) → table_at bytes left_count ≡ found.Nothing → none ≡ request bytes
+pub no_left : (bytes : List ℕ) → table_at bytes left_count ≡ None → none ≡ request bytes
 no_left bytes e = sym (request-at bytes ∙ rw e)
 
-module _ (bytes : List ℕ) {l : Table} (e : table_at bytes left_count ≡ found.Table l) where
-  pub no_right : table_at bytes (end l) ≡ found.Nothing → none ≡ request bytes
+module _ (bytes : List ℕ) {l : Table} (e : table_at bytes left_count ≡ Some l) where
+  pub no_right : table_at bytes (end l) ≡ None → none ≡ request bytes
   no_right f = sym (request-at bytes ∙ rw (e, f))
 
-  pub surplus : {r : Table} → table_at bytes (end l) ≡ found.Table r → (end r ≡ length bytes → ⊥) → none ≡ request bytes
+  pub surplus : {r : Table} → table_at bytes (end l) ≡ Some r → (end r ≡ length bytes → ⊥) → none ≡ request bytes
   surplus f g = sym (request-at bytes ∙ rw (e, f, ne_eqb _ _ g))
 
-  pub asked : {r : Table} → table_at bytes (end l) ≡ found.Table r → end r ≡ length bytes → some (parts_at bytes l r) ≡ request bytes
+  pub asked : {r : Table} → table_at bytes (end l) ≡ Some r → end r ≡ length bytes → some (parts_at bytes l r) ≡ request bytes
   asked f g = sym (request-at bytes ∙ rw (e, f, eq-eqb _ _ g))
 
 -- Bytes beyond what a request can have are none, so the first byte beyond shows as much as all of them.
 too_long : (bytes : List ℕ) → input_most < length bytes → request bytes ≡ none
 too_long bytes h = request-at bytes ∙ left (table_at bytes left_count) refl
   where
-    right : (l : Table) → There bytes left_count l → (f : Found) → table_at bytes (end l) ≡ f → with f (right_at bytes l) ≡ none
-    right l t (found.Table r) g =
+    right : (l : Table) → There bytes left_count l → (f : code_option.Option Table) → table_at bytes (end l) ≡ f → with f (right_at bytes l) ≡ none
+    right l t (Some r) g =
         let u = there bytes (end l) g in
         rw (ne_eqb (end r) (length bytes) (λ same. omega (arith, t.behind, t.stands.few, u.behind, u.stands.few)))
-    right l t found.Nothing g = refl
+    right l t None g = refl
 
-    left : (f : Found) → table_at bytes left_count ≡ f → with f (left_at bytes) ≡ none
-    left (found.Table l) g = right l (there bytes left_count g) (table_at bytes (end l)) refl
-    left found.Nothing g = refl
+    left : (f : code_option.Option Table) → table_at bytes left_count ≡ f → with f (left_at bytes) ≡ none
+    left (Some l) g = right l (there bytes left_count g) (table_at bytes (end l)) refl
+    left None g = refl
 
 pub read_enough : (bytes : List ℕ) → request (take (suc input_most) bytes) ≡ request bytes
 read_enough bytes = go (dec_lt input_most (length bytes))

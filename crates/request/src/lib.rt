@@ -29,69 +29,52 @@ pub struct Table {
     pub words: usize,
 }
 
-// The table behind a word count, if it may stand there.
+// The parts of a request.
 #[derive(Clone, Copy)]
-enum Found {
-    Table(Table),
-    Nothing,
-}
-
-// The request that bytes are, if they are one.
-#[derive(Clone, Copy)]
-pub enum Parsed {
-    Request {
-        budget: u32,
-        c: u32,
-        left: Table,
-        right: Table,
-    },
-    Malformed,
+pub struct Request {
+    pub budget: u32,
+    pub c: u32,
+    pub left: Table,
+    pub right: Table,
 }
 
 // The table whose word count stands at a position: none where a byte of it is missing, or the count is above its limit.
-fn table_at(bytes: &[u8], at: usize) -> Found
+fn table_at(bytes: &[u8], at: usize) -> Option<Table>
     requires { at ≤ length bytes.now }
     ensures { result ≡ table_at bytes.now at }
 {
     let ahead = bytes.len() - at;
     if ahead < WORD_BYTES {
-        return Found::Nothing;
+        return None;
     }
     let words = word_at(bytes, at) as usize;
-    if TABLE_MOST < words {
-        return Found::Nothing;
+    if TABLE_MOST < words || ahead < WORD_BYTES + WORD_BYTES * words {
+        return None;
     }
-    if ahead < WORD_BYTES + WORD_BYTES * words {
-        return Found::Nothing;
-    }
-    Found::Table(Table {
+    Some(Table {
         at: at + WORD_BYTES,
         words,
     })
 }
 
 // Budget, C and the two tables stand one after the other, and nothing behind them.
-pub fn parse(bytes: &[u8]) -> Parsed
+pub fn parse(bytes: &[u8]) -> Option<Request>
     ensures { Parses bytes.now result }
 {
     if bytes.len() < LEFT {
-        return Parsed::Malformed;
+        return None;
     }
-    let Found::Table(left) = table_at(bytes, LEFT) else {
-        return Parsed::Malformed;
-    };
-    let Found::Table(right) = table_at(bytes, left.at + WORD_BYTES * left.words) else {
-        return Parsed::Malformed;
-    };
+    let left = table_at(bytes, LEFT)?;
+    let right = table_at(bytes, left.at + WORD_BYTES * left.words)?;
     if right.at + WORD_BYTES * right.words != bytes.len() {
-        return Parsed::Malformed;
+        return None;
     }
-    Parsed::Request {
+    Some(Request {
         budget: word_at(bytes, BUDGET),
         c: word_at(bytes, C),
         left,
         right,
-    }
+    })
 }
 
 // Does nothing. Its contract says that each constant is the number that the definitions give its name.

@@ -3,15 +3,17 @@ use Rattle.request.proofs.RequestLaws.{count_missing, too_many, words_missing, s
 use mathlib.Core.Path.{sym}
 use native.Mathlib.Omega.{arith}
 use Rattle.request.proofs.table_at.Goals as goal
+use Rattle.request.proofs.table_at.Goals.{then-words-gt-TABLE_MOST-via-then-words-gt-TABLE_MOST, then-words-gt-TABLE_MOST-via-else-words-gt-TABLE_MOST+then-ahead-words}
 
 pub returns-then-ahead-lt-WORD_BYTES : goal.returns-then-ahead-lt-WORD_BYTES
 returns-then-ahead-lt-WORD_BYTES c = sym (count_missing _ _ (omega arith))
 
 pub returns-then-words-gt-TABLE_MOST : goal.returns-then-words-gt-TABLE_MOST
-returns-then-words-gt-TABLE_MOST c = sym (too_many _ _ (omega (arith, c.word_at-words.ensures)))
-
-pub returns-then-ahead-words : goal.returns-then-ahead-words
-returns-then-ahead-words c = sym (words_missing _ _ (omega (arith, c.word_at-words.ensures)))
+returns-then-words-gt-TABLE_MOST c =
+    elim c.then-words-gt-TABLE_MOST.branch [
+      | then-words-gt-TABLE_MOST-via-then-words-gt-TABLE_MOST w ↦ sym (too_many _ _ (omega (arith, c.word_at-words.ensures)))
+      | then-words-gt-TABLE_MOST-via-else-words-gt-TABLE_MOST+then-ahead-words w ↦ sym (words_missing _ _ (omega (arith, c.word_at-words.ensures)))
+    ]
 
 pub returns : goal.returns
 returns c =
