@@ -21,6 +21,7 @@ pub const PRINTED_MOST: usize = VERDICT_MOST + 4 * (1 + DIGITS_MOST) + 1;
 #[derive(Clone, Copy)]
 pub enum Line {
     Input,
+    // A number: `put_line` prints any, and would ask more of its callers if it took a refusal alone.
     Refuses(u32),
     Shows(Shown),
 }
@@ -30,12 +31,13 @@ fn put_verdict(verdict: Verdict, out: &mut [u8], at: usize) -> usize
     requires { at + length (name_of (verdict_of verdict)) ≤ length out.old }
     ensures { Placed out.old at (name_of (verdict_of verdict)) out.new result }
 {
-    match verdict {
-        Verdict::Same => put_bytes(b"Same", out, at),
-        Verdict::Different => put_bytes(b"Different", out, at),
-        Verdict::Budget => put_bytes(b"Budget", out, at),
-        Verdict::Full => put_bytes(b"Full", out, at),
-    }
+    let name: &[u8] = match verdict {
+        Verdict::Same => b"Same",
+        Verdict::Different => b"Different",
+        Verdict::Budget => b"Budget",
+        Verdict::Full => b"Full",
+    };
+    put_bytes(name, out, at)
 }
 
 fn put_refusal(number: u32, out: &mut [u8]) -> usize
@@ -53,10 +55,8 @@ fn put_position(verdict: Verdict, position: usize, out: &mut [u8], at: usize) ->
     ensures { Placed out.old at (position_field (verdict_of verdict) position) out.new result }
 {
     match verdict {
-        Verdict::Same => at,
         Verdict::Different => put_field(position, out, at),
-        Verdict::Budget => at,
-        Verdict::Full => at,
+        Verdict::Same | Verdict::Budget | Verdict::Full => at,
     }
 }
 

@@ -4,5 +4,4 @@ use Rattle.verdict_text.proofs.put_refusal.Goals as goal
 
 pub returns : goal.returns
 returns c =
-    let e = c in
     placed_append c.put_bytes-name.ensures (placed_append c.put_field-field.ensures c.put_end.ensures)
