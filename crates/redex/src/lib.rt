@@ -1,4 +1,5 @@
-// A redex taken apart, and the plan of its contraction: its rule, what the rule puts, and the length of the next term.
+// A redex taken apart, and the plan of its contraction: its rule, what the rule puts, and the length of the next term. The term is the first `n` words
+// of a workspace, which C lends with more room than that: `Holds` and `Plans` are stated of both, so the two stay apart.
 #![tactic(auto)]
 
 ghost use Rattle.std.specs.Prelude.{◌≡◌, ◌≤◌, ◌<◌, ◌-◌, ◌↔◌, IsTrue, length, slice_index};
@@ -77,8 +78,7 @@ pub fn beta(ws: &[u32], n: usize, at: usize, room: &mut [u32]) -> Redex
 {
     let start = at + 2;
     let found = measure(ws, start, 1, room);
-    let occurs = found.occurs;
-    let times = occurs[0];
+    let times = found.occurs[0];
     let args = found.end;
     let after = argument_end(ws, args, times, found.last);
     let length = at + (args - start - times + times * (after - args)) + (n - after);

@@ -1,4 +1,5 @@
-// A table of where items end, so that stuck cases nested in one another cost one pass.
+// A table of where items end, so that stuck cases nested in one another cost one pass. The table and the position before which it is known are not one
+// value: it lies in the scratch, which is lent for the walks over a redex too, so such a value would be made anew for each call.
 ghost use Rattle.std.specs.Prelude.{◌≡◌, ◌≤◌, ◌+◌, length, drop};
 ghost use Rattle.calculus.specs.Words.{workspace_most};
 ghost use Rattle.calculus.specs.Skip.{span};

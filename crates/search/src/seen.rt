@@ -13,7 +13,8 @@ use words::Word;
 use words::kind::Kind;
 use words::pattern::is_default;
 
-// What is seen at a position: nothing that contracts, a case that is stuck and whose ends inside are not known yet, or a redex with its plan.
+// What is seen at a position: nothing that contracts, a case that is stuck and whose ends inside are not known yet, or a redex with its plan. (No Option:
+// a stuck case is neither nothing nor a redex.)
 #[derive(Clone, Copy)]
 pub enum Seen {
     Nothing,
