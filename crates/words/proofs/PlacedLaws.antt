@@ -5,11 +5,11 @@ use mathlib.Core.List.{List, [], ◌∷◌, ◌++◌, append-nil, append_assoc}
 use native.Mathlib.Nat.{add-zero}
 use native.Mathlib.Numerals.{add-one}
 use native.Mathlib.Omega.{arith}
-use lib.ListN.{length, take, drop, set, length-append, drop_of_length-le}
-use lib.Seq.{sets, sets-eq, length-sets, slice, drop-drop, take-append_seam, take-take, take-set-le}
+use lib.ListN.{length, take, drop, set, get_or, length-append, drop_of_length-le}
+use lib.Seq.{sets, sets-eq, length-sets, slice, slice-cons, slice_empty, length-slice, drop-drop, take-append_seam, take-take, take-set-le}
 use borrow.Rule.Slice.PartMut.{put_mid}
 use Rattle.std.proofs.lemmas.List.{drop-set as stored}
-use Rattle.words.specs.Placed.{Placed}
+use Rattle.words.specs.Placed.{Placed, Copies}
 
 -- A word stored, and what stands from there on.
 pub drop-set : (l : List ℕ) (i v : ℕ) → i < length l → drop i (set l i v) ≡ v ∷ drop (suc i) l
@@ -66,3 +66,19 @@ sets_part vs l i to p e h =
 
 pub placed_part : {X : Type 0} {part : List X} (vs l : List X) (out end : ℕ) → part ≡ vs → out + length vs ≡ end → end ≤ length l → Placed l out vs (put_mid out (end - out) l part) end
 placed_part vs l out end p e h = record { slice = sets_part vs l out end p e h; position = omega arith }
+
+-- A turn of copying: the first of what is still to copy is put, and the others come behind it.
+pub copied_turn : {X : Type 0} (src dst : List X) (from to out i : ℕ) (x : X) → x ≡ get_or src (from + i) x → i < to - from → to ≤ length src
+    → sets (set dst (out + i) x) (out + (i + 1)) (slice (from + (i + 1)) to src) ≡ sets dst (out + i) (slice (from + i) to src)
+copied_turn src dst from to out i x e l within =
+    let f : from + (i + 1) ≡ suc (from + i) = omega arith in
+    let o : out + (i + 1) ≡ suc (out + i) = omega arith in
+    rw (f, o, slice-cons (from + i) to src x (omega (arith, l)) within, ← e)
+
+-- Nothing is left to copy.
+pub copied : {X : Type 0} {src before after : List X} {from to out i : ℕ} → Copies src from to before out → to - from ≤ i → i ≤ to - from
+    → sets after (out + i) (slice (from + i) to src) ≡ sets before out (slice from to src)
+    → Placed before out (slice from to src) after (out + (to - from))
+copied {src = src} {from = from} {to} {i = i} h past most e =
+    let all : from + i ≡ to = omega (arith, h.ordered) in
+    record { slice = rw (all, slice_empty to src) at e; position = omega (arith, length-slice from to src h.within) }

@@ -26,7 +26,9 @@ pub fn copy<T: Copy>(src: &[T], from: usize, to: usize, dst: &mut [T], out: usiz
     requires { Copies src.now from to dst.old out }
     ensures { Placed dst.old out (slice from to src.now) dst.new result }
 {
-    let end = out + (to - from);
-    dst[out..end].copy_from_slice(&src[from..to]);
-    end
+    // By index: the library's `copy_from_slice` is C's memmove, which the archive doesn't ask for.
+    for i in 0..to - from {
+        dst[out + i] = src[from + i];
+    }
+    out + (to - from)
 }

@@ -1,15 +1,12 @@
 -- `copy` meets its contract.
-use Prim.Native.Nat.{◌+◌, ◌-◌}
-use Rattle.words.proofs.PlacedLaws.{placed_part}
-use mathlib.Core.Path.{◌∙◌}
-use Rattle.std.proofs.lemmas.Slice.{between_is}
-use lib.Seq.{slice, length-slice}
-use native.Mathlib.Omega.{arith}
+use Rattle.words.proofs.PlacedLaws.{copied_turn, copied}
+use Rattle.std.proofs.Common.{◌∙◌}
 use Rattle.words.proofs.slices.copy.Goals as goal
 
-pub returns : goal.returns
-returns g c =
+pub loop-i-preserved : goal.loop-i-preserved
+loop-i-preserved g c =
     let a = c.args in
-    placed_part (slice a.from a.to a.src.now) a.dst.now a.out (a.out + (a.to - a.from)) (c.copy_from_slice.ensures.after ∙ between_is a.src.now a.from a.to)
-    (omega (arith, length-slice a.from a.to a.src.now c.requires.within))
-    (omega arith)
+    copied_turn a.src.now c.loop-i.dst a.from a.to a.out c.loop-i.i c.index-src-from.result c.index-src-from.is c.loop-i-test.true c.requires.within ∙ c.loop-i.invariant
+
+pub returns : goal.returns
+returns g c = copied c.requires c.loop-i-test.false c.loop-i.auto.i-end c.loop-i.invariant
