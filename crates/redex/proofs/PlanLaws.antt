@@ -16,7 +16,7 @@ use Rattle.walk.specs.Rewritten.{substituting, standing}
 use Rattle.substitution.specs.Results.{substituted, Replaced}
 use Rattle.substitution.specs.Measure.{Measurable, occurrences}
 use Rattle.walk.proofs.DepthLaws.{span-depths}
-use Rattle.substitution.proofs.ItemLaws.{slice_taken}
+use Rattle.std.proofs.lemmas.List.{drop-take}
 use Rattle.substitution.proofs.ResultLaws.{arguments-size}
 use Rattle.substitution.proofs.RewritingLaws.{standing-more, rewritten-alone, standing-substituted}
 use Rattle.walk.proofs.RewrittenLaws.{place-argument}
@@ -186,7 +186,7 @@ module _ {ws room : List ℕ} {n at b a : ℕ} (h : At ws n at room) (found : pa
   argument-words : slice a behind ws ≡ words xs
   argument-words =
       let e : behind ≡ a + size xs = omega (arith, arguments-size c.substitutable) in
-      rw e (slice_taken a (size xs) ws ∙ c.substitutable.args_start.first)
+      rw e (drop-take a (size xs) ws ∙ c.substitutable.args_start.first)
 
   argument_stays : words xs ++ slice (end_at ws at) n ws ≡ slice a n ws
   argument_stays =

@@ -23,7 +23,7 @@ use Rattle.calculus.proofs.SizeLaws.{size-shift}
 use Rattle.substitution.proofs.StartLaws.{Offsets}
 use Rattle.substitution.proofs.ArgumentLaws.{Argument, argument_some, place_index, rewritten-argument}
 
-module _ {ws : List ℕ} {body args n : ℕ} (h : Substitutable ws body args n) {starts : List ℕ} (p : Offsets ws args starts n) (d w : ℕ) (bounded : d ≤ count_base * workspace_most) {j : ℕ} (place_is : j ≡ place n d w) (chosen : j < n) where
+module _ {ws : List ℕ} {body args n : ℕ} (h : Substitutable ws body args n) {starts : List ℕ} (p : Offsets ws args starts (n + 1)) (d w : ℕ) (bounded : d ≤ count_base * workspace_most) {j : ℕ} (place_is : j ≡ place n d w) (chosen : j < n) where
   abbrev xs : Terms
   xs = first_terms n (drop args ws)
 
@@ -40,7 +40,7 @@ module _ {ws : List ℕ} {body args n : ℕ} (h : Substitutable ws body args n) 
   before = omega (arith, place_is, index_is.1, h.args_count)
 
   start_is : get_or starts j 0 ≡ args + span j (drop args ws)
-  start_is = p.offsets j (omega arith)
+  start_is = p.each j (omega arith)
 
   -- The argument stands at the start of its place.
   stands : drop (get_or starts j 0) ws ≡ words found.tree ++ found.rest
@@ -67,7 +67,7 @@ module _ {ws : List ℕ} {body args n : ℕ} (h : Substitutable ws body args n) 
       omega (
         arith,
         start_is,
-        p.offsets (j + 1) (omega arith),
+        p.each (j + 1) (omega arith),
         span-add (drop args ws) j 1,
         ap (span 1) (drop-drop (span j (drop args ws)) args ws),
         ap (λ m. span 1 (drop m ws)) start_is,
@@ -92,7 +92,7 @@ module _ {ws : List ℕ} {body args n : ℕ} (h : Substitutable ws body args n) 
         arith,
         chosen_end,
         start_is,
-        p.offsets (j + 1) (omega arith),
+        p.each (j + 1) (omega arith),
         span-add (drop args ws) (j + 1) (n - (j + 1)),
         ap (λ m. span m (drop args ws)) e,
       )

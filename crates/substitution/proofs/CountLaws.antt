@@ -124,7 +124,7 @@ module _ (n : ℕ) where
         ∙ ap₂ ◌+◌ (told d w (omega arith)) (weigh_flat ws es (b + count_base) (bounded_word b (b + count_base) w d ds p (omega arith)) (omega arith))
 
 -- Of a body and its arguments, by the starts of these.
-module _ {src : List ℕ} {body args n : ℕ} (h : Substitutable src body args n) {starts : List ℕ} (p : Offsets src args starts n) where
+module _ {src : List ℕ} {body args n : ℕ} (h : Substitutable src body args n) {starts : List ℕ} (p : Offsets src args starts (n + 1)) where
   abbrev pub length_of : ℕ → ℕ
   length_of j = get_or starts (j + 1) 0 - get_or starts j 0
 
@@ -172,14 +172,14 @@ module _ (n : ℕ) where
 -- The loop over the arguments: the words replaced by the first j of them are taken off, and these are put on.
 pub record Adding (src : List ℕ) (body args n : ℕ) (occurs starts : List ℕ) (total j : ℕ) : Type 0 where
   pub needs : Substitutable src body args n
-  pub offsets : Offsets src args starts n
+  pub offsets : Offsets src args starts (n + 1)
   pub occur : (k : ℕ) → k < n → get_or occurs k 0 ≡ occurrences n k (0 ∷ []) (drop body src)
   pub before : j ≤ n
   pub few : total ≤ workspace_most + j * (workspace_most * workspace_most)
   pub sum : total + sum_to j (λ k. occurrences n k (0 ∷ []) (drop body src))
       ≡ span 1 (drop body src) + sum_to j (λ k. occurrences n k (0 ∷ []) (drop body src) * (get_or starts (k + 1) 0 - get_or starts k 0))
 
-pub adding_start : {src occurs starts : List ℕ} {body args n end last : ℕ} → Substitutable src body args n → Offsets src args starts n
+pub adding_start : {src occurs starts : List ℕ} {body args n end last : ℕ} → Substitutable src body args n → Offsets src args starts (n + 1)
     → Measures src body n end last occurs → Adding src body args n occurs starts (end - body) 0
 adding_start {src} {body = body} h p m =
     record {
@@ -212,8 +212,8 @@ module _ {src : List ℕ} {body args n : ℕ} {occurs starts : List ℕ} {total 
         let d = drop (span j (drop args src)) (drop args src) in
         omega (
           arith,
-          v.offsets.offsets j (omega arith),
-          v.offsets.offsets (j + 1) (omega arith),
+          v.offsets.each j (omega arith),
+          v.offsets.each (j + 1) (omega arith),
           span-add (drop args src) j 1,
           span_bounded 1 d,
           length-drop (span j (drop args src)) (drop args src),
@@ -248,10 +248,10 @@ module _ {src : List ℕ} {body args n : ℕ} {occurs starts : List ℕ} {total 
 -- One argument, from where it starts and ends.
 module _ {src : List ℕ} {body args after times : ℕ} (h : Substitutable src body args 1) (after_is : after ≡ args + span 1 (drop args src))
     (occur : times ≡ occurrences 1 0 (0 ∷ []) (drop body src)) where
-  one_argument : Offsets src args (args ∷ after ∷ []) 1
-  one_argument = record { offsets = go }
+  one_argument : Offsets src args (args ∷ after ∷ []) 2
+  one_argument = record { each = go }
     where
-      go : (i : ℕ) → i ≤ 1 → get_or (args ∷ after ∷ []) i 0 ≡ args + span i (drop args src)
+      go : (i : ℕ) → i < 2 → get_or (args ∷ after ∷ []) i 0 ≡ args + span i (drop args src)
       go zero l = omega (arith, span_zero (drop args src))
       go (suc zero) l = after_is
       go (suc (suc i)) l = absurd (omega arith)

@@ -1,11 +1,11 @@
 -- An item of a workspace as a part of it: the words from a position up to the end that the code finds are those of one term.
-use Prim.Native.Nat.{ℕ, zero, suc, ◌+◌, ◌≤◌, ◌<◌}
-use mathlib.Core.Path.{◌≡◌, refl, sym, ◌∙◌, ap}
-use mathlib.Core.List.{List, [], ◌∷◌}
-use native.Mathlib.Nat.{zero-add, suc-add}
+use Prim.Native.Nat.{ℕ, ◌+◌, ◌≤◌, ◌<◌}
+use mathlib.Core.Path.{◌≡◌, refl, ◌∙◌, ap}
+use mathlib.Core.List.{List}
 use native.Mathlib.Omega.{arith}
-use lib.ListN.{length, take, drop, length-take, length-drop}
-use lib.Seq.{slice, take-nil}
+use lib.ListN.{length, drop, length-take, length-drop}
+use lib.Seq.{slice}
+use Rattle.std.proofs.lemmas.List.{drop-take}
 use Rattle.calculus.specs.Term.{Term}
 use Rattle.calculus.specs.Words.{words, size}
 use Rattle.calculus.specs.Skip.{span}
@@ -14,12 +14,6 @@ use Rattle.calculus.proofs.WordLaws.{size_positive}
 use Rattle.calculus.proofs.FirstLaws.{span-items}
 use Rattle.substitution.specs.Results.{Starts}
 use Rattle.substitution.proofs.ResultLaws.{starts_split}
-
--- A part of a list is taken from where it starts.
-pub slice_taken : (f k : ℕ) (l : List ℕ) → slice f (f + k) l ≡ take k (drop f l)
-slice_taken zero k l = rw zero-add
-slice_taken (suc f) k [] = rw (suc-add f k) (sym (take-nil k))
-slice_taken (suc f) k (x ∷ xs) = rw (suc-add f k) (slice_taken f k xs)
 
 -- A term stands at a position and ends at another.
 pub record Item (ws : List ℕ) (at last : ℕ) : Type 0 where
@@ -40,7 +34,7 @@ module _ {ws : List ℕ} {at last : ℕ} (h : Item ws at last) where
       )
 
   pub item-words : slice at last ws ≡ words t
-  item-words = rw item-size (slice_taken at (size t) ws ∙ h.starts.first)
+  item-words = rw item-size (drop-take at (size t) ws ∙ h.starts.first)
 
   pub item-within : (at < last) × (last ≤ length ws)
   item-within =

@@ -11,21 +11,17 @@ use Rattle.calculus.specs.Skip.{span}
 use Rattle.calculus.proofs.SkipLaws.{span_zero, span-add}
 use Rattle.substitution.specs.Results.{Positions}
 
--- The positions at which the items from position `args` on start, up to the j-th.
+-- The positions at which the items from position `args` on start, those before the j-th.
 pub record Offsets (src : List ℕ) (args : ℕ) (starts : List ℕ) (j : ℕ) : Type 0 where
-  pub offsets : (i : ℕ) → i ≤ j → get_or starts i 0 ≡ args + span i (drop args src)
-
--- Those of the items before the j-th are written.
-pub record Started (src : List ℕ) (args : ℕ) (starts : List ℕ) (j : ℕ) : Type 0 where
   pub each : (i : ℕ) → i < j → get_or starts i 0 ≡ args + span i (drop args src)
 
-pub started_first : (src : List ℕ) (args : ℕ) (starts : List ℕ) → get_or starts 0 0 ≡ args → Started src args starts 1
-started_first src args starts q =
+pub offsets_first : (src : List ℕ) (args : ℕ) (starts : List ℕ) → get_or starts 0 0 ≡ args → Offsets src args starts 1
+offsets_first src args starts q =
     record { each = λ i h. let e : i ≡ 0 = omega arith in rw e (omega (arith, q, span_zero (drop args src))) }
 
-pub started_next : (src : List ℕ) (args : ℕ) (starts : List ℕ) (j end : ℕ) → 1 ≤ j → j < length starts → Started src args starts j
-    → end ≡ get_or starts (j - 1) 0 + span 1 (drop (get_or starts (j - 1) 0) src) → Started src args (set starts j end) (j + 1)
-started_next src args starts j end some room p q =
+pub offsets_next : (src : List ℕ) (args : ℕ) (starts : List ℕ) (j end : ℕ) → 1 ≤ j → j < length starts → Offsets src args starts j
+    → end ≡ get_or starts (j - 1) 0 + span 1 (drop (get_or starts (j - 1) 0) src) → Offsets src args (set starts j end) (j + 1)
+offsets_next src args starts j end some room p q =
     record { each = λ i h. ⊎_elim (here i) (before i) (eq-or-lt_of_le (omega arith)) }
   where
     next : end ≡ args + span j (drop args src)
@@ -43,9 +39,9 @@ started_next src args starts j end some room p q =
 
 -- Where that position is the end of the last item, it is an offset too.
 pub positions_offsets : {src : List ℕ} {args after n : ℕ} {starts : List ℕ} → Positions src args after n starts → after ≡ args + span n (drop args src)
-    → Offsets src args starts n
+    → Offsets src args starts (n + 1)
 positions_offsets {src} {args} {after} {n} {starts} p q =
-    record { offsets = λ i h. ⊎_elim (last i) (p.each i) (eq-or-lt_of_le h) }
+    record { each = λ i h. ⊎_elim (last i) (p.each i) (eq-or-lt_of_le (omega arith)) }
   where
     last : (i : ℕ) → i ≡ n → get_or starts i 0 ≡ args + span i (drop args src)
     last i e =

@@ -17,7 +17,7 @@ fn moved(index: u32, distance: i32) -> u32
     (index as i64 + distance as i64) as u32
 }
 
-// The distance up by so many binders, and down.
+// The distance up by so many binders, and down. By `as`: the bound makes it exact, and `try_from` would answer a Result that is never an Err.
 pub fn up(binders: u32) -> i32
     requires { binders < distance_bound }
     ensures { result ≡ pos binders }

@@ -1,6 +1,6 @@
 -- `starts` meets its contract. The invariant: the starts of the items before the j-th are written, and the places behind hold 0.
 use Rattle.calculus.specs.Accepted.{argument_limit}
-use Rattle.substitution.proofs.StartLaws.{started_first, started_next}
+use Rattle.substitution.proofs.StartLaws.{offsets_first, offsets_next}
 use Rattle.std.proofs.lemmas.List.{drop-replicate}
 use Rattle.words.proofs.PlacedLaws.{drop-set}
 use lib.ListN.{replicate, length-set}
@@ -15,7 +15,7 @@ pub loop-j-init : goal.loop-j-init
 loop-j-init c = (
   refl,
   omega arith,
-  started_first c.args.src.now c.args.body.args _ refl,
+  offsets_first c.args.src.now c.args.body.args _ refl,
   λ k l. drop-set-lt k (replicate (suc argument_limit) 0) 0 c.args.body.args l ∙ drop-replicate k (suc argument_limit) 0,
 )
 
@@ -24,7 +24,7 @@ loop-j-preserved c =
     let l = c.loop-j in (
       simp length-set l.invariant.0,
       omega arith,
-      started_next c.args.src.now c.args.body.args l.starts l.j c.extent.result l.auto.j (omega arith) l.invariant.2 c.extent.ensures,
+      offsets_next c.args.src.now c.args.body.args l.starts l.j c.extent.result l.auto.j (omega arith) l.invariant.2 c.extent.ensures,
       λ k m. drop-set-lt k l.starts l.j c.extent.result (omega arith) ∙ l.invariant.3 k (omega arith),
     )
 

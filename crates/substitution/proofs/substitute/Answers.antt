@@ -43,7 +43,7 @@ module _ {src dst₀ room₀ dst room : List ℕ} {body stop args after n out ne
     pub chosen : (j ≡ place n depth (get_or src i 0)) × (j < n)
     chosen = argument_place n depth (get_or src i 0) stands
 
-    placed : Offsets src args starts n
+    placed : Offsets src args starts (n + 1)
     placed =
         positions_offsets told
         (p.after_is i (rewriting_within v more).2 more (rw (walking_number v.walking (rewriting_some v more), ← chosen.0) chosen.1))
