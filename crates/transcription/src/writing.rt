@@ -65,14 +65,12 @@ fn put_records(ws: &[u32], table: &mut [u32])
 {
     let mut levels = [0usize; LEVELS];
     let mut top = push(&mut levels, LEVELS, 1);
-    let mut i = 0;
-    while i < ws.len() {
+    for i in 0..ws.len() {
         if top == LEVELS {
             return;
         }
         entry(ws, i, levels[top] - 1).put(table, Form::One, i + 1);
         top = descend(&mut levels, top, Word(ws[i]).arity());
-        i += 1;
     }
 }
 
