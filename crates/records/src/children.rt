@@ -6,7 +6,7 @@ ghost use Rattle.records.specs.Preconditions.{Walkable};
 
 use crate::chain::Chain;
 use crate::values::number_fits;
-use crate::{Form, Record, count, root};
+use crate::{Form, Record, indices, root};
 use words::kind::Kind;
 
 // How many records a chain has.
@@ -83,7 +83,7 @@ pub fn wrong_children(table: &[u32], form: Form) -> bool
     requires { Walkable (stored form table.now) (viewed form table.now).root × (1 ≤ (viewed form table.now).root) }
     ensures { result ≡ wrong_children (viewed form table.now) }
 {
-    if !(1..=count(table)).all(|i| record_fits(table, form, i)) {
+    if !indices(table).all(|i| record_fits(table, form, i)) {
         return true;
     }
     let top = Record::at(table, form, root(table));

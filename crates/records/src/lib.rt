@@ -1,7 +1,7 @@
 // Records of a stored table by value ("The stored table"), the forms in which their words are kept, and the refusals that are about header and records.
 #![tactic(auto)]
 
-ghost use Rattle.std.specs.Prelude.{◌≡◌, ◌*◌, ◌^◌, ◌<◌, length, get_or};
+ghost use Rattle.std.specs.Prelude.{◌≡◌, ◌+◌, ◌*◌, ◌^◌, ◌<◌, length, get_or};
 ghost use Rattle.std.proofs.lemmas.List.Edits.{sets};
 ghost use Rattle.calculus.specs.Words.{tag_of};
 ghost use Rattle.storage.specs.Children.{is_branch};
@@ -9,6 +9,7 @@ ghost use Rattle.storage.specs.Records.{header_count, header_root, record_at, fo
 ghost use Rattle.records.specs.Preconditions.{Inside, Puttable};
 ghost use Rattle.records.specs.Types.{form_of, stored, record_of};
 
+use std::ops::Range;
 use words::Word;
 use words::kind::Kind;
 use words::slices::copy;
@@ -164,6 +165,15 @@ pub fn root(table: &[u32]) -> usize
     ensures { result ≡ header_root table.now }
 {
     index_at(table, 2)
+}
+
+// The indices of the records.
+fn indices(table: &[u32]) -> Range<usize>
+    requires { 2 < length table.now }
+    ensures from { result.start ≡ 1 }
+    ensures to { result.end ≡ header_count table.now + 1 }
+{
+    1..count(table) + 1
 }
 
 // Does nothing. Its contract says that each constant is the number that the definitions give its name.

@@ -8,7 +8,7 @@ ghost use Rattle.storage.specs.Links.{link_fits, links_fit, namings, wrong_link}
 ghost use Rattle.records.specs.Counting.{more, counted, room_most, Countable};
 ghost use Rattle.records.specs.Types.{stored, viewed};
 
-use crate::{Form, Record, count, root};
+use crate::{Form, Record, count, indices, root};
 use words::Word;
 
 // Room for a count for each index that a link may be, or for the words of a term.
@@ -76,7 +76,7 @@ pub fn wrong_links(table: &[u32], form: Form, room: &mut [u32]) -> bool
     requires zeros { room.old ≡ replicate room_most 0 }
     ensures { (result ≡ wrong_link (viewed form table.now)) × Room room.old room.new }
 {
-    !(1..=count(table)).all(|i| links_fit(table, form, i)) || !named_once(table, form, room)
+    !indices(table).all(|i| links_fit(table, form, i)) || !named_once(table, form, room)
 }
 
 // Does nothing. Its contract says that the constant is the number that the definitions give its name.

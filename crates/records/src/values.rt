@@ -5,7 +5,7 @@ ghost use Rattle.records.specs.Types.{declared_of, stored, viewed};
 ghost use Rattle.storage.specs.Header.{wrong_length};
 ghost use Rattle.storage.specs.Values.{value_fits, numberFits, declared_fits, valued, wrong_value};
 
-use crate::{Form, Record, count};
+use crate::{Form, Record, indices};
 use words::Word;
 use words::kind::Kind;
 use words::pattern::is_tag;
@@ -55,5 +55,5 @@ pub fn wrong_values(table: &[u32], form: Form) -> bool
     requires { wrong_length (stored form table.now) ≡ false }
     ensures { result ≡ wrong_value (viewed form table.now) }
 {
-    !(1..=count(table)).all(|i| value_fits(table, form, i))
+    !indices(table).all(|i| value_fits(table, form, i))
 }

@@ -1,6 +1,7 @@
 -- `wrong_children` meets its contract: the children of every record, and then the root.
 use Rattle.std.proofs.Common.{rules, arith, ap, ◌∙◌}
-use Rattle.records.proofs.EveryLaws.{each_callable, every_called}
+use Rattle.std.proofs.lemmas.Iterator.{serves_from_Range}
+use Rattle.records.proofs.EveryLaws.{every_called}
 use Rattle.records.proofs.RecordLaws.{headed}
 use Rattle.records.proofs.Walks.{walk_inside}
 use Rattle.records.specs.Types.{stored, viewed, record_of}
@@ -12,15 +13,15 @@ use Prim.Native.Nat.{ℕ}
 use mathlib.Core.Path.{◌≡◌}
 use Rattle.records.proofs.children.wrong_children.Goals as goal
 
-pub count-requires : goal.count-requires
-count-requires c = headed _ c.requires.0.length_fits
+pub indices-requires : goal.indices-requires
+indices-requires c = headed _ c.requires.0.length_fits
 
 pub all-requires-clause-callable : goal.all-requires-clause-callable
 all-requires-clause-callable c =
-    each_callable _ c.new.ensures.start c.new.ensures.end c.new.ensures.exhausted (λ x q k. search rules)
+    serves_from_Range (λ x q k. search rules)
     (λ i l u.
     let S = stored c.args.form c.args.table.now in
-    let here : Walkable S i = record { length_fits = c.requires.0.length_fits; links-fit = c.requires.0.links-fit; link_within = omega (arith, c.count.ensures) } in
+    let here : Walkable S i = record { length_fits = c.requires.0.length_fits; links-fit = c.requires.0.links-fit; link_within = omega (arith, c.indices.ensures) } in
     search rules)
 
 pub at-top-requires : goal.at-top-requires
@@ -33,22 +34,19 @@ top S r e q = parts (e ∙ ap (record_at S) q)
 pub returns-then-not-all : goal.returns-then-not-all
 unfolding wrong_children
 returns-then-not-all c =
-    let made = c.new.ensures in
-    let fit = every_called _ made.start (made.end ∙ c.count.ensures) made.exhausted (record_fits (viewed c.args.form c.args.table.now)) _ _ c.all.result c.all.ensures.ran (λ x b q k. search rules) in
+    let fit = every_called _ c.indices.ensures.from c.indices.ensures.to (record_fits (viewed c.args.form c.args.table.now)) _ _ c.all.result c.all.ensures.ran (λ x b q k. search rules) in
     rw (← fit, c.if-not-all.true)
 
 pub returns-then-is_branch : goal.returns-then-is_branch
 unfolding wrong_children
 returns-then-is_branch c =
-    let made = c.new.ensures in
-    let fit = every_called _ made.start (made.end ∙ c.count.ensures) made.exhausted (record_fits (viewed c.args.form c.args.table.now)) _ _ c.all.result c.all.ensures.ran (λ x b q k. search rules) in
+    let fit = every_called _ c.indices.ensures.from c.indices.ensures.to (record_fits (viewed c.args.form c.args.table.now)) _ _ c.all.result c.all.ensures.ran (λ x b q k. search rules) in
     let r = top (stored c.args.form c.args.table.now) (record_of c.at-top.result) c.at-top.ensures c.root.ensures in
     rw (← fit, c.if-not-all.false, ← r.kind, ← c.is_branch.ensures, c.if-is_branch.true)
 
 pub returns-else-is_branch : goal.returns-else-is_branch
 unfolding wrong_children
 returns-else-is_branch c =
-    let made = c.new.ensures in
-    let fit = every_called _ made.start (made.end ∙ c.count.ensures) made.exhausted (record_fits (viewed c.args.form c.args.table.now)) _ _ c.all.result c.all.ensures.ran (λ x b q k. search rules) in
+    let fit = every_called _ c.indices.ensures.from c.indices.ensures.to (record_fits (viewed c.args.form c.args.table.now)) _ _ c.all.result c.all.ensures.ran (λ x b q k. search rules) in
     let r = top (stored c.args.form c.args.table.now) (record_of c.at-top.result) c.at-top.ensures c.root.ensures in
     rw (← fit, c.if-not-all.false, ← r.kind, ← c.is_branch.ensures, c.if-is_branch.false, ← r.next)
