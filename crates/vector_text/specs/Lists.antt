@@ -1,13 +1,10 @@
 -- Lists of words at a position of a line: words with commas between them, `times*word` for equal ones; `-` for no words.
-use Rattle.std.specs.Prelude.{ℕ, zero, suc, ◌+◌, ◌*◌, cond, List, [], ◌∷◌, eqb, leb, length, replicate}
+use Rattle.std.specs.Prelude.{ℕ, zero, suc, ◌+◌, ◌*◌, Bool, cond, List, [], ◌∷◌, eqb, leb, length, replicate}
 use Rattle.std.proofs.lemmas.List.Edits.{sets}
 use Rattle.calculus.specs.Words.{workspace_most}
 use Rattle.storage.specs.Records.{form1}
 use Rattle.vector_text.specs.Text.{nowhere, after, number_at}
 use Rattle.vector_text.specs.Compared.{are_words}
-use Rattle.vector_text.specs.declared.Item.{Item}
-use Rattle.vector_text.specs.declared.List as code
-use Rattle.vector_text.specs.declared.Compared.{Compared}
 
 abbrev pub star : List ℕ
 star = 42 ∷ []
@@ -21,6 +18,12 @@ dash = 45 ∷ []
 -- The words of the longest list that is compared: a table one record longer than the largest.
 abbrev pub list_most : ℕ
 list_most = form1.record_words * (workspace_most + 2)
+
+-- Equal words of a list, one after the other.
+pub record Item : Type 0 where
+  pub times : ℕ
+  pub word : ℕ
+  pub next : ℕ
 
 -- A word, or a number of times and a word.
 unfoldable pub item_at : List ℕ → (at : ℕ) → Item
@@ -37,8 +40,8 @@ pub record Listed : Type 0 where
   pub count : ℕ
   pub next : ℕ
 
-abbrev pub listed_of : code.List → (words : List ℕ) → Listed
-listed_of l ws = record { words = ws; count = l.count; next = l.next }
+abbrev pub listed_of : (words : List ℕ) (count next : ℕ) → Listed
+listed_of ws count next = record { words = ws; count = count; next = next }
 
 abbrev pub unlisted : List ℕ → Listed
 unlisted ws = record { words = ws; count = 0; next = nowhere }
@@ -69,6 +72,12 @@ list_at text at ws =
     let none = after text at dash in
     cond (eqb none nowhere) (items (length text) text (record { words = ws; count = 0; next = at }))
     (record { words = ws; count = 0; next = none })
+
+-- Words beside a list: whether they are its words and then a tail of equal ones, how many it has, and where reading goes on.
+pub record Compared : Type 0 where
+  pub equal : Bool
+  pub count : ℕ
+  pub next : ℕ
 
 -- Words beside the list at a position: whether they are its words and then a tail of equal ones.
 abbrev pub compared_with : Listed → (words : List ℕ) (tail : ℕ) → Compared

@@ -1,8 +1,6 @@
 -- What stands at a position of a line: a keyword, a number in base ten, a setting. Each comes behind at most one space. Where what is wanted does not come
 -- next, reading goes on nowhere, and nothing is found there.
-use Rattle.std.specs.Prelude.{ℕ, ◌+◌, ◌*◌, ◌-◌, Bool, true, false, cond, ◌&&◌, List, [], ◌∷◌, eqb, leb, ltb, length, get_or, drop}
-use Rattle.vector_text.specs.declared.Number.{Number}
-use Rattle.vector_text.specs.declared.Setting.{Setting}
+use Rattle.std.specs.Prelude.{ℕ, Option, Some, None, ◌+◌, ◌*◌, ◌-◌, Bool, true, false, cond, ◌&&◌, List, [], ◌∷◌, eqb, leb, ltb, length, get_or, drop}
 
 -- Beyond every line.
 abbrev pub nowhere : ℕ
@@ -41,6 +39,21 @@ digit_of b = cond (ltb b first_digit) no_digit (cond (ltb last_digit b) no_digit
 
 abbrev pub number_most : ℕ
 number_most = 4294967295
+
+-- A number, and where reading goes on.
+pub record Number : Type 0 where
+  pub value : ℕ
+  pub next : ℕ
+
+-- A size or a length.
+pub record Setting : Type 0 where
+  pub value : ℕ
+  pub next : ℕ
+
+-- A number that may be missing.
+abbrev pub number_of : Option (ℕ × ℕ) → Number
+number_of None = record { value = 0; next = nowhere }
+number_of (Some n) = record { value = n.0; next = n.1 }
 
 -- A number with at least one digit, of 32 bits.
 abbrev pub number_read : (value from end : ℕ) → Number

@@ -6,10 +6,7 @@ ghost use Rattle.vector_text.specs.Compared.{word_at, are_words};
 pub fn lent(n: usize, room: usize) -> usize
     ensures { result ≡ min n room }
 {
-    if n < room {
-        return n;
-    }
-    room
+    n.min(room)
 }
 
 // The word at a place among the first `count` of a list, and the tail's word beyond them.
@@ -19,10 +16,7 @@ fn word_at(list: &[u32], count: usize, tail: u32, i: usize) -> u32
     if count <= i {
         return tail;
     }
-    if list.len() <= i {
-        return tail;
-    }
-    list[i]
+    list.get(i).copied().unwrap_or(tail)
 }
 
 // Whether these are the first `count` words of a list and then a tail of equal words.
@@ -32,14 +26,10 @@ pub fn holds(words: &[u32], list: &[u32], count: usize, tail: u32) -> bool
     if words.len() < count {
         return false;
     }
-    let mut i = 0;
-    while i < words.len() {
-        if words[i] != word_at(list, count, tail, i) {
-            return false;
-        }
-        i += 1;
-    }
-    true
+    words
+        .iter()
+        .enumerate()
+        .all(|(i, word)| *word == word_at(list, count, tail, i))
 }
 
 // Whether every word is this one.

@@ -12,8 +12,8 @@ use Rattle.encoding.specs.Export.{Exported}
 use Rattle.text.specs.Bytes.{are_bytes}
 use Rattle.words.specs.Placed.{Placed}
 use Rattle.words.proofs.PlacedLaws.{sets_whole}
-use Rattle.vector_text.specs.Text.{nowhere, after, number_at}
-use Rattle.vector_text.specs.Lists.{list_most, Listed}
+use Rattle.vector_text.specs.Text.{Number, nowhere, after, number_at}
+use Rattle.vector_text.specs.Lists.{list_most, Listed, Compared}
 use Rattle.vector_text.proofs.ListLaws.{lent_length}
 use Rattle.text.specs.Names.{refusal_name}
 use Rattle.vectors.specs.Keywords.{writes_word}
@@ -21,8 +21,6 @@ use Rattle.vectors.specs.Answers.{is_returned}
 use Rattle.vectors.specs.Pair.{junk}
 use Rattle.vectors.specs.Stored.{verified_of, refused_last, is_last, junk_table, brought_as, ends_as}
 use Rattle.vectors.specs.Encoded.{exported_into, exports_back, imported_as, importing_of, importing, exported_as, exports_listed}
-use Rattle.vector_text.specs.declared.Compared.{Compared}
-use Rattle.vector_text.specs.declared.Number.{Number}
 
 -- What was placed over a whole slice is all of it.
 pub placed_whole : {before vs after : List ℕ} {end : ℕ} → Placed before 0 vs after end → length vs ≡ length before → after ≡ vs
@@ -52,17 +50,3 @@ module _ (line : List ℕ) (at count : ℕ) (bytes : List ℕ) (q : Brought) (c 
   pub import_exports : (c.count ≡ 0 → ⊥) → imported_as line at count bytes q ≡ (ends_as line c && exports_back q.workspace c.count count bytes)
   unfolding imported_as
   import_exports n = rw (← is, ne_eqb c.count 0 n)
-
-module _ (line : List ℕ) (at : ℕ) (q : Exported) (from : ℕ) (is : from ≡ after line at refusal_name) where
-  pub export_refused : (from ≡ nowhere → ⊥) → exported_as line at q ≡ refused_last line from q.answer q.bytes
-  unfolding exported_as
-  export_refused n = rw (← is, ne_eqb from nowhere n)
-
-  pub export-given : (count : Number) → from ≡ nowhere → count ≡ number_at line (after line at writes_word)
-      → exported_as line at q ≡ (is_returned q.answer count.value && is_last line count.next q.bytes)
-  unfolding exported_as
-  export-given count e f = rw (← is, eq-eqb from nowhere e, ← f)
-
-pub export-listed : (line : List ℕ) (l : Listed) (len size : Number) → len ≡ number_at line l.next → size ≡ number_at line len.next
-    → exports_listed line l ≡ verified_of (exported_as line size.next (exported_into l.words len.value size.value)) l.words
-export-listed line l len size e f = rw (← e, ← f)

@@ -1,4 +1,4 @@
--- The table of a chain, and loading as the line says.
+-- The table of a chain.
 use Prim.Native.Nat.{ℕ, zero, suc, ◌+◌, ◌-◌, ◌≤◌, ◌<◌}
 use native.Mathlib.Omega.{arith}
 use native.Mathlib.Numerals.{add-one}
@@ -10,14 +10,12 @@ use lib.Seq.{sets, sets-eq}
 use borrow.Author.Tests.{eq-eqb, ne_eqb}
 use Rattle.calculus.specs.Bringing.{Brought}
 use Rattle.storage.specs.Write.{Written}
-use Rattle.vector_text.specs.Text.{nowhere, after, number_at}
+use Rattle.vector_text.specs.Text.{Number, nowhere, after, number_at}
 use Rattle.text.specs.Names.{refusal_name}
 use Rattle.vectors.specs.Keywords.{gives_word}
-use Rattle.vector_text.specs.Lists.{Listed, compared_at}
+use Rattle.vector_text.specs.Lists.{Listed, Compared, compared_at}
 use Rattle.vectors.specs.Answers.{is_returned}
 use Rattle.vectors.specs.Stored.{refused_last, chain_word, chain_from, chain, is_table, written_as, junk_table, writes_into, writes_back, refused_as, given_as, brought_as, ends_as, loaded_as, writes_listed}
-use Rattle.vector_text.specs.declared.Compared.{Compared}
-use Rattle.vector_text.specs.declared.Number.{Number}
 
 module _ (records index : ℕ) where
   chain_length : (place n : ℕ) → length (chain_from records index place n) ≡ n
@@ -48,32 +46,3 @@ module _ (records index : ℕ) where
   chain-end table i h =
       let none : length table - i ≡ 0 = omega arith in
       rw none
-
-module _ (line : List ℕ) (at : ℕ) (loaded : List ℕ) (len : ℕ) (w : Written) (from : ℕ) (is : from ≡ after line at refusal_name) where
-  pub write_refused : (from ≡ nowhere → ⊥) → written_as line at loaded len w ≡ record { holds = refused_last line from w.answer w.table; words = w.table }
-  write_refused n = rw (← is, ne_eqb from nowhere n)
-
-  pub write-given : from ≡ nowhere → written_as line at loaded len w ≡ record { holds = is_returned w.answer len && is_table line at w.table loaded; words = w.table }
-  write-given e = rw (← is, eq-eqb from nowhere e)
-
-module _ (line : List ℕ) (at : ℕ) (q : Brought) (from : ℕ) (is : from ≡ after line at refusal_name) where
-  pub brought_refused : (from ≡ nowhere → ⊥) → brought_as line at q ≡ refused_as line from q
-  unfolding brought_as
-  brought_refused n = rw (← is, ne_eqb from nowhere n)
-
-  pub brought_given : (c : Compared) → from ≡ nowhere → c ≡ compared_at line (after line at gives_word) q.workspace 0 → brought_as line at q ≡ given_as q c
-  unfolding brought_as
-  brought_given c e ce = rw (← is, eq-eqb from nowhere e, ce)
-
-module _ (line : List ℕ) (at : ℕ) (table : List ℕ) (q : Brought) (c : Compared) (is : c ≡ brought_as line at q) where
-  pub load_ends : c.count ≡ 0 → loaded_as line at table q ≡ ends_as line c
-  unfolding loaded_as
-  load_ends e = rw (← is, eq-eqb c.count 0 e)
-
-  pub load_writes : (c.count ≡ 0 → ⊥) → loaded_as line at table q ≡ (c.equal && writes_back line c.next table q.workspace c.count)
-  unfolding loaded_as
-  load_writes n = rw (← is, ne_eqb c.count 0 n)
-
-pub listed-of : (line : List ℕ) (l : Listed) (len size : Number) → len ≡ number_at line l.next → size ≡ number_at line len.next
-    → writes_listed line l ≡ record { holds = (writes_into line size.next [] l.words len.value (junk_table size.value)).holds; words = l.words }
-listed-of line l len size e f = rw (← e, ← f)

@@ -2,9 +2,15 @@
 use Prim.Native.Nat.{ℕ, zero, suc, ◌+◌, ◌-◌, ◌≤◌, ◌<◌}
 use native.Mathlib.Numerals.{add-one}
 use native.Mathlib.Omega.{arith}
-use mathlib.Core.Path.{◌≡◌, refl}
-use mathlib.Core.Bool.{Bool, true, false, cond, ◌&&◌}
-use mathlib.Core.List.{List}
+use mathlib.Core.Path.{◌≡◌, refl, sym}
+use Rattle.std.proofs.Common.{add-zero, length-drop, ◌∙◌, ap}
+use borrow.Author.Rules.{part_to_end}
+use mathlib.Core.Bool.{Bool, true, false, cond, not, ◌&&◌}
+use mathlib.Core.List.{List, [], ◌∷◌}
+use Rattle.std.specs.Prelude.{◌==◌, Option, Some, None}
+use Rattle.std.specs.List.{position, position_or_len}
+use Rattle.std.proofs.lemmas.List.Sums.{prefix_len-le-length}
+use Rattle.std.proofs.lemmas.Bool.Decides.{nat_tests}
 use lib.Dec.{eqb, ltb}
 use lib.ListN.{length, get_or, take, drop, drop_of_length-le}
 use lib.Seq.{drop-cons}
@@ -12,20 +18,37 @@ use borrow.Author.Tests.{le-leb, lt-leb, eq-eqb, ne_eqb}
 use Rattle.vectors.specs.Vector.{newline, end_from, line_end, passes, comment, nothing, counted, share_of, tally_from}
 use Rattle.vectors.specs.declared.vector.Tally.{Tally}
 
--- A line's end.
-module _ (text : List ℕ) (i : ℕ) where
-  pub end_over : length text ≤ i → end_from i (drop i text) ≡ i
-  unfolding end_from
-  end_over over = rw (drop_of_length-le text over)
+-- A line ends at the first newline, or where the text does.
+end_position : (ws : List ℕ) (at : ℕ) → end_from at ws ≡ at + position_or_len (λ b. b == newline) ws
+unfolding end_from
+end_position [] at = sym (add-zero at)
+end_position (b ∷ bs) at =
+    let rest : end_from (at + 1) bs ≡ at + 1 + position_or_len (λ b. b == newline) bs = end_position bs (at + 1) in
+    elim (b == newline) as (λ t. cond t at (end_from (at + 1) bs) ≡ at + cond (not t) (1 + position_or_len (λ b. b == newline) bs) 0)
+    [ true ↦ sym (add-zero at) | false ↦ omega (arith, rest) ]
 
-  module _ (inside : i < length text) where
-    pub end_here : get_or text i 0 ≡ newline → end_from i (drop i text) ≡ i
-    unfolding end_from
-    end_here e = rw (drop-cons text i 0 inside, eq-eqb (get_or text i 0) newline e)
+first_at : (p : ℕ → Bool) (ws : List ℕ) (i : ℕ) → position p ws ≡ Some i → (position_or_len p ws ≡ i) × (i < length ws)
+first_at p ws i e =
+    let here : position_or_len p ws ≡ i = grind (arith, nat_tests) in
+    let inside : position_or_len p ws < length ws = grind (arith, nat_tests) in
+    (here, omega arith)
 
-    pub end-next : (get_or text i 0 ≡ newline → ⊥) → end_from i (drop i text) ≡ end_from (i + 1) (drop (i + 1) text)
-    unfolding end_from
-    end-next n = rw (drop-cons text i 0 inside, ne_eqb (get_or text i 0) newline n, add-one)
+first_none : (p : ℕ → Bool) (ws : List ℕ) → position p ws ≡ None → position_or_len p ws ≡ length ws
+first_none p ws e =
+    let most : position_or_len p ws ≤ length ws = prefix_len-le-length (λ b. not (p b)) ws in
+    grind (arith, nat_tests)
+
+module _ (text : List ℕ) (at : ℕ) (r : Option ℕ) (is : r ≡ position (λ b. b == newline) (take (length text - at) (drop at text))) where
+  whole : r ≡ position (λ b. b == newline) (drop at text)
+  whole = is ∙ ap (position (λ b. b == newline)) (part_to_end text at)
+
+  pub ends_before : (i : ℕ) → r ≡ Some i → (at + i ≡ line_end text at) × (i < length (drop at text))
+  ends_before i e =
+      let first = first_at (λ b. b == newline) (drop at text) i (sym whole ∙ e) in
+      (sym (end_position (drop at text) at ∙ ap (λ n. at + n) first.0), first.1)
+
+  pub ends_with : r ≡ None → at + length (drop at text) ≡ line_end text at
+  ends_with e = sym (end_position (drop at text) at ∙ ap (λ n. at + n) (first_none (λ b. b == newline) (drop at text) (sym whole ∙ e)))
 
 -- A line has at most one vector, and it passes at most once.
 abbrev Small : Tally → Type 0

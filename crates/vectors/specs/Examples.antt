@@ -13,11 +13,10 @@ use Rattle.vectors.specs.Keywords.{pair_word, press_word}
 use Rattle.vectors.specs.Keywords.{at_word, gives_word, writes_word}
 use Rattle.vector_text.specs.Lists.{list_at}
 use Rattle.vectors.specs.Answers.{is_session, is_shown, is_refused}
-use Rattle.vectors.specs.Pair.{junk, lent_at, Stage, refused_after, counted_after}
+use Rattle.vectors.specs.Pair.{junk, Lent, lent_at, Stage, refused_after, counted_after}
 use Rattle.vectors.specs.Stored.{chain, written_as, loaded_as}
 use Rattle.vectors.specs.Typed.{read_as}
 use Rattle.vectors.specs.Encoded.{is_encoding, imported_as, exported_as}
-use Rattle.vectors.specs.declared.pair.Lent.{Lent}
 use Rattle.vectors.specs.Vector.{nothing, counted, passes, share_of}
 
 -- ` press 5`

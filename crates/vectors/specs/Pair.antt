@@ -14,13 +14,11 @@ use Rattle.text.specs.Names.{show_name, left_name, right_name, scratch_name, sam
 use Rattle.vectors.specs.Keywords.{total_word, press_word}
 use Rattle.vectors.specs.Keywords.{at_word}
 use Rattle.vector_text.specs.Compared.{are_words}
-use Rattle.vector_text.specs.Lists.{Listed, comma, list_at, compared_at}
+use Rattle.vector_text.specs.Lists.{Listed, comma, list_at, Compared, compared_at}
 use Rattle.vectors.specs.Answers.{is_session, is_shown, is_refused}
-use Rattle.vector_text.specs.declared.Compared.{Compared}
-use Rattle.vectors.specs.declared.pair.Named.{Named}
-use Rattle.vectors.specs.declared.pair.Given.{Given}
-use Rattle.vectors.specs.declared.pair.Lent.{Lent}
-use Rattle.vectors.specs.declared.pair.Opened as codeOpened
+use Rattle.turn.specs.declared.Verdict as codeVerdict
+use Rattle.vectors.specs.declared.pair.Given as codeGiven
+use Rattle.vectors.specs.declared.pair.Lent as codeLent
 use Rattle.vectors.specs.declared.pair.State as code
 
 -- One word more than a workspace may have, and what lies beyond a term, and in a scratch, before a call.
@@ -37,7 +35,11 @@ junk_words n = replicate (min n room) junk
 abbrev pub only_if : (passed : Bool) (next : ℕ) → ℕ
 only_if passed next = cond passed next nowhere
 
--- The verdict that comes next.
+-- The verdict that comes next, and where reading goes on.
+pub record Named : Type 0 where
+  pub verdict : codeVerdict.Verdict
+  pub next : ℕ
+
 unfoldable pub verdict_at : List ℕ → (at : ℕ) → Named
 verdict_at line at =
     cond (eqb (after line at same_name) nowhere)
@@ -48,6 +50,16 @@ verdict_at line at =
     (record { verdict = verdict.Different; next = after line at different_name }))
     (record { verdict = verdict.Same; next = after line at same_name })
 
+-- The lengths that a call gets, its scratch's, and where reading goes on.
+pub record Given : Type 0 where
+  pub left : ℕ
+  pub right : ℕ
+  pub scratch : ℕ
+  pub next : ℕ
+
+abbrev pub given_of : codeGiven.Given → (next : ℕ) → Given
+given_of g next = record { left = g.left; right = g.right; scratch = g.scratch; next = next }
+
 -- `left n`, `right n` and `scratch n`, each with its default.
 unfoldable pub given_at : List ℕ → (at left right scratch : ℕ) → Given
 given_at line at left right scratch =
@@ -55,6 +67,16 @@ given_at line at left right scratch =
     let r = setting_at line l.next right_name right in
     let s = setting_at line r.next scratch_name scratch in
     record { left = l.value; right = r.value; scratch = s.value; next = s.next }
+
+-- Whether both workspaces and the scratch are as they should be, the lengths of the terms, and where reading goes on.
+pub record Lent : Type 0 where
+  pub equal : Bool
+  pub left : ℕ
+  pub right : ℕ
+  pub next : ℕ
+
+abbrev pub lent_of : codeLent.Lent → (next : ℕ) → Lent
+lent_of l next = record { equal = l.equal; left = l.left; right = l.right; next = next }
 
 -- Both workspaces beside the words at a position, with a tail, and the scratch beside equal words.
 unfoldable pub lent_at : List ℕ → (at : ℕ) → (left right : List ℕ) (tail : ℕ) (scratch : List ℕ) (word : ℕ) → Lent
@@ -81,8 +103,8 @@ pub record Stage : Type 0 where
   pub tail : ℕ
   pub session : Session
 
-abbrev pub stage_of : code.State → Stage
-stage_of s = record { at = s.at; terms = s.terms; left = s.left; right = s.right; tail = s.tail; session = session_of s.session }
+abbrev pub stage_of : (at : ℕ) → code.State → Stage
+stage_of at s = record { at = at; terms = s.terms; left = s.left; right = s.right; tail = s.tail; session = session_of s.session }
 
 abbrev pub read_on : Stage → (at : ℕ) → Stage
 read_on s at = record { at = at; terms = s.terms; left = s.left; right = s.right; tail = s.tail; session = s.session }
@@ -131,8 +153,8 @@ pub record Stepped : Type 0 where
   pub left : List ℕ
   pub right : List ℕ
 
-abbrev pub stepped_of : code.State → (left right : List ℕ) → Stepped
-stepped_of r left right = record { stage = stage_of r; left = left; right = right }
+abbrev pub stepped_of : Stage → (left right : List ℕ) → Stepped
+stepped_of s left right = record { stage = s; left = left; right = right }
 
 -- A press with the budget that comes next, and a scratch of junk.
 abbrev pub stepped_after : List ℕ → (at : ℕ) → Stage → Pressed → Stepped
@@ -185,9 +207,6 @@ steps_from (suc k) line s =
 pub record Opened : Type 0 where
   pub session : Session
   pub next : ℕ
-
-abbrev pub opened_of : codeOpened.Opened → Opened
-opened_of o = record { session = session_of o.session; next = o.next }
 
 unfoldable pub opened_at : List ℕ → (at : ℕ) → Opened
 opened_at line at =

@@ -9,10 +9,9 @@ use Rattle.vector_text.specs.Text.{nowhere, after, number_at}
 use Rattle.text.specs.Names.{refusal_name}
 use Rattle.vectors.specs.Keywords.{chain_keyword, gives_word, writes_word}
 use Rattle.vector_text.specs.Compared.{are_words}
-use Rattle.vector_text.specs.Lists.{list_most, Listed, list_at, compared_at}
+use Rattle.vector_text.specs.Lists.{list_most, Listed, list_at, Compared, compared_at}
 use Rattle.vectors.specs.Answers.{is_returned}
 use Rattle.vectors.specs.Pair.{junk, junk_words}
-use Rattle.vector_text.specs.declared.Compared.{Compared}
 
 -- Whether a call went as the line says, and the words that it left in what it was lent.
 pub record Verified : Type 0 where

@@ -19,11 +19,11 @@ use crate::stored::{brings, is_last, refuses, returns_count};
 use binary::{export, import};
 use text::bytes::{are_bytes, narrow, widen};
 use vector_text::lent::{holds, lent};
-use vector_text::{LIST_MOST, NOWHERE, after, read_list, read_number};
-use words::result::Result;
+use vector_text::{LIST_MOST, Reader};
+use words::refusal::Refusal;
 
 // Exports into as many bytes of junk as there are words, which then are those bytes.
-fn export_widened(workspace: &[u32], len: usize, encoded: &mut [u32]) -> Result
+fn export_widened(workspace: &[u32], len: usize, encoded: &mut [u32]) -> Result<usize, Refusal>
     requires { length encoded.old ≤ list_most }
     ensures { exported_of result encoded.new ≡ exported_into workspace.now len (length encoded.old) }
 {
@@ -45,9 +45,9 @@ fn exports_back(workspace: &[u32], len: usize, count: usize, bytes: &[u32]) -> b
 }
 
 // Whether importing the bytes that these words are goes as the line says, to its end. A term that was brought is exported too.
-fn imports(line: &[u8], at: usize, count: usize, words: &[u32], workspace: &mut [u32]) -> bool
+fn imports(reader: &mut Reader<'_>, count: usize, words: &[u32], workspace: &mut [u32]) -> bool
     requires { length words.now ≤ list_most }
-    ensures { verified_of result workspace.new ≡ importing line.now at count words.now workspace.old }
+    ensures { verified_of result workspace.new ≡ importing reader.old.line.now reader.old.at count words.now workspace.old }
 {
     if !are_bytes(words) {
         return false;
@@ -55,8 +55,8 @@ fn imports(line: &[u8], at: usize, count: usize, words: &[u32], workspace: &mut 
     let mut bytes = [0u8; LIST_MOST];
     let n = narrow(words, &mut bytes);
     let answer = import(&bytes[..n], count, workspace);
-    let term = brings(line, at, answer, workspace);
-    let ends = term.equal & (term.next == line.len());
+    let term = brings(reader, answer, workspace);
+    let ends = term.equal & reader.ends();
     if term.count == 0 {
         return ends;
     }
@@ -64,56 +64,51 @@ fn imports(line: &[u8], at: usize, count: usize, words: &[u32], workspace: &mut 
 }
 
 // Whether a line is right, from its size on.
-pub fn import_holds(line: &[u8], at: usize) -> bool
-    ensures { result ≡ import_holds line.now at }
+pub fn import_holds(reader: &mut Reader<'_>) -> bool
+    ensures { result ≡ import_holds reader.old.line.now reader.old.at }
 {
     let mut words = [0u32; LIST_MOST];
     let mut workspace = [JUNK; ROOM];
-    let c = read_number(line, at);
-    let count = read_number(line, c.next);
-    let read = read_list(line, count.next, &mut words);
-    let n = lent(read.count, LIST_MOST);
-    let w = lent(c.value as usize, ROOM);
-    imports(
-        line,
-        read.next,
-        count.value as usize,
-        &words[..n],
-        &mut workspace[..w],
-    )
+    let c = reader.number();
+    let count = reader.number() as usize;
+    let length = reader.list(&mut words);
+    let n = lent(length, LIST_MOST);
+    let w = lent(c as usize, ROOM);
+    imports(reader, count, &words[..n], &mut workspace[..w])
 }
 
 // Whether what exporting answered and wrote is what the line says, to its end.
-fn exports(line: &[u8], at: usize, answer: Result, encoded: &[u32]) -> bool
-    ensures { result ≡ exported_as line.now at (exported_of answer encoded.now) }
+#[tactic(auto, unfolding(crate::specs::Encoded::exported_as))]
+fn exports(reader: &mut Reader<'_>, answer: Result<usize, Refusal>, encoded: &[u32]) -> bool
+    ensures { result ≡ exported_as reader.old.line.now reader.old.at (exported_of answer encoded.now) }
 {
-    let from = after(line, at, b"Refused");
-    if from != NOWHERE {
-        return refuses(line, from, answer, encoded);
+    if reader.take(b"Refused") {
+        return refuses(reader, answer, encoded);
     }
-    let count = read_number(line, after(line, at, b"writes"));
-    returns_count(answer, count.value as usize) & is_last(line, count.next, encoded)
+    reader.expect(b"writes");
+    let count = reader.number() as usize;
+    returns_count(answer, count) & is_last(reader, encoded)
 }
 
 // The words in the workspace, then the length and the size that exporting gets.
-fn exports_words(line: &[u8], at: usize, workspace: &mut [u32]) -> bool
-    ensures { verified_of result workspace.new ≡ exports_words line.now at workspace.old }
+fn exports_words(reader: &mut Reader<'_>, workspace: &mut [u32]) -> bool
+    ensures { verified_of result workspace.new ≡ exports_words reader.old.line.now reader.old.at workspace.old }
 {
     let mut encoded = [0u32; LIST_MOST];
-    let words = read_list(line, at, workspace);
-    let length = read_number(line, words.next);
-    let size = read_number(line, length.next);
-    let n = lent(size.value as usize, LIST_MOST);
-    let answer = export_widened(workspace, length.value as usize, &mut encoded[..n]);
-    exports(line, size.next, answer, &encoded[..n])
+    reader.list(workspace);
+    let length = reader.number() as usize;
+    let size = reader.number() as usize;
+    let n = lent(size, LIST_MOST);
+    let answer = export_widened(workspace, length, &mut encoded[..n]);
+    exports(reader, answer, &encoded[..n])
 }
 
 // Whether a line is right, from its size on.
-pub fn export_holds(line: &[u8], at: usize) -> bool
-    ensures { result ≡ export_holds line.now at }
+pub fn export_holds(reader: &mut Reader<'_>) -> bool
+    ensures { result ≡ export_holds reader.old.line.now reader.old.at }
 {
     let mut workspace = [JUNK; ROOM];
-    let c = read_number(line, at);
-    let w = lent(c.value as usize, ROOM);
-    exports_words(line, c.next, &mut workspace[..w])
+    let c = reader.number();
+    let w = lent(c as usize, ROOM);
+    exports_words(reader, &mut workspace[..w])
 }

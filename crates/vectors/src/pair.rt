@@ -12,20 +12,20 @@
 //
 // and gets the terms' lengths, and a scratch of C words, unless `left n`, `right n` or `scratch n` stand in front of it, in this order. After a press
 // the session and every word of both workspaces and the scratch are compared too.
-ghost use Rattle.std.specs.Prelude.{◌≡◌, length};
+ghost use Rattle.std.specs.Prelude.{◌≡◌, ℕ, length};
 ghost use Rattle.turn.specs.Types.{verdict_of};
 ghost use Rattle.press.specs.Types.{session_of, answer_of, pressed_of};
-ghost use Rattle.vectors.specs.Answers.{same_verdict, is_session, is_shown, is_refused};
-ghost use Rattle.vectors.specs.Pair.{room, junk, only_if, verdict_at, given_at, lent_at, stage_of, refused_after, counted_after, checked};
-ghost use Rattle.vectors.specs.Pair.{stepped_of, press_step, shown_after, stepped, ended_of, steps_from, opened_of, opened_at, pair_run, pair_holds};
+ghost use Rattle.vectors.specs.Answers.{is_session, is_shown, is_refused};
+ghost use Rattle.vectors.specs.Pair.{room, junk, only_if, verdict_at, given_of, given_at, lent_of, lent_at, stage_of, refused_after, counted_after, checked};
+ghost use Rattle.vectors.specs.Pair.{stepped_of, press_step, shown_after, stepped, ended_of, steps_from, opened_at, pair_run, pair_holds};
 
 use press::answer::{Answer, Pressed};
 use press::show;
 use press::state::Session;
 use session::press_owned;
 use turn::Verdict;
+use vector_text::Reader;
 use vector_text::lent::{filled, lent};
-use vector_text::{NOWHERE, after, compare, read_list, read_number, read_setting};
 use words::Word;
 
 // One word more than a workspace may have.
@@ -37,8 +37,6 @@ pub const JUNK: u32 = 7;
 // Between two calls.
 #[derive(Clone, Copy)]
 pub struct State {
-    // Where the line is read on, or nowhere once something was not as it says.
-    pub at: usize,
     // Where the line has the words of both terms, their lengths, and what lies beyond them in their workspaces.
     pub terms: usize,
     pub left: usize,
@@ -47,27 +45,12 @@ pub struct State {
     pub session: Session,
 }
 
-// The session that the first call gets.
-#[derive(Clone, Copy)]
-pub struct Opened {
-    pub session: Session,
-    pub next: usize,
-}
-
 // The lengths that a call gets, and its scratch's.
 #[derive(Clone, Copy)]
 pub struct Given {
     pub left: usize,
     pub right: usize,
     pub scratch: usize,
-    pub next: usize,
-}
-
-// The verdict that is expected.
-#[derive(Clone, Copy)]
-pub struct Named {
-    pub verdict: Verdict,
-    pub next: usize,
 }
 
 // What lies in both workspaces and the scratch beside what should: whether it is that, and the lengths of the terms.
@@ -76,34 +59,25 @@ pub struct Lent {
     pub equal: bool,
     pub left: usize,
     pub right: usize,
-    pub next: usize,
 }
 
-// Where reading goes on after a test.
-fn only_if(passed: bool, next: usize) -> usize
-    ensures { result ≡ only_if passed next }
+// Reading goes on after a test that passed.
+fn go_on_if(reader: &mut Reader<'_>, passed: bool)
+    ensures { reader.new ≡ record reader.old { at = only_if passed reader.old.at } }
 {
-    if passed {
-        return next;
+    if !passed {
+        reader.stop();
     }
-    NOWHERE
-}
-
-fn same_verdict(verdict: Verdict, other: Verdict) -> bool
-    ensures { result ≡ same_verdict (verdict_of verdict) (verdict_of other) }
-{
-    verdict.number() == other.number()
 }
 
 // Whether a session has this total, these lengths and this verdict.
 fn is_session(session: Session, total: u64, left: usize, right: usize, verdict: Verdict) -> bool
     ensures { result ≡ is_session (session_of session) total left right (verdict_of verdict) }
 {
-    let last = session.verdict;
-    (session.total as u64 == total)
+    (u64::from(session.total) == total)
         & (session.left == left)
         & (session.right == right)
-        & same_verdict(last, verdict)
+        & (session.verdict == verdict)
 }
 
 // Whether an answer is this verdict with these numbers.
@@ -117,112 +91,100 @@ fn shows(
 ) -> bool
     ensures { result ≡ is_shown (answer_of answer) (verdict_of verdict) spent left right position }
 {
-    let Answer::Shown(shown) = answer else {
+    let Ok(shown) = answer else {
         return false;
     };
-    let v = shown.verdict;
     (shown.spent == spent)
         & (shown.left == left)
         & (shown.right == right)
         & (shown.position == position)
-        & same_verdict(v, verdict)
+        & (shown.verdict == verdict)
 }
 
 fn refuses(answer: Answer, number: u32) -> bool
     ensures { result ≡ is_refused (answer_of answer) number }
 {
-    let Answer::Refused(refusal) = answer else {
-        return false;
-    };
-    refusal.number() == number
+    answer.is_err_and(|refusal| refusal.number() == number)
 }
 
-fn read_verdict(line: &[u8], at: usize) -> Named
-    ensures { result ≡ verdict_at line.now at }
+#[tactic(auto, unfolding(crate::specs::Pair::verdict_at))]
+fn read_verdict(reader: &mut Reader<'_>) -> Verdict
+    ensures verdict { result ≡ (verdict_at reader.old.line.now reader.old.at).verdict }
+    ensures next { reader.new ≡ record reader.old { at = (verdict_at reader.old.line.now reader.old.at).next } }
 {
-    let same = after(line, at, b"Same");
-    if same != NOWHERE {
-        return Named {
-            verdict: Verdict::Same,
-            next: same,
-        };
+    if reader.take(b"Same") {
+        return Verdict::Same;
     }
-    let different = after(line, at, b"Different");
-    if different != NOWHERE {
-        return Named {
-            verdict: Verdict::Different,
-            next: different,
-        };
+    if reader.take(b"Different") {
+        return Verdict::Different;
     }
-    let budget = after(line, at, b"Budget");
-    if budget != NOWHERE {
-        return Named {
-            verdict: Verdict::Budget,
-            next: budget,
-        };
+    if reader.take(b"Budget") {
+        return Verdict::Budget;
     }
-    Named {
-        verdict: Verdict::Full,
-        next: after(line, at, b"Full"),
-    }
+    reader.expect(b"Full");
+    Verdict::Full
 }
 
 // `left n`, `right n` and `scratch n`
-fn read_given(line: &[u8], at: usize, left: usize, right: usize, scratch: usize) -> Given
-    ensures { result ≡ given_at line.now at left right scratch }
+#[tactic(auto, unfolding(crate::specs::Pair::given_at))]
+fn read_given(reader: &mut Reader<'_>, left: usize, right: usize, scratch: usize) -> Given
+    ensures given { given_of result reader.new.at ≡ given_at reader.old.line.now reader.old.at left right scratch }
+    ensures line { reader.new.line ≡ reader.old.line }
 {
-    let l = read_setting(line, at, b"left", left);
-    let r = read_setting(line, l.next, b"right", right);
-    let s = read_setting(line, r.next, b"scratch", scratch);
+    let left = reader.setting(b"left", left);
+    let right = reader.setting(b"right", right);
+    let scratch = reader.setting(b"scratch", scratch);
     Given {
-        left: l.value,
-        right: r.value,
-        scratch: s.value,
-        next: s.next,
+        left,
+        right,
+        scratch,
     }
 }
 
-// Both workspaces beside the words that the line has from `at` on, with a tail, and the scratch beside equal words.
+// Both workspaces beside the words that come next, with a tail, and the scratch beside equal words.
+#[tactic(auto, unfolding(crate::specs::Pair::lent_at))]
 fn compare_lent(
-    line: &[u8],
-    at: usize,
+    reader: &mut Reader<'_>,
     left: &[u32],
     right: &[u32],
     tail: u32,
     scratch: &[u32],
     word: u32,
 ) -> Lent
-    ensures { result ≡ lent_at line.now at left.now right.now tail scratch.now word }
+    ensures lent { lent_of result reader.new.at ≡ lent_at reader.old.line.now reader.old.at left.now right.now tail scratch.now word }
+    ensures line { reader.new.line ≡ reader.old.line }
 {
-    let l = compare(line, at, left, tail);
-    let r = compare(line, l.next, right, tail);
+    let left = reader.compare(left, tail);
+    let right = reader.compare(right, tail);
     Lent {
-        equal: l.equal & r.equal & filled(scratch, word),
-        left: l.count,
-        right: r.count,
-        next: r.next,
+        equal: left.equal & right.equal & filled(scratch, word),
+        left: left.count,
+        right: right.count,
     }
 }
 
 // After a press that should be refused with the number that comes next: all is as before.
-fn check_refused(line: &[u8], at: usize, lent: Lent, pressed: Pressed, mut state: State) -> State
-    ensures { stage_of result ≡ refused_after line.now at lent (answer_of pressed.answer) (session_of pressed.session) (stage_of state) }
+#[tactic(auto, unfolding(crate::specs::Pair::refused_after))]
+fn check_refused(reader: &mut Reader<'_>, lent: Lent, pressed: Pressed, state: State)
+    ensures stage { (at next : ℕ) → stage_of reader.new.at state ≡ refused_after reader.old.line.now reader.old.at (lent_of lent next) (answer_of pressed.answer) (session_of pressed.session) (stage_of at state) }
+    ensures line { reader.new.line ≡ reader.old.line }
 {
-    let number = read_number(line, at);
-    let answer = pressed.answer;
-    let session = pressed.session;
     let old = state.session;
-    let verdict = old.verdict;
-    let kept = is_session(session, old.total as u64, old.left, old.right, verdict);
-    state.at = only_if(
-        lent.equal & kept & refuses(answer, number.value),
-        number.next,
+    let kept = is_session(
+        pressed.session,
+        u64::from(old.total),
+        old.left,
+        old.right,
+        old.verdict,
     );
-    state
+    let number = reader.number();
+    go_on_if(reader, lent.equal & kept & refuses(pressed.answer, number));
 }
 
 // After a press that should answer this verdict, with a number spent, a position and terms that stand at `terms`.
+#[tactic(auto, unfolding(crate::specs::Pair::counted_after))]
 fn check_counted(
+    reader: &mut Reader<'_>,
     verdict: Verdict,
     spent: u32,
     position: usize,
@@ -231,16 +193,22 @@ fn check_counted(
     pressed: Pressed,
     state: State,
 ) -> State
-    ensures { stage_of result ≡ counted_after (verdict_of verdict) spent position terms lent (answer_of pressed.answer) (session_of pressed.session) (stage_of state) }
+    ensures stage { (at : ℕ) → stage_of reader.new.at result ≡ counted_after (verdict_of verdict) spent position terms (lent_of lent reader.old.at) (answer_of pressed.answer) (session_of pressed.session) (stage_of at state) }
+    ensures line { reader.new.line ≡ reader.old.line }
 {
-    let answer = pressed.answer;
     let session = pressed.session;
-    let old = state.session;
-    let total = old.total as u64 + spent as u64;
+    let total = u64::from(state.session.total) + u64::from(spent);
     let renewed = is_session(session, total, lent.left, lent.right, verdict);
-    let shown = shows(answer, verdict, spent, lent.left, lent.right, position);
+    let shown = shows(
+        pressed.answer,
+        verdict,
+        spent,
+        lent.left,
+        lent.right,
+        position,
+    );
+    go_on_if(reader, lent.equal & renewed & shown);
     State {
-        at: only_if(lent.equal & renewed & shown, lent.next),
         terms,
         left: lent.left,
         right: lent.right,
@@ -250,45 +218,52 @@ fn check_counted(
 }
 
 // After a press: the expected answer, and the words in both workspaces and the scratch.
+#[tactic(auto, unfolding(crate::specs::Pair::checked))]
 fn check_press(
-    line: &[u8],
-    at: usize,
+    reader: &mut Reader<'_>,
     left: &[u32],
     right: &[u32],
     scratch: &[u32],
     pressed: Pressed,
     state: State,
 ) -> State
-    ensures { stage_of result ≡ checked line.now at (pressed_of pressed left.now right.now scratch.now) (stage_of state) }
+    ensures stage { (at : ℕ) → stage_of reader.new.at result ≡ checked reader.old.line.now reader.old.at (pressed_of pressed left.now right.now scratch.now) (stage_of at state) }
+    ensures line { reader.new.line ≡ reader.old.line }
 {
-    let refused = after(line, at, b"Refused");
-    if refused != NOWHERE {
-        let lent = compare_lent(line, state.terms, left, right, state.tail, scratch, JUNK);
-        return check_refused(line, refused, lent, pressed, state);
+    if reader.take(b"Refused") {
+        let mut terms = Reader {
+            at: state.terms,
+            ..*reader
+        };
+        let lent = compare_lent(&mut terms, left, right, state.tail, scratch, JUNK);
+        check_refused(reader, lent, pressed, state);
+        return state;
     }
-    let named = read_verdict(line, at);
-    let spent = read_number(line, named.next);
-    let position = read_setting(line, spent.next, b"at", 0);
-    let lent = compare_lent(line, position.next, left, right, 0, scratch, 0);
-    let verdict = named.verdict;
+    let verdict = read_verdict(reader);
+    let spent = reader.number();
+    let position = reader.setting(b"at", 0);
+    let terms = reader.at;
+    let lent = compare_lent(reader, left, right, 0, scratch, 0);
     check_counted(
-        verdict,
-        spent.value,
-        position.value,
-        position.next,
-        lent,
-        pressed,
-        state,
+        reader, verdict, spent, position, terms, lent, pressed, state,
     )
 }
 
 // `press budget` and the expected answer, with a scratch of junk.
-fn press_step(line: &[u8], given: Given, left: &mut [u32], right: &mut [u32], state: State) -> State
-    ensures { stepped_of result left.new right.new ≡ press_step line.now given left.old right.old (stage_of state) }
+fn press_step(
+    reader: &mut Reader<'_>,
+    given: Given,
+    left: &mut [u32],
+    right: &mut [u32],
+    state: State,
+) -> State
+    ensures stage { (at : ℕ) → stepped_of (stage_of reader.new.at result) left.new right.new ≡ press_step reader.old.line.now (given_of given reader.old.at) left.old right.old (stage_of at state) }
+    ensures line { reader.new.line ≡ reader.old.line }
 {
     let mut scratch = [JUNK; ROOM];
     let n = lent(given.scratch, ROOM);
-    let budget = read_number(line, after(line, given.next, b"press"));
+    reader.expect(b"press");
+    let budget = reader.number();
     let session = state.session;
     let pressed = press_owned(
         left,
@@ -296,118 +271,97 @@ fn press_step(line: &[u8], given: Given, left: &mut [u32], right: &mut [u32], st
         &mut scratch[..n],
         given.left,
         given.right,
-        budget.value,
+        budget,
         session,
     );
-    check_press(
-        line,
-        budget.next,
-        left,
-        right,
-        &scratch[..n],
-        pressed,
-        state,
-    )
+    check_press(reader, left, right, &scratch[..n], pressed, state)
 }
 
-// Whether the part that comes next is shown: where reading goes on.
-fn show_step<'a>(
-    line: &[u8],
-    at: usize,
-    left: &'a [u32],
-    right: &'a [u32],
-    left_length: usize,
-    right_length: usize,
-) -> usize
-    ensures { result ≡ shown_after line.now at left.now right.now left_length right_length }
+// The part that comes next is shown.
+#[tactic(auto, unfolding(crate::specs::Pair::shown_after))]
+fn show_step(reader: &mut Reader<'_>, left: &[u32], right: &[u32], given: Given)
+    ensures { reader.new ≡ record reader.old { at = shown_after reader.old.line.now reader.old.at left.now right.now given.left given.right } }
 {
-    let part = show(left, right, left_length, right_length);
-    let shown = compare(line, at, part, 0);
-    only_if(shown.equal & (shown.count == part.len()), shown.next)
+    let part = show(left, right, given.left, given.right);
+    let shown = reader.compare(part, 0);
+    go_on_if(reader, shown.equal & (shown.count == part.len()));
 }
 
 // A call with what stands in front of it.
-fn step(line: &[u8], left: &mut [u32], right: &mut [u32], mut state: State) -> State
-    ensures { stepped_of result left.new right.new ≡ stepped line.now (stepped_of state left.old right.old) }
+#[tactic(auto, unfolding(crate::specs::Pair::stepped))]
+fn step(reader: &mut Reader<'_>, left: &mut [u32], right: &mut [u32], state: State) -> State
+    ensures stage { stepped_of (stage_of reader.new.at result) left.new right.new ≡ stepped reader.old.line.now (stepped_of (stage_of reader.old.at state) left.old right.old) }
+    ensures line { reader.new.line ≡ reader.old.line }
 {
-    let given = read_given(line, state.at, state.left, state.right, left.len());
-    let shown = after(line, given.next, b"show");
-    if shown == NOWHERE {
-        return press_step(line, given, left, right, state);
+    let given = read_given(reader, state.left, state.right, left.len());
+    if !reader.take(b"show") {
+        return press_step(reader, given, left, right, state);
     }
-    state.at = show_step(line, shown, left, right, given.left, given.right);
+    show_step(reader, left, right, given);
     state
 }
 
 // Whether every call goes as the line says, to the line's end.
-fn steps(line: &[u8], left: &mut [u32], right: &mut [u32], start: State) -> bool
-    ensures { ended_of result left.new right.new ≡ steps_from (length line.now) line.now (stepped_of start left.old right.old) }
+fn steps(reader: &mut Reader<'_>, left: &mut [u32], right: &mut [u32], start: State) -> bool
+    ensures { ended_of result left.new right.new ≡ steps_from (length reader.old.line.now) reader.old.line.now (stepped_of (stage_of reader.old.at start) left.old right.old) }
 {
     let mut state = start;
-    let mut turns = line.len();
-    while 0 < turns {
-        state = step(line, left, right, state);
-        if line.len() <= state.at {
-            return state.at == line.len();
+    for _ in 0..reader.line.len() {
+        state = step(reader, left, right, state);
+        if reader.line.len() <= reader.at {
+            return reader.ends();
         }
-        turns -= 1;
     }
     false
 }
 
 // The fresh session, or after `total` one that has spent the number and has lengths of no term.
-fn read_session(line: &[u8], at: usize) -> Opened
-    ensures { opened_of result ≡ opened_at line.now at }
+#[tactic(auto, unfolding(crate::specs::Pair::opened_at))]
+fn read_session(reader: &mut Reader<'_>) -> Session
+    ensures session { session_of result ≡ (opened_at reader.old.line.now reader.old.at).session }
+    ensures next { reader.new ≡ record reader.old { at = (opened_at reader.old.line.now reader.old.at).next } }
 {
-    let from = after(line, at, b"total");
-    if from == NOWHERE {
-        return Opened {
-            session: Session::fresh(),
-            next: at,
-        };
+    if !reader.take(b"total") {
+        return Session::fresh();
     }
-    let total = read_number(line, from);
-    Opened {
-        session: Session {
-            total: total.value,
-            left: ROOM,
-            right: ROOM,
-            verdict: Verdict::Full,
-        },
-        next: total.next,
+    Session {
+        total: reader.number(),
+        left: ROOM,
+        right: ROOM,
+        verdict: Verdict::Full,
     }
 }
 
 // The two terms, the session and the calls.
-fn run(line: &[u8], at: usize, left: &mut [u32], right: &mut [u32]) -> bool
-    ensures { ended_of result left.new right.new ≡ pair_run line.now at left.old right.old }
+#[tactic(auto, unfolding(crate::specs::Pair::pair_run))]
+fn run(reader: &mut Reader<'_>, left: &mut [u32], right: &mut [u32]) -> bool
+    ensures { ended_of result left.new right.new ≡ pair_run reader.old.line.now reader.old.at left.old right.old }
 {
-    let l = read_list(line, at, left);
-    let r = read_list(line, l.next, right);
-    let opened = read_session(line, r.next);
-    let session = opened.session;
+    let terms = reader.at;
+    let left_length = reader.list(left);
+    let right_length = reader.list(right);
+    let session = read_session(reader);
     let state = State {
-        at: opened.next,
-        terms: at,
-        left: l.count,
-        right: r.count,
+        terms,
+        left: left_length,
+        right: right_length,
         tail: JUNK,
         session,
     };
-    steps(line, left, right, state)
+    steps(reader, left, right, state)
 }
 
 // Whether a line is right, from its sizes on.
-pub fn pair_holds(line: &[u8], at: usize) -> bool
-    ensures { result ≡ pair_holds line.now at }
+pub fn pair_holds(reader: &mut Reader<'_>) -> bool
+    ensures { result ≡ pair_holds reader.old.line.now reader.old.at }
 {
     let mut left = [JUNK; ROOM];
     let mut right = [JUNK; ROOM];
-    let c = read_number(line, at);
-    let d = read_setting(line, c.next, b",", c.value as usize);
-    let l = lent(c.value as usize, ROOM);
-    let r = lent(d.value, ROOM);
-    run(line, d.next, &mut left[..l], &mut right[..r])
+    let c = reader.number();
+    let d = reader.setting(b",", c as usize);
+    let l = lent(c as usize, ROOM);
+    let r = lent(d, ROOM);
+    run(reader, &mut left[..l], &mut right[..r])
 }
 
 // Does nothing. Its contract says that each constant is the number that the definitions give its name.

@@ -11,34 +11,31 @@
 ghost use Rattle.std.specs.Prelude.{◌≡◌, ◌≤◌, length};
 ghost use Rattle.words.specs.Types.{result_of, brought_of};
 ghost use Rattle.vectors.specs.Answers.{is_returned};
-ghost use Rattle.vector_text.specs.Lists.{list_most, listed_of};
+ghost use Rattle.vector_text.specs.Lists.{list_most};
 ghost use Rattle.vectors.specs.Stored.{verified_of, refused_last, chain_word, chain, table_at, is_last, is_table, writes_into, writes_back, brought_as, loading, load_holds, writes_words, write_holds};
 
 use crate::pair::{JUNK, ROOM};
 use records::Form;
 use tables::{load, write};
 use vector_text::lent::{filled, holds, lent};
-use vector_text::{Compared, LIST_MOST, List, NOWHERE, after, compare, read_list, read_number};
-use words::result::Result;
+use vector_text::{Compared, LIST_MOST, Reader};
+use words::refusal::Refusal;
 
-pub fn returns_count(answer: Result, count: usize) -> bool
+pub fn returns_count(answer: Result<usize, Refusal>, count: usize) -> bool
     ensures { result ≡ is_returned (result_of answer) count }
 {
-    let Result::Returned(n) = answer else {
-        return false;
-    };
-    n == count
+    answer == Ok(count)
 }
 
 // Whether the answer is the refusal that the line names last, and what was lent is still junk.
-pub fn refuses(line: &[u8], at: usize, answer: Result, lent: &[u32]) -> bool
-    ensures { result ≡ refused_last line.now at (result_of answer) lent.now }
+pub fn refuses(reader: &mut Reader<'_>, answer: Result<usize, Refusal>, lent: &[u32]) -> bool
+    ensures holds { result ≡ refused_last reader.old.line.now reader.old.at (result_of answer) lent.now }
+    ensures line { reader.new.line ≡ reader.old.line }
 {
-    let Result::Refused(refusal) = answer else {
+    let Err(refusal) = answer else {
         return false;
     };
-    let number = read_number(line, at);
-    (refusal.number() == number.value) & (number.next == line.len()) & filled(lent, JUNK)
+    (refusal.number() == reader.number()) & reader.ends() & filled(lent, JUNK)
 }
 
 // A word of the chain's table. The header differs from an abstraction over the next record in the second word alone.
@@ -66,149 +63,144 @@ fn put_chain(table: &mut [u32], records: u32, index: u32)
     requires { length table.old ≤ list_most }
     ensures { table.new ≡ chain records index (length table.old) }
 {
-    let mut i = 0;
-    while i < table.len() {
-        table[i] = chain_word(i, records, index);
-        i += 1;
+    for (i, word) in table.iter_mut().enumerate() {
+        *word = chain_word(i, records, index);
     }
 }
 
-// The table that comes next in the line.
-fn read_table(line: &[u8], at: usize, table: &mut [u32]) -> List
+// The table that comes next in the line. Returns how many words it has.
+#[tactic(auto, unfolding(crate::specs::Stored::table_at))]
+fn read_table(reader: &mut Reader<'_>, table: &mut [u32]) -> usize
     requires { length table.old ≤ list_most }
-    ensures { listed_of result table.new ≡ table_at line.now at table.old }
+    ensures words { table.new ≡ (table_at reader.old.line.now reader.old.at table.old).words }
+    ensures count { result ≡ (table_at reader.old.line.now reader.old.at table.old).count }
+    ensures next { reader.new ≡ record reader.old { at = (table_at reader.old.line.now reader.old.at table.old).next } }
 {
-    let from = after(line, at, b"chain");
-    if from == NOWHERE {
-        return read_list(line, at, table);
+    if !reader.take(b"chain") {
+        return reader.list(table);
     }
-    let records = read_number(line, from);
-    let index = read_number(line, records.next);
-    put_chain(table, records.value, index.value);
-    List {
-        count: Form::ONE_WORDS * (records.value as usize + 1),
-        next: index.next,
-    }
+    let records = reader.number();
+    let index = reader.number();
+    put_chain(table, records, index);
+    Form::ONE_WORDS * (records as usize + 1)
 }
 
 // Whether these words are the list that comes next, and the line ends behind it.
-pub fn is_last(line: &[u8], at: usize, words: &[u32]) -> bool
-    ensures { result ≡ is_last line.now at words.now }
+#[tactic(auto, unfolding(crate::specs::Stored::is_last))]
+pub fn is_last(reader: &mut Reader<'_>, words: &[u32]) -> bool
+    ensures { result ≡ is_last reader.old.line.now reader.old.at words.now }
 {
-    let list = compare(line, at, words, JUNK);
-    list.equal & (list.count == words.len()) & (list.next == line.len())
+    let list = reader.compare(words, JUNK);
+    list.equal & (list.count == words.len()) & reader.ends()
 }
 
 // Whether a written table is the one that the line names after `writes`, or else the one that was loaded.
-fn is_table(line: &[u8], at: usize, written: &[u32], loaded: &[u32]) -> bool
-    ensures { result ≡ is_table line.now at written.now loaded.now }
+#[tactic(auto, unfolding(crate::specs::Stored::is_table))]
+fn is_table(reader: &mut Reader<'_>, written: &[u32], loaded: &[u32]) -> bool
+    ensures { result ≡ is_table reader.old.line.now reader.old.at written.now loaded.now }
 {
-    let from = after(line, at, b"writes");
-    if from == NOWHERE {
-        return holds(written, loaded, loaded.len(), JUNK) & (at == line.len());
+    if reader.take(b"writes") {
+        return is_last(reader, written);
     }
-    is_last(line, from, written)
+    holds(written, loaded, loaded.len(), JUNK) & reader.ends()
 }
 
 // Whether writing goes as the line says, to the line's end.
+#[tactic(auto, unfolding(crate::specs::Stored::writes_into))]
 fn writes_into(
-    line: &[u8],
-    at: usize,
+    reader: &mut Reader<'_>,
     loaded: &[u32],
     workspace: &[u32],
     length: usize,
     table: &mut [u32],
 ) -> bool
-    ensures { verified_of result table.new ≡ writes_into line.now at loaded.now workspace.now length table.old }
+    ensures { verified_of result table.new ≡ writes_into reader.old.line.now reader.old.at loaded.now workspace.now length table.old }
 {
     let answer = write(workspace, length, table);
-    let from = after(line, at, b"Refused");
-    if from != NOWHERE {
-        return refuses(line, from, answer, table);
+    if reader.take(b"Refused") {
+        return refuses(reader, answer, table);
     }
-    returns_count(answer, length) & is_table(line, at, table, loaded)
+    returns_count(answer, length) & is_table(reader, table, loaded)
 }
 
 // The same of a loaded term, into a table of junk as long as the one that was loaded.
-fn writes(line: &[u8], at: usize, loaded: &[u32], workspace: &[u32], length: usize) -> bool
-    ensures { result ≡ writes_back line.now at loaded.now workspace.now length }
+fn writes(reader: &mut Reader<'_>, loaded: &[u32], workspace: &[u32], length: usize) -> bool
+    ensures { result ≡ writes_back reader.old.line.now reader.old.at loaded.now workspace.now length }
 {
     let mut table = [JUNK; LIST_MOST];
     let n = lent(loaded.len(), LIST_MOST);
-    writes_into(line, at, loaded, workspace, length, &mut table[..n])
+    writes_into(reader, loaded, workspace, length, &mut table[..n])
 }
 
 // What a call brought into a workspace of junk, beside what the line says: the refusal that it names last, which changes nothing and has no words, or the
 // words that it gives, with zeros after them.
-pub fn brings(line: &[u8], at: usize, answer: Result, workspace: &[u32]) -> Compared
-    ensures { result ≡ brought_as line.now at (brought_of answer workspace.now) }
+#[tactic(auto, unfolding(crate::specs::Stored::brought_as))]
+pub fn brings(
+    reader: &mut Reader<'_>,
+    answer: Result<usize, Refusal>,
+    workspace: &[u32],
+) -> Compared
+    ensures equal { result.equal ≡ (brought_as reader.old.line.now reader.old.at (brought_of answer workspace.now)).equal }
+    ensures count { result.count ≡ (brought_as reader.old.line.now reader.old.at (brought_of answer workspace.now)).count }
+    ensures next { reader.new ≡ record reader.old { at = (brought_as reader.old.line.now reader.old.at (brought_of answer workspace.now)).next } }
 {
-    let from = after(line, at, b"Refused");
-    if from != NOWHERE {
-        return Compared {
-            equal: refuses(line, from, answer, workspace),
-            count: 0,
-            next: line.len(),
-        };
+    if reader.take(b"Refused") {
+        let equal = refuses(reader, answer, workspace);
+        reader.at = reader.line.len();
+        return Compared { equal, count: 0 };
     }
-    let term = compare(line, after(line, at, b"gives"), workspace, 0);
+    reader.expect(b"gives");
+    let term = reader.compare(workspace, 0);
     Compared {
         equal: term.equal & returns_count(answer, term.count),
         count: term.count,
-        next: term.next,
     }
 }
 
 // Whether loading and writing go as the line says after the table. A term that was brought is written too.
-fn loads(line: &[u8], at: usize, table: &[u32], workspace: &mut [u32]) -> bool
-    ensures { verified_of result workspace.new ≡ loading line.now at table.now workspace.old }
+#[tactic(auto, unfolding(crate::specs::Stored::loading, crate::specs::Stored::loaded_as))]
+fn loads(reader: &mut Reader<'_>, table: &[u32], workspace: &mut [u32]) -> bool
+    ensures { verified_of result workspace.new ≡ loading reader.old.line.now reader.old.at table.now workspace.old }
 {
     let answer = load(table, workspace);
-    let term = brings(line, at, answer, workspace);
+    let term = brings(reader, answer, workspace);
     if term.count == 0 {
-        return term.equal & (term.next == line.len());
+        return term.equal & reader.ends();
     }
-    term.equal & writes(line, term.next, table, workspace, term.count)
+    term.equal & writes(reader, table, workspace, term.count)
 }
 
 // Whether a line is right, from its size on.
-pub fn load_holds(line: &[u8], at: usize) -> bool
-    ensures { result ≡ load_holds line.now at }
+pub fn load_holds(reader: &mut Reader<'_>) -> bool
+    ensures { result ≡ load_holds reader.old.line.now reader.old.at }
 {
     let mut table = [0u32; LIST_MOST];
     let mut workspace = [JUNK; ROOM];
-    let c = read_number(line, at);
-    let read = read_table(line, c.next, &mut table);
-    let n = lent(read.count, LIST_MOST);
-    let w = lent(c.value as usize, ROOM);
-    loads(line, read.next, &table[..n], &mut workspace[..w])
+    let c = reader.number();
+    let count = read_table(reader, &mut table);
+    let n = lent(count, LIST_MOST);
+    let w = lent(c as usize, ROOM);
+    loads(reader, &table[..n], &mut workspace[..w])
 }
 
 // The words in the workspace, then the length and the size that writing gets.
-fn writes_words(line: &[u8], at: usize, workspace: &mut [u32]) -> bool
-    ensures { verified_of result workspace.new ≡ writes_words line.now at workspace.old }
+fn writes_words(reader: &mut Reader<'_>, workspace: &mut [u32]) -> bool
+    ensures { verified_of result workspace.new ≡ writes_words reader.old.line.now reader.old.at workspace.old }
 {
     let mut table = [JUNK; LIST_MOST];
-    let words = read_list(line, at, workspace);
-    let length = read_number(line, words.next);
-    let size = read_number(line, length.next);
-    let n = lent(size.value as usize, LIST_MOST);
-    writes_into(
-        line,
-        size.next,
-        &[],
-        workspace,
-        length.value as usize,
-        &mut table[..n],
-    )
+    reader.list(workspace);
+    let length = reader.number() as usize;
+    let size = reader.number() as usize;
+    let n = lent(size, LIST_MOST);
+    writes_into(reader, &[], workspace, length, &mut table[..n])
 }
 
 // Whether a line is right, from its size on.
-pub fn write_holds(line: &[u8], at: usize) -> bool
-    ensures { result ≡ write_holds line.now at }
+pub fn write_holds(reader: &mut Reader<'_>) -> bool
+    ensures { result ≡ write_holds reader.old.line.now reader.old.at }
 {
     let mut workspace = [JUNK; ROOM];
-    let c = read_number(line, at);
-    let w = lent(c.value as usize, ROOM);
-    writes_words(line, c.next, &mut workspace[..w])
+    let c = reader.number();
+    let w = lent(c as usize, ROOM);
+    writes_words(reader, &mut workspace[..w])
 }

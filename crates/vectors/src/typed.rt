@@ -15,12 +15,12 @@ use crate::stored::brings;
 use lines::read_line;
 use text::bytes::{are_bytes, narrow};
 use vector_text::lent::lent;
-use vector_text::{LIST_MOST, read_list, read_number};
+use vector_text::{LIST_MOST, Reader};
 
 // Whether reading the bytes that these words are goes as the line says, to its end.
-fn reads(line: &[u8], at: usize, words: &[u32], workspace: &mut [u32]) -> bool
+fn reads(reader: &mut Reader<'_>, words: &[u32], workspace: &mut [u32]) -> bool
     requires { length words.now ≤ list_most }
-    ensures { verified_of result workspace.new ≡ reading line.now at words.now workspace.old }
+    ensures { verified_of result workspace.new ≡ reading reader.old.line.now reader.old.at words.now workspace.old }
 {
     if !are_bytes(words) {
         return false;
@@ -28,19 +28,19 @@ fn reads(line: &[u8], at: usize, words: &[u32], workspace: &mut [u32]) -> bool
     let mut bytes = [0u8; LIST_MOST];
     let n = narrow(words, &mut bytes);
     let answer = read_line(&bytes[..n], workspace);
-    let term = brings(line, at, answer, workspace);
-    term.equal & (term.next == line.len())
+    let term = brings(reader, answer, workspace);
+    term.equal & reader.ends()
 }
 
 // Whether a line is right, from its size on.
-pub fn line_holds(line: &[u8], at: usize) -> bool
-    ensures { result ≡ line_holds line.now at }
+pub fn line_holds(reader: &mut Reader<'_>) -> bool
+    ensures { result ≡ line_holds reader.old.line.now reader.old.at }
 {
     let mut words = [0u32; LIST_MOST];
     let mut workspace = [JUNK; ROOM];
-    let c = read_number(line, at);
-    let read = read_list(line, c.next, &mut words);
-    let n = lent(read.count, LIST_MOST);
-    let w = lent(c.value as usize, ROOM);
-    reads(line, read.next, &words[..n], &mut workspace[..w])
+    let c = reader.number();
+    let count = reader.list(&mut words);
+    let n = lent(count, LIST_MOST);
+    let w = lent(c as usize, ROOM);
+    reads(reader, &words[..n], &mut workspace[..w])
 }

@@ -1,13 +1,13 @@
 // Vectors, one to a line. What a line means is said at the top of pair.rt (pair), stored.rt (load, write), typed.rt (line) and encoded.rt (import, export).
-ghost use Rattle.std.specs.Prelude.{◌≡◌, ◌≤◌, length};
-ghost use Rattle.vectors.specs.Vector.{line_end, passes, counted, share_of, tally_all};
+ghost use Rattle.std.specs.Prelude.{◌≡◌, ◌==◌, ◌≤◌, length, position};
+ghost use Rattle.vectors.specs.Vector.{newline, line_end, passes, counted, share_of, tally_all};
 
 use crate::STDOUT;
 use crate::encoded::{export_holds, import_holds};
 use crate::pair::pair_holds;
 use crate::stored::{load_holds, write_holds};
 use crate::typed::line_holds;
-use vector_text::{NOWHERE, after};
+use vector_text::Reader;
 
 // How many vectors there are, and how many of them pass.
 #[derive(Clone, Copy)]
@@ -16,30 +16,28 @@ pub struct Tally {
     pub passed: usize,
 }
 
+#[tactic(auto, unfolding(crate::specs::Vector::passes))]
 fn passes(line: &[u8]) -> bool
     ensures { result ≡ passes line.now }
 {
-    let pair = after(line, 0, b"pair");
-    if pair != NOWHERE {
-        return pair_holds(line, pair);
+    let mut reader = Reader { line, at: 0 };
+    if reader.take(b"pair") {
+        return pair_holds(&mut reader);
     }
-    let load = after(line, 0, b"load");
-    if load != NOWHERE {
-        return load_holds(line, load);
+    if reader.take(b"load") {
+        return load_holds(&mut reader);
     }
-    let typed = after(line, 0, b"line");
-    if typed != NOWHERE {
-        return line_holds(line, typed);
+    if reader.take(b"line") {
+        return line_holds(&mut reader);
     }
-    let import = after(line, 0, b"import");
-    if import != NOWHERE {
-        return import_holds(line, import);
+    if reader.take(b"import") {
+        return import_holds(&mut reader);
     }
-    let export = after(line, 0, b"export");
-    if export != NOWHERE {
-        return export_holds(line, export);
+    if reader.take(b"export") {
+        return export_holds(&mut reader);
     }
-    write_holds(line, after(line, 0, b"write"))
+    reader.expect(b"write");
+    write_holds(&mut reader)
 }
 
 // A vector's share. One that fails is printed.
@@ -62,16 +60,11 @@ fn count(line: &[u8], passes: bool) -> Tally
 }
 
 // A line's share: none of an empty line and of a comment. A line that is cut off before its end fails.
+#[tactic(auto, unfolding(crate::specs::Vector::share_of))]
 fn share(line: &[u8], ended: bool) -> Tally
     ensures { result ≡ share_of line.now ended }
 {
-    if line.len() == 0 {
-        return Tally {
-            vectors: 0,
-            passed: 0,
-        };
-    }
-    if line[0] == b'#' {
+    if line.is_empty() || line[0] == b'#' {
         return Tally {
             vectors: 0,
             passed: 0,
@@ -80,19 +73,22 @@ fn share(line: &[u8], ended: bool) -> Tally
     count(line, ended & passes(line))
 }
 
+// Where the first newline stands.
+fn newline_at(text: &[u8]) -> Option<usize>
+    ensures { result ≡ position (λ b. b == newline) text.now }
+{
+    text.iter().position(|byte| *byte == b'\n')
+}
+
 // Where the line that goes on at a position ends.
 fn line_end(text: &[u8], at: usize) -> usize
     requires { at ≤ length text.now }
     ensures { (result ≡ line_end text.now at) × (at ≤ result) × (result ≤ length text.now) }
 {
-    let mut i = at;
-    while i < text.len() {
-        if text[i] == b'\n' {
-            return i;
-        }
-        i += 1;
+    match newline_at(&text[at..]) {
+        Some(i) => at + i,
+        None => text.len(),
     }
-    i
 }
 
 // All lines of a text together.
@@ -102,17 +98,15 @@ pub fn tally_all(text: &[u8]) -> Tally
     let mut vectors = 0;
     let mut passed = 0;
     let mut at = 0;
-    let mut turns = text.len();
-    while 0 < turns {
+    for _ in 0..text.len() {
         if text.len() <= at {
-            return Tally { vectors, passed };
+            break;
         }
         let end = line_end(text, at);
         let line = share(&text[at..end], end < text.len());
         vectors += line.vectors;
         passed += line.passed;
         at = end + 1;
-        turns -= 1;
     }
     Tally { vectors, passed }
 }

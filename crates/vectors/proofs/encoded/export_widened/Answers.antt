@@ -10,20 +10,6 @@ use mathlib.Core.Path.{◌∙◌, ap}
 use native.Mathlib.Omega.{arith}
 use Rattle.vectors.proofs.encoded.export_widened.Goals as goal
 
--- What exporting leaves of the lent bytes is lent again.
-pub slice_bounds-bytes-end-2 : goal.slice_bounds-bytes-end-2
-slice_bounds-bytes-end-2 c =
-    (lent_again junk (length c.args.encoded.now) list_most _ c.lent-n.ensures c.export-answer.new.bytes c.export-answer.auto.bytes).0
-
-pub slice_bounds-widen-end : goal.slice_bounds-widen-end
-slice_bounds-widen-end c =
-    (lent_again junk (length c.args.encoded.now) list_most _ c.lent-n.ensures c.export-answer.new.bytes c.export-answer.auto.bytes).1
-
-pub widen-requires : goal.widen-requires
-widen-requires c =
-    let again = lent_again junk (length c.args.encoded.now) list_most _ c.lent-n.ensures c.export-answer.new.bytes c.export-answer.auto.bytes in
-    omega (arith, again.1, c.lent-n.ensures, c.requires)
-
 pub returns : goal.returns
 returns c =
     let start = c.args in

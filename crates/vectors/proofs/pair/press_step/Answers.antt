@@ -6,24 +6,24 @@ use Rattle.vectors.specs.Pair.{room, junk, Stage, stage_of, Stepped, checked, st
 use mathlib.Core.Path.{◌∙◌, ap}
 use Rattle.vectors.proofs.pair.press_step.Goals as goal
 
-pub returns : goal.returns
+pub returns-clause-stage : goal.returns-clause-stage
 unfolding press_step
-returns c =
-    let line = c.args.line.now in
+returns-clause-stage c at =
     let given = c.args.given in
-    let before = stage_of c.args.state in
-    let budget = c.read_number-budget in
+    let before = stage_of at c.args.state in
+    let budget = c.number-budget in
+    let reader = budget.new.self in
     let lent = c.lent-n.ensures in
     let call = c.press_owned-pressed in
     let left = call.new.left in
     let right = call.new.right in
     let result : Stage → Stepped = λ s. record { stage = s; left = left; right = right } in
     ap result
-    (c.check_press.ensures
-    ∙ ap (λ t. checked line budget.result.next (pressed_of call.result left right t) before)
+    (c.check_press.ensures.stage at
+    ∙ ap (λ t. checked reader.line.now reader.at (pressed_of call.result left right t) before)
     (lent_again junk given.scratch room _ lent call.new.scratch call.auto.scratch).2)
-    ∙ ap (stepped_after line budget.result.next before)
+    ∙ ap (stepped_after reader.line.now reader.at before)
     (call.ensures
-    ∙ ap (λ s. press (memory_of c.args.left.now c.args.right.now c.args.state.session) (call_of s given.left given.right budget.result.value))
+    ∙ ap (λ s. press (memory_of c.args.left.now c.args.right.now c.args.state.session) (call_of s given.left given.right budget.result))
     (lent_words junk given.scratch room _ lent))
-    ∙ rw (budget.ensures, c.after.ensures)
+    ∙ rw (budget.ensures.next, budget.ensures.value, c.expect.ensures)

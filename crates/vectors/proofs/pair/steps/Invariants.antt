@@ -1,13 +1,12 @@
-use Rattle.vectors.specs.Pair.{stepped_of, steps_from}
-use lib.ListN.{length}
-use mathlib.Core.Path.{◌≡◌}
+use Rattle.std.proofs.Common.{◌≡◌, ◌-◌, length}
+use Rattle.vectors.specs.Pair.{stage_of, stepped_of, steps_from}
 use Rattle.vectors.proofs.pair.steps.Given as goal
 
 -- The calls that are still ahead end as all of them do.
-abbrev pub invariant-loop-turns : goal.invariant-loop-turns
-invariant-loop-turns l =
-    steps_from l.turns l.line (stepped_of l.state l.left l.right)
-    ≡ steps_from (length l.line) l.line (stepped_of l.initial.state l.initial.left l.initial.right)
-
-abbrev pub decreases-loop-turns : goal.decreases-loop-turns
-decreases-loop-turns l = l.turns
+abbrev pub invariant-loop : goal.invariant-loop
+invariant-loop l = record {
+  line : l.reader.line ≡ l.fn.reader.line;
+  ahead :
+      steps_from (l.end - l.counter) l.fn.reader.line.now (stepped_of (stage_of l.reader.at l.state) l.left l.right)
+      ≡ steps_from (length l.fn.reader.line.now) l.fn.reader.line.now (stepped_of (stage_of l.fn.reader.at l.fn.start) l.fn.left l.fn.right);
+}

@@ -8,6 +8,3 @@ use Rattle.vectors.proofs.stored.put_chain.Given as goal
 abbrev pub invariant-loop-i : goal.invariant-loop-i
 invariant-loop-i l =
     sets l.table l.i (chain_from l.records l.index l.i (length l.table - l.i)) ≡ chain l.records l.index (length l.initial.table)
-
-abbrev pub decreases-loop-i : goal.decreases-loop-i
-decreases-loop-i l = length l.table - l.i

@@ -1,7 +1,6 @@
 -- `reads` meets its contract.
 use Rattle.notation.specs.Reading.{read_line}
 use Rattle.vectors.proofs.TypedLaws.{placed_start, read_bytes, read_others}
-use Rattle.vectors.specs.Stored.{verified_of, ends_as}
 use Rattle.vectors.specs.Typed.{reading_of}
 use borrow.Author.Rules.{rules}
 use mathlib.Core.Path.{sym, ◌∙◌, ap}
@@ -12,8 +11,8 @@ returns-then-not-are_bytes c = sym (read_others _ _ _ _ (sym c.are_bytes.ensures
 
 pub returns : goal.returns
 returns c =
-    let start = c.args in
-    ap (λ t. verified_of (ends_as start.line.now t) c.read_line-answer.new.workspace) c.brings-term.ensures
-    ∙ ap (reading_of start.line.now start.at) c.read_line-answer.ensures
-    ∙ ap (λ bs. reading_of start.line.now start.at (read_line bs start.workspace.now)) (placed_start c.narrow-n.ensures (search rules))
-    ∙ sym (read_bytes _ _ _ _ (sym c.are_bytes.ensures ∙ c.if-not-are_bytes.false))
+    let reader = c.args.reader.now in
+    rw (c.ends.ensures, c.brings-term.ensures.equal, c.brings-term.ensures.next)
+    (ap (reading_of reader.line.now reader.at)
+    (c.read_line-answer.ensures ∙ ap (λ bs. read_line bs c.args.workspace.now) (placed_start c.narrow-n.ensures (search rules)))
+    ∙ sym (read_bytes _ _ _ _ (sym c.are_bytes.ensures ∙ c.if-not-are_bytes.false)))

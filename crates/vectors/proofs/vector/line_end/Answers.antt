@@ -1,18 +1,15 @@
--- `line_end` meets its contract: what is still ahead decides.
-use Rattle.vectors.proofs.TallyLaws.{end_over, end_here, end-next}
-use mathlib.Core.Path.{sym, ◌∙◌}
-use native.Mathlib.Omega.{arith}
+-- `line_end` meets its contract.
+use Rattle.std.proofs.Common.{ℕ, ◌≡◌, ◌+◌, length, drop, ◌∙◌, arith, length-drop}
+use Rattle.vectors.proofs.TallyLaws.{ends_before, ends_with}
 use Rattle.vectors.proofs.vector.line_end.Goals as goal
 
-pub returns-then-text-i-eq10 : goal.returns-then-text-i-eq10
-returns-then-text-i-eq10 c = (sym (end_here _ _ c.loop-i-test.true c.if-text-i-eq10.true) ∙ c.loop-i.invariant.ahead, omega arith, omega arith)
+pub returns-in-Some : goal.returns-in-Some
+returns-in-Some c =
+    let ends = ends_before c.args.text.now c.args.at c.newline_at.result c.newline_at.ensures c.in-Some.i c.in-Some.is in
+    (ends.0, omega arith, omega (arith, ends.1, length-drop {A = ℕ}))
 
-pub loop-i-preserved : goal.loop-i-preserved
-loop-i-preserved c = record {
-  from = omega arith;
-  inside = omega arith;
-  ahead = sym (end-next _ _ c.loop-i-test.true c.if-text-i-eq10.false) ∙ c.loop-i.invariant.ahead;
-}
-
-pub returns : goal.returns
-returns c = (sym (end_over _ _ c.loop-i-test.false) ∙ c.loop-i.invariant.ahead, omega arith, omega arith)
+pub returns-in-None : goal.returns-in-None
+returns-in-None c =
+    let ends = ends_with c.args.text.now c.args.at c.newline_at.result c.newline_at.ensures c.in-None.is in
+    let whole : length c.args.text.now ≡ c.args.at + length (drop c.args.at c.args.text.now) = omega (arith, length-drop {A = ℕ}) in
+    (whole ∙ ends, omega arith, omega arith)
