@@ -9,13 +9,13 @@ use native.Mathlib.Numerals.{add-one}
 use native.Mathlib.Omega.{arith}
 use lib.Count.{count_leading_zeros}
 use lib.Dec.{eqb}
-use lib.ListN.{replicate, length, take, drop, get_or, drop_of_length-le, get_or-eq_default}
+use lib.ListN.{replicate, length, set, take, drop, get_or, drop_of_length-le, get_or-eq_default}
 use lib.Pow.{pow-add, low, shl_lt}
 use lib.Seq.{drop-cons, drop-drop, get_or-drop}
 use mir.Syntax.{w8}
 use mir.Val.{Fits}
 use Rattle.std.proofs.Common.{lit<}
-use Rattle.std.proofs.lemmas.List.{length-take}
+use Rattle.std.proofs.lemmas.List.{length-take, length-set, get_or-set_same, get_or-set_other}
 use Rattle.std.specs.Int.{w64, from_be_bytes}
 use Rattle.encoding.specs.Bytes.{byte_bits, digits, unpacked, digit, number}
 use Rattle.encoding.proofs.BytesLaws.{number_digits, number-nil, number_below, number_split, drop-unpacked}
@@ -62,16 +62,11 @@ window_is at xs f window same =
     λ i h. number_more i at xs f ∙ ap (λ n. number (byte_bits * i) (unpacked (drop at xs)) * 256 + n) (sym (same i h)) in
     omega (arith, next 0 (lit< tt), next 1 (lit< tt), next 2 (lit< tt), next 3 (lit< tt), next 4 (lit< tt), next 5 (lit< tt), next 6 (lit< tt), next 7 (lit< tt))
 
--- The bytes lent in place of the first zeros.
+-- Zeros, and past their end the default.
 zero_at : (n i : ℕ) → get_or (replicate {A = ℕ} n 0) i 0 ≡ 0
 zero_at zero i = refl
 zero_at (suc n) zero = refl
 zero_at (suc n) (suc i) = zero_at n i
-
-pub padded_at : (ys : List ℕ) (n k i : ℕ) → get_or (ys ++ drop k (replicate {A = ℕ} n 0)) i 0 ≡ get_or ys i 0
-padded_at [] n k i = get_or-drop k (replicate {A = ℕ} n 0) i 0 ∙ zero_at n (k + i)
-padded_at (y ∷ ys) n k zero = refl
-padded_at (y ∷ ys) n k (suc i) = padded_at ys n k i
 
 number-take : (k : ℕ) (bs : List Bool) → number k (take k bs) ≡ number k bs
 number-take zero bs = refl
@@ -134,3 +129,32 @@ window_ones at xs =
     window_run (at % byte_bits) (unpacked (drop (at / byte_bits) xs)) (omega arith)
     ∙ ap (λ bs. run (take (window_bits - at % byte_bits) bs))
     (ap (drop (at % byte_bits)) (sym (drop-unpacked (at / byte_bits) xs)) ∙ drop-drop (at % byte_bits) (byte_bits * (at / byte_bits)) (unpacked xs) ∙ ap (λ i. drop i (unpacked xs)) e)
+
+-- The first i elements of a window are those of what is put into it, and 0 stands behind them.
+pub record Put (rest window : List ℕ) (i : ℕ) : Type 0 where
+  pub long : length window ≡ 8
+  pub first : (k : ℕ) → k < i → get_or window k 0 ≡ get_or rest k 0
+  pub behind : (k : ℕ) → i ≤ k → get_or window k 0 ≡ 0
+
+pub put_none : (rest : List ℕ) → Put rest (replicate {A = ℕ} 8 0) 0
+put_none rest = record { long = refl; first = λ k h. absurd (omega (arith, h)); behind = λ k h. zero_at 8 k }
+
+pub put_next : {rest window : List ℕ} {i : ℕ} → Put rest window i → i < 8 → Put rest (set window i (get_or rest i 0)) (i + 1)
+put_next {rest} {window} {i} p h =
+    record {
+      long = length-set window i _ ∙ p.long;
+      first = λ k l. go k l (dec_lt k i);
+      behind = λ k l. get_or-set_other window i k _ 0 (λ e. omega (arith, l, e)) ∙ p.behind k (omega (arith, l));
+    }
+  where
+    go : (k : ℕ) → k < i + 1 → Dec (k < i) → get_or (set window i (get_or rest i 0)) k 0 ≡ get_or rest k 0
+    go k l (yes m) = get_or-set_other window i k _ 0 (λ e. omega (arith, m, e)) ∙ p.first k m
+    go k l (no m) = let e : k ≡ i = omega (arith, l, m) in rw e (get_or-set_same window i _ 0 (omega (arith, p.long, h)))
+
+-- All of it is put: every element is one of it, or 0 past its end.
+pub put_all : {rest window : List ℕ} {i : ℕ} → Put rest window i → length rest ≤ i → (k : ℕ) → get_or window k 0 ≡ get_or rest k 0
+put_all {rest} {window} {i} p h k = go (dec_lt k i)
+  where
+    go : Dec (k < i) → get_or window k 0 ≡ get_or rest k 0
+    go (yes m) = p.first k m
+    go (no m) = p.behind k (omega (arith, m)) ∙ sym (get_or-eq_default rest 0 {n = k} (omega (arith, m, h)))

@@ -26,8 +26,11 @@ fn window(bytes: &[u8], at: usize) -> u64
     if let Some(whole) = rest.first_chunk::<WINDOW_BYTES>() {
         return u64::from_be_bytes(*whole);
     }
+    // By index: the library's `copy_from_slice` is C's memmove, which the archive doesn't ask for.
     let mut window = [0u8; WINDOW_BYTES];
-    window[..rest.len()].copy_from_slice(rest);
+    for i in 0..rest.len() {
+        window[i] = rest[i];
+    }
     u64::from_be_bytes(window)
 }
 
