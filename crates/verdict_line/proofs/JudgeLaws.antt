@@ -14,8 +14,7 @@ use Rattle.press.specs.Types.{answer_of, session_of, memory_of, call_of, pressed
 use Rattle.calculus.specs.Refusal.{number}
 use Rattle.words.specs.declared.refusal.Refusal.{Refusal}
 use Rattle.words.specs.Types.{refusal_of}
-use Rattle.words.specs.declared.result.Result.{Result}
-use Rattle.words.specs.declared.result.Result.TheVariants as result
+use Rattle.std.specs.Prelude.{Result, Ok, Err}
 use Rattle.storage.specs.Load.{load}
 use Rattle.words.specs.Types.{brought_of}
 use Rattle.request.specs.Request.{Request}
@@ -48,23 +47,23 @@ module _ (n : ℕ) (h : n ≤ lent_most) where
     asked = record { budget = budget; C = n; left = left; right = right }
 
     -- Loading into the first n words is loading into n zeros.
-    loads : (table ws : List ℕ) {a b : Result} → a ≡ b → brought_of a ws ≡ load table (take n array) → brought_of b ws ≡ load table (replicate n 0)
+    loads : (table ws : List ℕ) {a b : Result ℕ Refusal} → a ≡ b → brought_of a ws ≡ load table (take n array) → brought_of b ws ≡ load table (replicate n 0)
     loads table ws e q = ap (λ x. brought_of x ws) (sym e) ∙ q ∙ ap (load table) (take-replicate 0 n lent_most h)
 
-    module _ (ws : List ℕ) {a : Result} (loaded : brought_of a ws ≡ load left (take n array)) where
-      pub refused_left : {why : Refusal} → a ≡ result.Refused why → refuses (number (refusal_of why)) ≡ judged (some asked)
+    module _ (ws : List ℕ) {a : Result ℕ Refusal} (loaded : brought_of a ws ≡ load left (take n array)) where
+      pub refused_left : {why : Refusal} → a ≡ Err why → refuses (number (refusal_of why)) ≡ judged (some asked)
       refused_left e = ap (λ q. loaded_left asked q.workspace q.answer) (loads left ws e loaded)
 
-      after_left : {l : ℕ} → a ≡ result.Returned l
+      after_left : {l : ℕ} → a ≡ Ok l
           → loaded_right n budget ws l (load right (replicate n 0)).workspace (load right (replicate n 0)).answer ≡ judged (some asked)
       after_left e = ap (λ q. loaded_left asked q.workspace q.answer) (loads left ws e loaded)
 
-      module _ {l : ℕ} (l-is : a ≡ result.Returned l) (vs : List ℕ) {b : Result} (loaded-right : brought_of b vs ≡ load right (take n array)) where
-        pub refused_right : {why : Refusal} → b ≡ result.Refused why → refuses (number (refusal_of why)) ≡ judged (some asked)
+      module _ {l : ℕ} (l-is : a ≡ Ok l) (vs : List ℕ) {b : Result ℕ Refusal} (loaded-right : brought_of b vs ≡ load right (take n array)) where
+        pub refused_right : {why : Refusal} → b ≡ Err why → refuses (number (refusal_of why)) ≡ judged (some asked)
         refused_right e = ap (λ q. loaded_right n budget ws l q.workspace q.answer) (loads right vs e loaded-right) ∙ after_left l-is
 
         -- The press on both arrays' first words.
-        pub pressed_line : {r : ℕ} → b ≡ result.Returned r → length ws ≡ length (take n array) → length vs ≡ length (take n array)
+        pub pressed_line : {r : ℕ} → b ≡ Ok r → length ws ≡ length (take n array) → length vs ≡ length (take n array)
             → (s : Session) → session_of s ≡ fresh → (p : Pressed) (ws' vs' scratch : List ℕ)
             → pressed_of p ws' vs' scratch
             ≡ press (memory_of (take n (ws ++ drop n array)) (take n (vs ++ drop n array)) s) (call_of (take n array) l r budget)

@@ -12,12 +12,12 @@ ghost use Rattle.verdict_line.specs.Judge.{lent_most, request_for};
 
 use press::answer::Answer;
 use press::state::Session;
-use request::{Parsed, TABLE_MOST, Table, parse};
+use request::{Request, TABLE_MOST, Table, parse};
 use session::press_owned;
 use text::bytes::words_from;
 use verdict_text::Line;
 use words::Word;
-use words::result::Result;
+use words::refusal::Refusal;
 
 // A workspace is lent by so many words at most, one above its limit, so that loading itself refuses it.
 pub const LENT_MOST: usize = Word::WORKSPACE_MOST + 1;
@@ -26,22 +26,18 @@ pub const LENT_MOST: usize = Word::WORKSPACE_MOST + 1;
 pub fn lent(c: u32) -> usize
     ensures { result ≡ min c lent_most }
 {
-    let n = c as usize;
-    if n < LENT_MOST {
-        return n;
-    }
-    LENT_MOST
+    (c as usize).min(LENT_MOST)
 }
 
 // Loads the table that stands in the bytes.
-pub fn load_from(bytes: &[u8], table: Table, workspace: &mut [u32]) -> Result
+pub fn load_from(bytes: &[u8], table: Table, workspace: &mut [u32]) -> Result<usize, Refusal>
     requires { Stands bytes.now table }
     ensures { brought_of result workspace.new ≡ load (words_of_table bytes.now table) workspace.old }
 {
     let mut words = [0u32; TABLE_MOST];
-    let n = table.words;
-    words_from(bytes, table.at, &mut words[..n]);
-    tables::load(&words[..n], workspace)
+    let words = &mut words[..table.words];
+    words_from(bytes, table.at, words);
+    tables::load(words, workspace)
 }
 
 // What a press answers, as a line.
@@ -49,39 +45,32 @@ fn line_of(answer: Answer) -> Line
     ensures { printed_line result ≡ line_of (answer_of answer) }
 {
     match answer {
-        Answer::Refused(refusal) => Line::Refuses(refusal.number()),
-        Answer::Shown(shown) => Line::Shows(shown),
+        Ok(shown) => Line::Shows(shown),
+        Err(refusal) => Line::Refuses(refusal.number()),
     }
 }
 
-// The line of a request for workspaces of c words: left is loaded, then right, then one press with a fresh session.
-fn judge_with(bytes: &[u8], left: Table, right: Table, budget: u32, c: u32) -> Line
-    requires { Stands bytes.now left × Stands bytes.now right }
-    ensures { printed_line result ≡ judged (some (request_for bytes.now budget c left right)) }
+// What a request is answered: left is loaded, then right, then one press with a fresh session.
+fn judge_with(bytes: &[u8], request: Request) -> Answer
+    requires { Stands bytes.now request.left × Stands bytes.now request.right }
+    ensures { line_of (answer_of result) ≡ judged (some (request_for bytes.now request.budget request.c request.left request.right)) }
 {
-    let n = lent(c);
-    let mut left_words = [0u32; LENT_MOST];
-    let mut right_words = [0u32; LENT_MOST];
+    let n = lent(request.c);
+    let mut left = [0u32; LENT_MOST];
+    let mut right = [0u32; LENT_MOST];
     let mut scratch = [0u32; LENT_MOST];
-    match load_from(bytes, left, &mut left_words[..n]) {
-        Result::Refused(refusal) => Line::Refuses(refusal.number()),
-        Result::Returned(l) => match load_from(bytes, right, &mut right_words[..n]) {
-            Result::Refused(refusal) => Line::Refuses(refusal.number()),
-            Result::Returned(r) => {
-                let pressed = press_owned(
-                    &mut left_words[..n],
-                    &mut right_words[..n],
-                    &mut scratch[..n],
-                    l,
-                    r,
-                    budget,
-                    Session::fresh(),
-                );
-                let answer = pressed.answer;
-                line_of(answer)
-            }
-        },
-    }
+    let l = load_from(bytes, request.left, &mut left[..n])?;
+    let r = load_from(bytes, request.right, &mut right[..n])?;
+    let pressed = press_owned(
+        &mut left[..n],
+        &mut right[..n],
+        &mut scratch[..n],
+        l,
+        r,
+        request.budget,
+        Session::fresh(),
+    );
+    pressed.answer
 }
 
 // What is printed for the bytes.
@@ -89,12 +78,7 @@ pub fn judge(bytes: &[u8]) -> Line
     ensures { printed_line result ≡ judged (request bytes.now) }
 {
     match parse(bytes) {
-        Parsed::Request {
-            budget,
-            c,
-            left,
-            right,
-        } => judge_with(bytes, left, right, budget, c),
-        Parsed::Malformed => Line::Input,
+        Some(request) => line_of(judge_with(bytes, request)),
+        None => Line::Input,
     }
 }

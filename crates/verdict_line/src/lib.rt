@@ -4,6 +4,7 @@
 ghost use Rattle.verdict_line.specs.Line.{printed};
 ghost use Rattle.words.specs.Placed.{Placed};
 
+use judge::judge;
 use verdict_text::{PRINTED_MOST, put_line};
 
 pub mod judge;
@@ -12,6 +13,5 @@ pub mod judge;
 pub fn line(bytes: &[u8], out: &mut [u8; PRINTED_MOST]) -> usize
     ensures { Placed out.old 0 (printed bytes.now) out.new result }
 {
-    let line = judge::judge(bytes);
-    put_line(line, out)
+    put_line(judge(bytes), out)
 }
