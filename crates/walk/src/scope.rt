@@ -44,8 +44,15 @@ impl Scope {
                 top,
             };
         }
+        // Asked first and alone: most words leave items to come.
         let left = items + (self.pending - 1);
-        if left == 0 && self.top < room.len() {
+        if left > 0 {
+            return Scope {
+                pending: left,
+                ..self
+            };
+        }
+        if self.top < room.len() {
             let scope = room[self.top];
             return Scope {
                 pending: (scope / SCOPE) as usize,

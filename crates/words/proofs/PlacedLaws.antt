@@ -64,9 +64,6 @@ sets_part vs l i to p e h =
     let k : i + length vs ≡ i + (to - i) = omega (arith, e) in
     ap (put_mid i (to - i) l) p ∙ sym (sets-eq vs l i (omega arith) ∙ append_assoc (take i l) vs _ ∙ ap (λ xs. take i l ++ (vs ++ xs)) (ap (λ m. drop m l) k ∙ sym (drop-drop (to - i) i l)))
 
-pub placed_part : {X : Type 0} {part : List X} (vs l : List X) (out end : ℕ) → part ≡ vs → out + length vs ≡ end → end ≤ length l → Placed l out vs (put_mid out (end - out) l part) end
-placed_part vs l out end p e h = record { slice = sets_part vs l out end p e h; position = omega arith }
-
 -- A turn of copying: the first of what is still to copy is put, and the others come behind it.
 pub copied_turn : {X : Type 0} (src dst : List X) (from to out i : ℕ) (x : X) → x ≡ get_or src (from + i) x → i < to - from → to ≤ length src
     → sets (set dst (out + i) x) (out + (i + 1)) (slice (from + (i + 1)) to src) ≡ sets dst (out + i) (slice (from + i) to src)

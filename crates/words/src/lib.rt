@@ -85,17 +85,21 @@ impl Word {
         self.0 / Word::KIND_BASE % Word::COUNT_BASE
     }
 
-    // How many items follow the word.
+    // How many items follow the word: as many as the number of its kind for a variable, an abstraction and an application. Asked first, and by the number,
+    // these cost less.
     #[tactic(auto, unfolding(calculus::specs::Skip::following))]
     pub fn arity(self) -> usize
         ensures { result ≡ arity self.0 }
     {
-        match self.kind() {
-            Kind::Variable | Kind::Numeral | Kind::Unassigned => 0,
-            Kind::Abstraction | Kind::Branch => 1,
-            Kind::Application => 2,
+        let number = self.0 % Word::KIND_BASE;
+        if number < Kind::Constructor as u32 {
+            return number as usize;
+        }
+        match Kind::from(number) {
             Kind::Constructor => self.count() as usize,
             Kind::Case => self.payload() as usize + 1,
+            Kind::Branch => 1,
+            _ => 0,
         }
     }
 }
