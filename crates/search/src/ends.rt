@@ -1,5 +1,4 @@
-// A table of where items end, so that stuck cases nested in one another cost one pass. The table and the position before which it is known are not one
-// value: it lies in the scratch, which is lent for the walks over a redex too, so such a value would be made anew for each call.
+// A table of where items end, so that stuck cases nested in one another cost one pass.
 ghost use Rattle.std.specs.Prelude.{◌≡◌, ◌≤◌, ◌+◌, length, drop};
 ghost use Rattle.calculus.specs.Words.{workspace_most};
 ghost use Rattle.calculus.specs.Skip.{span};
@@ -7,27 +6,37 @@ ghost use Rattle.search.specs.Ends.{Ends, Filled};
 
 use words::{Word, extent};
 
-// The end of the item at a position, from the table where it is known.
-pub fn end_of(ws: &[u32], at: usize, known: usize, ends: &[u32]) -> usize
-    requires { (length ws.now ≤ workspace_most) × Ends ws.now at known ends.now }
-    ensures { result ≡ at + span 1 (drop at ws.now) }
-{
-    if at < known {
-        return ends[at] as usize;
-    }
-    extent(ws, at)
+// The items of a workspace, with a table of the ends of those that start before `known`.
+#[derive(Clone, Copy)]
+pub struct Items<'a> {
+    pub ws: &'a [u32],
+    pub known: usize,
+    pub ends: &'a [u32],
 }
 
-// The end of so many items that start at a position, from one end to the next.
-fn hop(ws: &[u32], at: usize, items: usize, known: usize, ends: &[u32]) -> usize
-    requires { (length ws.now ≤ workspace_most) × Ends ws.now at known ends.now }
-    ensures { result ≡ at + span items (drop at ws.now) }
-{
-    let mut i = at;
-    for _ in 0..items {
-        i = end_of(ws, i, known, ends);
+impl Items<'_> {
+    // The end of the item at a position, from the table where it is known.
+    pub fn end_of(self, at: usize) -> usize
+        requires { (length self.ws.now ≤ workspace_most) × Ends self.ws.now at self.known self.ends.now }
+        ensures { result ≡ at + span 1 (drop at self.entry.ws.now) }
+    {
+        if at < self.known {
+            return self.ends[at] as usize;
+        }
+        extent(self.ws, at)
     }
-    i
+
+    // The end of so many items that start at a position, from one end to the next.
+    fn hop(self, at: usize, items: usize) -> usize
+        requires { (length self.ws.now ≤ workspace_most) × Ends self.ws.now at self.known self.ends.now }
+        ensures { result ≡ at + span items (drop at self.entry.ws.now) }
+    {
+        let mut i = at;
+        for _ in 0..items {
+            i = self.end_of(i);
+        }
+        i
+    }
 }
 
 // Fills in the ends of all items inside the one at a position, the last of them first, and returns where that one ends.
@@ -37,7 +46,12 @@ pub fn fill_ends(ws: &[u32], at: usize, ends: &mut [u32]) -> usize
 {
     let end = extent(ws, at);
     for i in (at..end).rev() {
-        let stop = hop(ws, i + 1, Word(ws[i]).arity(), end, ends);
+        let items = Items {
+            ws,
+            known: end,
+            ends,
+        };
+        let stop = items.hop(i + 1, Word(ws[i]).arity());
         ends[i] = stop as u32;
     }
     end

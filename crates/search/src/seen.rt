@@ -7,7 +7,7 @@ ghost use Rattle.redex.specs.Plan.{At};
 ghost use Rattle.search.specs.Ends.{Ends};
 ghost use Rattle.search.specs.Seen.{SeenAt, Inspected};
 
-use crate::ends::end_of;
+use crate::ends::Items;
 use redex::{Branch, Found, Redex, beta, numbered, selected};
 use words::Word;
 use words::kind::Kind;
@@ -23,26 +23,17 @@ pub enum Seen {
 }
 
 // Among the branches at a position, the body of the one that lists the tag, if it binds so many variables; where none lists it, that of the default.
-// Ends of items before `known` are in the table.
-fn branch_body(
-    ws: &[u32],
-    branches: u32,
-    tag: u32,
-    count: u32,
-    at: usize,
-    known: usize,
-    ends: &[u32],
-) -> Option<Found>
-    requires { (length ws.now ≤ workspace_most) × Ends ws.now at known ends.now }
-    ensures { result ≡ branch_body None branches tag count at (drop at ws.now) }
+fn branch_body(items: Items, branches: u32, tag: u32, count: u32, at: usize) -> Option<Found>
+    requires { (length items.ws.now ≤ workspace_most) × Ends items.ws.now at items.known items.ends.now }
+    ensures { result ≡ branch_body None branches tag count at (drop at items.entry.ws.now) }
 {
     let mut found = None;
     let mut i = at;
     for left in (0..branches).rev() {
-        if ws.len() <= i {
+        if items.ws.len() <= i {
             return found;
         }
-        let word = Word(ws[i]);
+        let word = Word(items.ws[i]);
         if is_default(word.payload()) {
             found = found.or(Some(Found::Default(i + 1, left)));
         } else if tag == word.tag() {
@@ -51,7 +42,7 @@ fn branch_body(
             }
             return None;
         }
-        i = end_of(ws, i + 1, known, ends);
+        i = items.end_of(i + 1);
     }
     found
 }
@@ -70,16 +61,13 @@ fn inspect(
     ensures { SeenAt ws.now n at known room.old result room.new }
 {
     let count = constructor.count();
-    let after = end_of(ws, at + 1, known, room);
-    let Some(found) = branch_body(
+    let items = Items {
         ws,
-        case.payload(),
-        constructor.tag(),
-        count,
-        after,
         known,
-        room,
-    ) else {
+        ends: room,
+    };
+    let after = items.end_of(at + 1);
+    let Some(found) = branch_body(items, case.payload(), constructor.tag(), count, after) else {
         return if at < known {
             Seen::Nothing
         } else {

@@ -35,8 +35,8 @@ loop-left-preserved c =
       omega (arith, c.end_of-i.ensures, c.loop-left.invariant.1),
     )
 
-pub returns-then-ws-i : goal.returns-then-ws-i
-returns-then-ws-i c = sym (branch_body_past _ _ _ _ _ _ (omega arith)) ∙ c.loop-left.invariant.0
+pub returns-then-items-i : goal.returns-then-items-i
+returns-then-items-i c = sym (branch_body_past _ _ _ _ _ _ (omega arith)) ∙ c.loop-left.invariant.0
 
 pub returns : goal.returns
 returns c = let none : c.loop-left.left ≡ 0 = omega arith in sym (branch_body_none _ _ _ _ _) ∙ rw none at c.loop-left.invariant.0

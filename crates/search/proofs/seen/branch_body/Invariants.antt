@@ -7,4 +7,4 @@ use Rattle.search.proofs.seen.branch_body.Given as goal
 
 abbrev pub invariant-loop-left : goal.invariant-loop-left
 invariant-loop-left l =
-    (branch_body l.found l.left l.tag l.count l.i (drop l.i l.ws) ≡ branch_body None l.branches l.tag l.count l.at (drop l.at l.ws)) × (l.at ≤ l.i)
+    (branch_body l.found l.left l.tag l.count l.i (drop l.i l.items.ws.now) ≡ branch_body None l.branches l.tag l.count l.at (drop l.at l.items.ws.now)) × (l.at ≤ l.i)

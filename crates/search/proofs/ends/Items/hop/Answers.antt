@@ -6,13 +6,13 @@ use Rattle.words.proofs.Spans.{span_first}
 use lib.ListN.{drop}
 use mathlib.Core.Path.{◌≡◌, ◌∙◌, ap}
 use native.Mathlib.Omega.{arith}
-use Rattle.search.proofs.ends.hop.Goals as goal
+use Rattle.search.proofs.ends.Items.hop.Goals as goal
 
 pub loop-preserved : goal.loop-preserved
 loop-preserved c =
     let l = c.loop in
     let one : suc (c.args.items - (l.counter + 1)) ≡ c.args.items - l.counter = omega arith in (
-      span_first _ l.i (c.args.items - (l.counter + 1)) c.end_of-i.ensures ∙ ap (λ k. l.i + span k (drop l.i c.args.ws.now)) one ∙ l.invariant.0,
+      span_first _ l.i (c.args.items - (l.counter + 1)) c.end_of-i.ensures ∙ ap (λ k. l.i + span k (drop l.i c.args.self.ws.now)) one ∙ l.invariant.0,
       omega (arith, c.end_of-i.ensures, l.invariant.1),
     )
 
