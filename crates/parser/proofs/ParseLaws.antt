@@ -1,11 +1,12 @@
 -- The loop of line_words.
 use Prim.Native.Nat.{ℕ, zero, suc, ◌+◌, ◌-◌, ◌≤◌, ◌<◌}
-use mathlib.Core.Path.{◌≡◌, refl}
-use mathlib.Core.List.{List, [], ◌∷◌}
+use mathlib.Core.Path.{◌≡◌, refl, ◌∙◌}
+use mathlib.Core.List.{List, [], ◌∷◌, reverse}
 use mathlib.Core.Option.{some, none, bind}
 use native.Mathlib.Omega.{arith}
 use lib.ListN.{length, drop, get_or, length-drop, drop_of_length-le}
 use lib.Seq.{drop-cons}
+use Rattle.std.proofs.lemmas.List.{get_or-reverse, get_or_default}
 use Rattle.calculus.proofs.All.{all_some}
 use Rattle.parser.specs.declared.Scan.{Scan}
 use Rattle.notation.specs.Reader.{sign, apply, State, Begun, settle, step, scan, finish, line_words}
@@ -22,20 +23,19 @@ tally_length : (ns : List ℕ) → length ns ≤ tally ns
 tally_length [] = omega arith
 tally_length (n ∷ ns) = omega (arith, tally_length ns)
 
--- The invariant: the scan of the bytes from i on is the state that is kept, and both arrays have their room.
-pub record Parsing (line : List ℕ) (i : ℕ) (s : Scan) (stack out : List ℕ) : Type 0 where
+-- The invariant: the scan of the last k bytes is the state that is kept, and both arrays have their room.
+pub record Parsing (line : List ℕ) (k : ℕ) (s : Scan) (stack out : List ℕ) : Type 0 where
   pub stack_full : length stack ≡ room_most
   pub out_full : length out ≡ room_most
   pub short : length line ≤ line_most
-  pub inside : i ≤ length line
   pub within : Within room_most room_most s
-  pub scanned : scan (drop i line) ≡ some (state_of s stack out)
+  pub scanned : scan (drop (length line - k) line) ≡ some (state_of s stack out)
 
 -- Words, counts and open parentheses together are no more than the bytes that are read.
-module _ {line : List ℕ} {i : ℕ} {s : Scan} {stack out : List ℕ} (v : Parsing line i s stack out) where
-  loaded : s.count + (room_most - s.top) + (room_most - s.at) ≤ length line - i
+module _ {line : List ℕ} {k : ℕ} {s : Scan} {stack out : List ℕ} (v : Parsing line k s stack out) where
+  loaded : s.count + (room_most - s.top) + (room_most - s.at) ≤ length line - (length line - k)
   loaded =
-      let h = all_some (rw v.scanned at (scan-load (drop i line))) in
+      let h = all_some (rw v.scanned at (scan-load (drop (length line - k) line))) in
       omega (
         arith,
         h,
@@ -43,7 +43,7 @@ module _ {line : List ℕ} {i : ℕ} {s : Scan} {stack out : List ℕ} (v : Pars
         tally_length (drop s.top stack),
         length-drop s.top stack,
         length-drop s.at out,
-        length-drop i line,
+        length-drop (length line - k) line,
         v.stack_full,
         v.out_full,
       )
@@ -51,35 +51,47 @@ module _ {line : List ℕ} {i : ℕ} {s : Scan} {stack out : List ℕ} (v : Pars
   pub parsing_count : s.count < s.at
   parsing_count = omega (arith, loaded, v.within.at, v.short)
 
-  pub parsing_room : 0 < i → Ahead s
+  pub parsing_room : k < length line → Ahead s
   parsing_room g =
       record {
-        words = omega (arith, loaded, v.within.at, v.within.top, v.short, v.inside);
-        depth = omega (arith, loaded, v.within.at, v.within.top, v.short, v.inside);
+        words = omega (arith, loaded, v.within.at, v.within.top, v.short);
+        depth = omega (arith, loaded, v.within.at, v.within.top, v.short);
       }
 
 pub parsing_starts : (line stack out : List ℕ) → Parses line stack out
-    → Parsing line (length line) (record { at = room_most; top = room_most; count = 0; value = 0; power = 1 }) stack out
+    → Parsing line 0 (record { at = room_most; top = room_most; count = 0; value = 0; power = 1 }) stack out
 unfolding scan
 parsing_starts line stack out p =
-    let none_left : length line ≤ length line = omega arith in
+    let none_left : length line ≤ length line - 0 = omega arith in
     let none_open : length stack ≤ room_most = omega (arith, p.stack_full) in
     let no_word : length out ≤ room_most = omega (arith, p.out_full) in
     record {
       stack_full = p.stack_full;
       out_full = p.out_full;
       short = p.short;
-      inside = omega arith;
       within = record { at = omega arith; top = omega arith; value = omega arith; power = omega arith; wanted = λ e. refl };
       scanned = rw (drop_of_length-le line none_left, drop_of_length-le stack none_open, drop_of_length-le out no_word);
     }
 
-pub scan_byte : (line : List ℕ) (i : ℕ) {σ : State} → 0 < i → i ≤ length line → scan (drop i line) ≡ some σ
-    → scan (drop (i - 1) line) ≡ step (sign (get_or line (i - 1) 0)) σ
+-- The byte in front of the last k, as the walk from the end gives it.
+front_byte : (line : List ℕ) (k b : ℕ) → k < length line → b ≡ get_or (reverse line) k b → b ≡ get_or line (length line - 1 - k) 0
+front_byte line k b h e =
+    let inside : length line - 1 - k < length line = omega arith in
+    e ∙ get_or-reverse line k b h ∙ get_or_default line (length line - 1 - k) b 0 inside
+
+pub scan_byte : (line : List ℕ) (k b : ℕ) {σ : State} → k < length line → b ≡ get_or (reverse line) k b → scan (drop (length line - k) line) ≡ some σ
+    → scan (drop (length line - (k + 1)) line) ≡ step (sign b) σ
 unfolding scan bind
-scan_byte line zero h g q = elim h [ ]
-scan_byte line (suc i) h g q =
-    let e : suc i - 1 ≡ i = omega arith in rw (e, drop-cons line i 0 (omega arith), q)
+scan_byte line k b {σ} h e q =
+    let this : length line - (k + 1) ≡ length line - 1 - k = omega arith in
+    let next : suc (length line - 1 - k) ≡ length line - k = omega arith in
+    let inside : length line - 1 - k < length line = omega arith in
+    let behind : scan (drop (suc (length line - 1 - k)) line) ≡ some σ = rw next q in
+    rw (this, drop-cons line (length line - 1 - k) 0 inside, behind, ← front_byte line k b h e)
+
+-- All bytes are read.
+pub scan_all : (line : List ℕ) (k : ℕ) {σ : State} → k ≡ length line → scan (drop (length line - k) line) ≡ some σ → scan line ≡ some σ
+scan_all line k e q = let none_left : length line - k ≡ 0 = omega arith in rw none_left at q
 
 -- A byte that refuses makes the whole line none.
 none_behind : (line : List ℕ) (i : ℕ) → scan (drop i line) ≡ none → scan line ≡ none

@@ -1,33 +1,13 @@
 -- Which byte does what.
-use Prim.Native.Nat.{ℕ, ◌+◌, ◌-◌, ◌≤◌}
-use mathlib.Core.Path.{◌≡◌, refl, sym, ◌∙◌, ap}
-use mathlib.Core.Bool.{Bool, true, false, ◌&&◌}
+use Prim.Native.Nat.{ℕ, ◌+◌}
+use mathlib.Core.Path.{◌≡◌, refl, ◌∙◌}
+use mathlib.Core.Bool.{false}
 use mathlib.Core.Option.{Option, some, none, bind}
 use native.Mathlib.Omega.{arith}
-use lib.Dec.{leb}
-use borrow.Author.Tests.{leb-true, le-leb}
+use borrow.Author.Tests.{le-leb}
 use Rattle.notation.specs.Grammar.{zero_digit, closing}
-use Rattle.notation.specs.Reader.{Sign, digit, sign, digit_byte, State, Begun, settle, on_digit, on_close, on_begun, step}
-use Rattle.notation.proofs.SignLaws.{Is, a_digit, a_gap, an_opening, a_closing, a_lambda, no_sign, sign_is, sign-digit}
-
-both : (x y : Bool) → (x && y) ≡ true → (x ≡ true) × (y ≡ true)
-both true y e = (refl, e)
-both false y e = let z : ◌≡◌ {A = ℕ} 0 1 = cc in absurd (omega arith)
-
-pub digit_range : (b : ℕ) → digit_byte b ≡ true → (zero_digit ≤ b) × (b ≤ zero_digit + 9)
-digit_range b e = let r = both (leb zero_digit b) (leb b (zero_digit + 9)) e in (leb-true zero_digit b r.0, leb-true b (zero_digit + 9) r.1)
-
-pub step-digit : (b : ℕ) (σ : State) → digit_byte b ≡ true → on_digit (b - zero_digit) σ ≡ step (sign b) σ
-unfolding step
-step-digit b σ e =
-    let r = digit_range b e in
-    let q : zero_digit + (b - zero_digit) ≡ b = omega arith in
-    let f : sign b ≡ digit (b - zero_digit) = ap sign (sym q) ∙ sign-digit (b - zero_digit) (omega arith) in
-    rw f
-
-pub step-closing : (b : ℕ) (σ : State) → b ≡ closing → on_close σ ≡ step (sign b) σ
-unfolding step sign
-step-closing b σ e = rw e
+use Rattle.notation.specs.Reader.{Sign, sign, digit_byte, State, Begun, settle, on_begun, step}
+use Rattle.notation.proofs.SignLaws.{Is, a_digit, a_gap, an_opening, a_closing, a_lambda, no_sign, sign_is}
 
 other_sign : {b : ℕ} {s : Sign} (σ : State) → Is b s → digit_byte b ≡ false → (b ≡ closing → ⊥) → bind (settle σ) (on_begun s) ≡ step s σ
 unfolding step

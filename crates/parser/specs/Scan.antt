@@ -1,15 +1,12 @@
 -- What the parser keeps between two bytes, as a state of the reader, and the room that it needs.
-use Rattle.std.specs.Prelude.{ℕ, zero, suc, ◌*◌, ◌-◌, ◌≤◌, ◌<◌, ◌≡◌, List, length, take, drop}
+use Rattle.std.specs.Prelude.{ℕ, zero, suc, ◌*◌, ◌-◌, ◌≤◌, ◌<◌, ◌≡◌, List, length, take, drop, Some, None}
+use Rattle.std.specs.Prelude as codeOption
 use Rattle.std.proofs.Math.Option.{Option, some, none}
 use Rattle.calculus.specs.Accepted.{index_limit}
 use Rattle.words.specs.Room.{Room}
 use Rattle.notation.specs.Grammar.{line_most}
 use Rattle.notation.specs.Reader.{State, wanted, number, begun, Begun, begins}
 use Rattle.parser.specs.declared.Scan.{Scan}
-use Rattle.parser.specs.declared.Step as codeStep
-use Rattle.parser.specs.declared.Step.TheVariants as step
-use Rattle.parser.specs.declared.Parsed as codeParsed
-use Rattle.parser.specs.declared.Parsed.TheVariants as parsed
 
 -- The state by the worth of one more digit: 0 where an item starts, 1 where one has to end, more within a number.
 abbrev pub at_power : (power value count : ℕ) (stack words : List ℕ) → State
@@ -21,17 +18,18 @@ at_power (suc (suc p)) v n ns ws = number v (suc (suc p)) n ns ws
 abbrev pub state_of : Scan → (stack out : List ℕ) → State
 state_of s stack out = at_power s.power s.value s.count (drop s.top stack) (drop s.at out)
 
-abbrev pub stepped_of : codeStep.Step → (stack out : List ℕ) → Option State
-stepped_of step.Outside stack out = none
-stepped_of (step.On s) stack out = some (state_of s stack out)
+-- What a byte leads to: none outside the grammar.
+abbrev pub stepped_of : codeOption.Option Scan → (stack out : List ℕ) → Option State
+stepped_of None stack out = none
+stepped_of (Some s) stack out = some (state_of s stack out)
 
 -- The same where an item starts.
 abbrev pub begun_by : Scan → (stack out : List ℕ) → Begun
 begun_by s stack out = begins s.count (drop s.top stack) (drop s.at out)
 
-abbrev pub begun_of : codeStep.Step → (stack out : List ℕ) → Option Begun
-begun_of step.Outside stack out = none
-begun_of (step.On s) stack out = some (begun_by s stack out)
+abbrev pub begun_of : codeOption.Option Scan → (stack out : List ℕ) → Option Begun
+begun_of None stack out = none
+begun_of (Some s) stack out = some (begun_by s stack out)
 
 -- A number has at most this worth: one more digit is taken only where the worth is no more than the largest index.
 abbrev pub power_most : ℕ
@@ -50,24 +48,24 @@ pub record Ahead (s : Scan) : Type 0 where
   pub words : suc s.count < s.at
   pub depth : 0 < s.top
 
-abbrev pub StepWithin : (D R : ℕ) → codeStep.Step → Type 0
-StepWithin D R step.Outside = Unit {0}
-StepWithin D R (step.On s) = Within D R s
+abbrev pub StepWithin : (D R : ℕ) → codeOption.Option Scan → Type 0
+StepWithin D R None = Unit {0}
+StepWithin D R (Some s) = Within D R s
 
 -- What settling leaves: one word more at most, and the same count and stack.
-abbrev pub Settled : (R : ℕ) → Scan → codeStep.Step → Type 0
-Settled R s step.Outside = Unit {0}
-Settled R s (step.On r) = (s.at - 1 ≤ r.at) × (r.at ≤ R) × (r.top ≡ s.top) × (r.count ≡ s.count)
+abbrev pub Settled : (R : ℕ) → Scan → codeOption.Option Scan → Type 0
+Settled R s None = Unit {0}
+Settled R s (Some r) = (s.at - 1 ≤ r.at) × (r.at ≤ R) × (r.top ≡ s.top) × (r.count ≡ s.count)
 
 -- What a step leaves of an array that it fills from its end: what stands before the place it has come to, and outside the grammar all of it.
-abbrev pub Stays : (place : Scan → ℕ) → codeStep.Step → (before after : List ℕ) → Type 0
-Stays place step.Outside before after = after ≡ before
-Stays place (step.On s) before after = take (place s) after ≡ take (place s) before
+abbrev pub Stays : (place : Scan → ℕ) → codeOption.Option Scan → (before after : List ℕ) → Type 0
+Stays place None before after = after ≡ before
+Stays place (Some s) before after = take (place s) after ≡ take (place s) before
 
 -- The same of the words at a byte, which may end a number and be outside the grammar there: then they are free.
-abbrev pub WordsStay : codeStep.Step → (before after : List ℕ) → Type 0
-WordsStay step.Outside before after = Room before after
-WordsStay (step.On s) before after = take s.at after ≡ take s.at before
+abbrev pub WordsStay : codeOption.Option Scan → (before after : List ℕ) → Type 0
+WordsStay None before after = Room before after
+WordsStay (Some s) before after = take s.at after ≡ take s.at before
 
 -- Each byte of a line adds at most one word or one count; one place more, so that every step may ask for room for one further word.
 abbrev pub room_most : ℕ
@@ -80,6 +78,6 @@ pub record Parses (line stack out : List ℕ) : Type 0 where
   pub out_full : length out ≡ room_most
 
 -- The words are the end of the array from a position on.
-abbrev pub parsed_of : codeParsed.Parsed → (out : List ℕ) → Option (List ℕ)
-parsed_of parsed.Outside out = none
-parsed_of (parsed.From at) out = some (drop at out)
+abbrev pub parsed_of : codeOption.Option ℕ → (out : List ℕ) → Option (List ℕ)
+parsed_of None out = none
+parsed_of (Some at) out = some (drop at out)

@@ -5,10 +5,11 @@
 ghost use Rattle.std.specs.Prelude.{◌≡◌, List, ◌++◌, ℕ, ◌≤◌, ◌<◌, ◌-◌, length, take, drop};
 ghost use Rattle.words.specs.Room.{Room};
 ghost use Rattle.notation.specs.Grammar.{space, opening, closing, backslash, line_most};
-ghost use Rattle.notation.specs.Reader.{digit_byte, apply, is_index, lambda, opens, on_begun, settle, on_digit, on_close, step, sign, line_words};
+ghost use Rattle.notation.specs.Reader.{apply, is_index, lambda, opens, on_begun, settle, on_digit, on_close, step, sign, line_words};
 ghost use Rattle.parser.specs.Scan.{state_of, stepped_of, begun_by, begun_of, parsed_of, power_most, room_most, Within, StepWithin, Ahead, Settled, Stays, WordsStay, Parses};
 
 use words::Word;
+use words::kind::Kind;
 
 // The bytes of the notation beside the digits.
 const SPACE: u8 = b' ';
@@ -27,7 +28,7 @@ pub const ROOM: usize = LINE_MOST + 1;
 
 // What is known behind a byte. The words read so far are those of `out` from `at` on; `stack` from `top` on has the spaces of the terms around this one,
 // which has `count`. One more digit in front is worth `power`: 0 where an item starts, 1 where one has to end, and more within a number, whose value so far
-// is `value`.
+// is `value`. The three states are told by the number, since the worth is what a digit needs, and 0 and 1 are no worth within a number.
 #[derive(Clone, Copy)]
 pub struct Scan {
     pub at: usize,
@@ -37,154 +38,117 @@ pub struct Scan {
     pub power: u32,
 }
 
-// What a byte leads to: outside the grammar, or on.
-#[derive(Clone, Copy)]
-pub enum Step {
-    Outside,
-    On(Scan),
-}
-
-// What a line comes to: outside the grammar, or the words from a position on.
-#[derive(Clone, Copy)]
-pub enum Parsed {
-    Outside,
-    From(usize),
-}
-
-fn is_digit(b: u8) -> bool
-    ensures { result ≡ digit_byte b }
-{
-    if b < b'0' {
-        return false;
-    }
-    b <= b'9'
-}
-
 // Whether digits of this value are an index, where one more digit would be worth `power`.
+#[tactic(auto, unfolding(notation::specs::Reader::is_index))]
 fn is_index(value: u32, power: u32) -> bool
     requires { value ≤ power_most }
     ensures { result ≡ is_index value power }
 {
-    if value > Word::INDEX_MOST {
-        return false;
-    }
-    if power <= value * 10 {
-        return true;
-    }
-    power == 10
+    value <= Word::INDEX_MOST && (power <= value * 10 || power == 10)
 }
 
-// Puts so many applications in front of the words from `at` on, and returns where they start. A word without a payload is its kind.
+// Puts so many applications in front of the words from `at` on, and returns where they start.
 fn put_applications(out: &mut [u32], at: usize, count: usize) -> usize
     requires { (count ≤ at) × (at ≤ length out.old) }
     ensures { (result ≡ at - count) × (out.new ≡ take result out.old ++ apply count (drop at out.old)) }
 {
-    let mut i = at;
-    let mut left = count;
-    while left > 0 {
-        i -= 1;
-        left -= 1;
-        out[i] = Word::APPLICATION;
-    }
-    i
+    let start = at - count;
+    out[start..at].fill(Word::new(Kind::Application, 0).0);
+    start
 }
 
 // A digit in front.
-fn on_digit(s: Scan, d: u32) -> Step
+#[tactic(auto, unfolding(notation::specs::Reader::on_digit))]
+fn on_digit(s: Scan, d: u32) -> Option<Scan>
     requires { (d ≤ 9) × (s.value ≤ s.power) × (s.power ≤ power_most) × (s.power ≡ 1 → s.value ≡ 0) }
     ensures { ((D R : ℕ) → Within D R s → StepWithin D R result) × ((stack out : List ℕ) → stepped_of result stack out ≡ on_digit d (state_of s stack out)) }
 {
-    if s.power == 0 {
-        return Step::Outside;
-    }
     // A sixth digit: no index has one.
-    if s.power > Word::INDEX_MOST {
-        return Step::Outside;
+    if s.power == 0 || s.power > Word::INDEX_MOST {
+        return None;
     }
-    Step::On(Scan {
-        at: s.at,
-        top: s.top,
-        count: s.count,
+    Some(Scan {
         value: d * s.power + s.value,
         power: s.power * 10,
+        ..s
     })
 }
 
 // A closing parenthesis in front.
-fn on_closing(s: Scan, stack: &mut [usize]) -> Step
+#[tactic(auto, unfolding(notation::specs::Reader::on_close))]
+fn on_closing(s: Scan, stack: &mut [usize]) -> Option<Scan>
     requires { (0 < s.top) × (s.top ≤ length stack.old) }
     ensures steps { ((R : ℕ) → Within (length stack.old) R s → StepWithin (length stack.old) R result) × ((out : List ℕ) → stepped_of result stack.new out ≡ on_close (state_of s stack.old out)) }
     ensures stays { Stays (λ t. t.top) result stack.old stack.new }
 {
     if s.power != 1 {
-        return Step::Outside;
+        return None;
     }
     let top = s.top - 1;
     stack[top] = s.count;
-    Step::On(Scan {
-        at: s.at,
+    Some(Scan {
         top,
         count: 0,
         value: 0,
         power: 1,
+        ..s
     })
 }
 
 // An item has to start here: a number ends.
-fn settle(s: Scan, out: &mut [u32]) -> Step
+#[tactic(auto, unfolding(notation::specs::Reader::settle))]
+fn settle(s: Scan, out: &mut [u32]) -> Option<Scan>
     requires { (0 < s.at) × (s.at ≤ length out.old) × (s.value ≤ power_most) }
     ensures settled { Settled (length out.old) s result × ((stack : List ℕ) → begun_of result stack out.new ≡ settle (state_of s stack out.old)) }
     ensures stays { Stays (λ t. t.at) result out.old out.new }
 {
     if s.power == 0 {
-        return Step::On(s);
+        return Some(s);
     }
-    if s.power == 1 {
-        return Step::Outside;
-    }
-    if !is_index(s.value, s.power) {
-        return Step::Outside;
+    if s.power == 1 || !is_index(s.value, s.power) {
+        return None;
     }
     let at = s.at - 1;
-    out[at] = Word::new(Word::VARIABLE, s.value).0;
-    Step::On(Scan {
+    out[at] = Word::new(Kind::Variable, s.value).0;
+    Some(Scan {
         at,
-        top: s.top,
-        count: s.count,
         value: 0,
         power: 0,
+        ..s
     })
 }
 
 // A backslash in front of an item: the term that starts there is whole, and the body of an abstraction.
-fn on_backslash(s: Scan, out: &mut [u32]) -> Step
+#[tactic(auto, unfolding(notation::specs::Reader::on_begun))]
+fn on_backslash(s: Scan, out: &mut [u32]) -> Option<Scan>
     requires { (s.count < s.at) × (s.at ≤ length out.old) }
     ensures steps { ((D : ℕ) → s.top ≤ D → StepWithin D s.at result) × ((stack : List ℕ) → stepped_of result stack out.new ≡ on_begun lambda (begun_by s stack out.old)) }
     ensures stays { Stays (λ t. t.at) result out.old out.new }
 {
     let at = put_applications(out, s.at, s.count) - 1;
-    out[at] = Word::ABSTRACTION;
-    Step::On(Scan {
+    out[at] = Word::new(Kind::Abstraction, 0).0;
+    Some(Scan {
         at,
-        top: s.top,
         count: 0,
         value: 0,
         power: 0,
+        ..s
     })
 }
 
 // An opening parenthesis in front of an item: the term that starts there is whole, and an item of the term around, if there is one.
-fn on_opening(s: Scan, stack: &[usize], out: &mut [u32]) -> Step
+#[tactic(auto, unfolding(notation::specs::Reader::on_begun, notation::specs::Reader::popped))]
+fn on_opening(s: Scan, stack: &[usize], out: &mut [u32]) -> Option<Scan>
     requires { (s.count < s.at) × (s.at ≤ length out.old) × (s.top ≤ length stack.now) }
     ensures steps { StepWithin (length stack.now) s.at result × (stepped_of result stack.now out.new ≡ on_begun opens (begun_by s stack.now out.old)) }
     ensures stays { Stays (λ t. t.at) result out.old out.new }
 {
     let top = s.top;
     if top == stack.len() {
-        return Step::Outside;
+        return None;
     }
     let at = put_applications(out, s.at, s.count);
-    Step::On(Scan {
+    Some(Scan {
         at,
         top: top + 1,
         count: stack[top],
@@ -194,45 +158,43 @@ fn on_opening(s: Scan, stack: &[usize], out: &mut [u32]) -> Step
 }
 
 // A byte in front of an item.
-fn begin(b: u8, s: Scan, stack: &[usize], out: &mut [u32]) -> Step
+#[tactic(auto, unfolding(notation::specs::Reader::on_begun, notation::specs::Reader::sign))]
+fn begin(b: u8, s: Scan, stack: &[usize], out: &mut [u32]) -> Option<Scan>
     requires { (s.count < s.at) × (s.at ≤ length out.old) × (s.top ≤ length stack.now) }
     ensures steps { StepWithin (length stack.now) s.at result × (stepped_of result stack.now out.new ≡ on_begun (sign b) (begun_by s stack.now out.old)) }
     ensures stays { Stays (λ t. t.at) result out.old out.new }
 {
     match b {
-        SPACE => Step::On(Scan {
-            at: s.at,
-            top: s.top,
+        SPACE => Some(Scan {
             count: s.count + 1,
             value: 0,
             power: 1,
+            ..s
         }),
         BACKSLASH => on_backslash(s, out),
         OPENING => on_opening(s, stack, out),
-        _ => Step::Outside,
+        _ => None,
     }
 }
 
 // One byte in front of those that are read.
-fn on_byte(b: u8, s: Scan, stack: &mut [usize], out: &mut [u32]) -> Step
+#[tactic(auto, unfolding(notation::specs::Reader::step, notation::specs::Reader::sign))]
+fn on_byte(b: u8, s: Scan, stack: &mut [usize], out: &mut [u32]) -> Option<Scan>
     requires { Within (length stack.old) (length out.old) s × Ahead s }
     ensures steps { StepWithin (length stack.old) (length out.old) result × (stepped_of result stack.new out.new ≡ step (sign b) (state_of s stack.old out.old)) }
     ensures stays { Stays (λ t. t.top) result stack.old stack.new × WordsStay result out.old out.new }
 {
-    if is_digit(b) {
-        return on_digit(s, (b - b'0') as u32);
+    if b.is_ascii_digit() {
+        return on_digit(s, u32::from(b - b'0'));
     }
     if b == CLOSING {
         return on_closing(s, stack);
     }
-    match settle(s, out) {
-        Step::Outside => Step::Outside,
-        Step::On(p) => begin(b, p, stack, out),
-    }
+    begin(b, settle(s, out)?, stack, out)
 }
 
-// The words of the term of a line: they are `out` from the answered position on. What else the arrays hold then is free.
-pub fn parse(line: &[u8], stack: &mut [usize], out: &mut [u32]) -> Parsed
+// The words of the term of a line: they are `out` from the answered position on. Outside the grammar there is none. What else the arrays hold then is free.
+pub fn parse(line: &[u8], stack: &mut [usize], out: &mut [u32]) -> Option<usize>
     requires { Parses line.now stack.old out.old }
     ensures out_after { parsed_of result out.new ≡ line_words line.now }
     ensures room { Room stack.old stack.new × Room out.old out.new }
@@ -244,30 +206,14 @@ pub fn parse(line: &[u8], stack: &mut [usize], out: &mut [u32]) -> Parsed
         value: 0,
         power: 1,
     };
-    let mut i = line.len();
-    while i > 0 {
-        match on_byte(line[i - 1], s, stack, out) {
-            Step::Outside => {
-                return Parsed::Outside;
-            }
-            Step::On(r) => {
-                s = r;
-                i -= 1;
-            }
-        }
+    for b in line.iter().rev() {
+        s = on_byte(*b, s, stack, out)?;
     }
-    match settle(s, out) {
-        Step::Outside => Parsed::Outside,
-        Step::On(p) => {
-            let top = p.top;
-            let at = p.at;
-            let count = p.count;
-            if top != ROOM {
-                return Parsed::Outside;
-            }
-            Parsed::From(put_applications(out, at, count))
-        }
+    let start = settle(s, out)?;
+    if start.top != ROOM {
+        return None;
     }
+    Some(put_applications(out, start.at, start.count))
 }
 
 // Does nothing. Its contract says that each constant is the number that the definitions give its name.

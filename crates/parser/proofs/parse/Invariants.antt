@@ -1,8 +1,6 @@
+use lib.ListN.{length}
 use Rattle.parser.proofs.ParseLaws.{Parsing}
 use Rattle.parser.proofs.parse.Given as goal
 
-abbrev pub invariant-loop-i : goal.invariant-loop-i
-invariant-loop-i l = Parsing l.line l.i l.s l.stack l.out
-
-abbrev pub decreases-loop-i : goal.decreases-loop-i
-decreases-loop-i l = l.i
+abbrev pub invariant-loop-b : goal.invariant-loop-b
+invariant-loop-b l = Parsing l.line (length l.yielded) l.s l.stack l.out
