@@ -1,14 +1,14 @@
 -- A press as the code makes it: the refusals by their tests, and what is concluded from the words that the rounds leave.
 use Prim.Native.Nat.{ℕ, ◌+◌, ◌-◌, ◌≤◌}
 use mathlib.Core.Path.{◌≡◌, refl, sym, ◌∙◌, ap, ap₂}
-use mathlib.Core.Bool.{Bool, true, false, ◌&&◌, and-eq-true_iff, true≢false, false≢true}
+use mathlib.Core.Bool.{Bool, true, false, ◌&&◌, true≢false, false≢true}
 use mathlib.Core.List.{List, [], ◌∷◌, ◌++◌}
 use mathlib.Core.Option.{Option, some, none, get_or, Option-elim}
 use native.Mathlib.Nat.{le_trans}
 use native.Mathlib.Omega.{arith}
 use lib.Dec.{leb}
 use lib.ListN.{length, take, replicate, length-append}
-use borrow.Author.Tests.{le-leb, leb-true}
+use borrow.Author.Tests.{le-leb}
 use Rattle.calculus.specs.Term.{Term, var}
 use Rattle.calculus.specs.Words.{words, size, workspace_most}
 use Rattle.calculus.specs.Workspace.{sized, term_at, padded}
@@ -20,12 +20,9 @@ use Rattle.words.proofs.ClearLaws.{cleared_padded}
 use Rattle.redex.specs.Held.{held, Holds}
 use Rattle.rounds.specs.Run.{Ready, Ran}
 use Rattle.terms.specs.IsTerm.{is_term}
-use Rattle.claim.specs.State.{Session, budget_limit, total_limit, affordable}
+use Rattle.claim.specs.State.{Session, affordable}
 use Rattle.claim.specs.Answer.{shown, Memory, Call, Pressed}
 use Rattle.claim.specs.Press.{refuse, conclude, press_terms, press}
-
-take_zero_append : (xs ys : List ℕ) → take 0 xs ++ ys ≡ ys
-take_zero_append xs ys = refl
 
 -- What the rounds leave: each term fits its workspace, and with the words after the terms cleared it is what `conclude` says.
 module _ {C budget : ℕ} {o : Outcome} {a : Shown} {cs ws vs cs' : List ℕ} (h : Ran C budget o a cs ws vs cs') where
@@ -55,7 +52,7 @@ module _ {C budget : ℕ} {o : Outcome} {a : Shown} {cs ws vs cs' : List ℕ} (h
       let left : l ≡ padded C (words o.left) = el ∙ cleared_padded C ws h.left_others o.left a.left h.left_words left-length h.left-length in
       let right : r ≡ padded C (words o.right) = er ∙ cleared_padded C vs h.right_others o.right a.right h.right_words right-length h.right-length in
       let zeros : length cs' - 0 ≡ C = omega (arith, ap length h.scratch_room.left, h.scratch_room.length_stays) in
-      let scratch : c ≡ replicate C 0 = ec ∙ take_zero_append cs' (replicate (length cs' - 0) 0) ∙ ap (λ k. replicate k 0) zeros in
+      let scratch : c ≡ replicate C 0 = ec ∙ ap (λ k. replicate k 0) zeros in
       let a' = h.shown_is in
       record {
         answer = shown (a' i);
@@ -92,11 +89,6 @@ module _ (ws : List ℕ) (n : ℕ) (limit : length ws ≤ workspace_most) where
   pub is_held : is_term ws n ≡ true → Holds ws n
   unfolding is_term held
   is_held h = record { term = tells_some (leb n workspace_most) (term_at ws n) h; limit = limit }
-
--- What the test behind refusal 9 says.
-pub affords_total : (budget total : ℕ) → affordable budget total ≡ true → total + budget ≤ total_limit
-affords_total budget total e =
-    leb-true (total + budget) total_limit ((and-eq-true_iff (leb budget budget_limit) (leb (total + budget) total_limit)).0 e).1
 
 -- What the press on two terms asks, from the four tests.
 pub runs : (left right scratch : List ℕ) (l r : ℕ) → sized (length left ∷ length right ∷ length scratch ∷ []) ≡ true → is_term left l ≡ true

@@ -14,7 +14,8 @@ pub fn before(at: usize) -> usize
     at.saturating_sub(1)
 }
 
-// How many first words of both sides agree after a round, of which `agree` do before it, by what the sides do; the left one has `length` words.
+// How many first words of both sides agree after a round, of which `agree` do before it, by what the sides do; the left one has `length` words. Its
+// workspace is passed whole, since `Agreeing` and `Holds` speak of it with the length of its term.
 pub fn agreed(
     ws: &[u32],
     length: usize,

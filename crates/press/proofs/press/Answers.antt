@@ -1,6 +1,6 @@
 -- `press` meets its contract: each refusal by the tests that led to it, and the press on two terms otherwise.
 use Rattle.std.proofs.Common.{sym, ◌∙◌}
-use Rattle.press.proofs.PressCode.{affords_total, runs, refused_workspace, refused_budget, refused_left, refused_right, pressed_terms}
+use Rattle.press.proofs.PressCode.{runs, refused_workspace, refused_budget, refused_left, refused_right, pressed_terms}
 use Rattle.press.proofs.press.Goals as goal
 
 pub returns-then-not-sized : goal.returns-then-not-sized
@@ -23,11 +23,9 @@ returns-then-not-is_term-2 c =
     (sym (refused_right _ _ (sym c.sized.ensures ∙ c.if-not-sized.false) (sym c.budget_passes.ensures ∙ c.if-not-budget_passes.false)
     (sym c.is_term.ensures ∙ c.if-not-is_term.false) (sym c.is_term-2.ensures ∙ c.if-not-is_term-2.true)))
 
-pub press_terms-requires : goal.press_terms-requires
-press_terms-requires c = record {
-  ready = runs _ _ _ _ _ (sym c.sized.ensures ∙ c.if-not-sized.false) (sym c.is_term.ensures ∙ c.if-not-is_term.false) (sym c.is_term-2.ensures ∙ c.if-not-is_term-2.false);
-  budget_bound = affords_total _ _ (sym c.budget_passes.ensures ∙ c.if-not-budget_passes.false);
-}
+pub press_terms-requires-clause-ready : goal.press_terms-requires-clause-ready
+press_terms-requires-clause-ready c =
+    runs _ _ _ _ _ (sym c.sized.ensures ∙ c.if-not-sized.false) (sym c.is_term.ensures ∙ c.if-not-is_term.false) (sym c.is_term-2.ensures ∙ c.if-not-is_term-2.false)
 
 pub returns : goal.returns
 returns c =
