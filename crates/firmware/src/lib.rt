@@ -17,14 +17,13 @@ ghost use Rattle.encoding.specs.Export.{export};
 ghost use Rattle.firmware.specs.Numbers.{session_words, answer_words};
 ghost use Rattle.firmware.specs.Calls.{count_seen, brought_seen, written_seen, exported_seen, press_seen, part_seen};
 
-use press::answer::Answer;
 use press::state::Session;
 use press::{show, shows_right};
 use rounds::Shown;
-use session::press_owned;
-use words::result::Result;
+use session::press;
+use words::refusal::Refusal;
 
-// What a call returns that is not refused, and the numbers of the sides.
+// What a call returns that is not refused, and the sides: numbers, as C reads them.
 const UNREFUSED: u32 = 0;
 
 const LEFT: u32 = 0;
@@ -37,12 +36,12 @@ const SESSION_SIZE: usize = 4;
 const ANSWER_SIZE: usize = 5;
 
 // Stores what a call returned; a refusal leaves the count.
-fn store(answer: Result, count: &mut usize) -> u32
+fn store(answer: Result<usize, Refusal>, count: &mut usize) -> u32
     ensures { (result, count.new) ≡ count_seen count.old (result_of answer) }
 {
     match answer {
-        Result::Refused(refusal) => refusal.number(),
-        Result::Returned(returned) => {
+        Err(why) => why.number(),
+        Ok(returned) => {
             *count = returned;
             UNREFUSED
         }
@@ -99,16 +98,16 @@ pub extern "C" fn fetsguin_export(
     store(binary::export(workspace, length, encoding), bits)
 }
 
+// No `From`: the types are not this crate's, and only lengths within a workspace fit a word.
 fn session_words(session: Session) -> [u32; SESSION_SIZE]
     requires { (session.left ≤ workspace_most) × (session.right ≤ workspace_most) }
     ensures { result ≡ session_words (session_of session) }
 {
-    let verdict = session.verdict;
     [
         session.total,
         session.left as u32,
         session.right as u32,
-        verdict.number(),
+        session.verdict.number(),
     ]
 }
 
@@ -116,9 +115,8 @@ fn answer_words(shown: Shown) -> [u32; ANSWER_SIZE]
     requires { (shown.left ≤ workspace_most) × ((shown.right ≤ workspace_most) × (shown.position ≤ workspace_most)) }
     ensures { result ≡ answer_words (shown_of shown) }
 {
-    let verdict = shown.verdict;
     [
-        verdict.number(),
+        shown.verdict.number(),
         shown.spent,
         shown.left as u32,
         shown.right as u32,
@@ -148,22 +146,21 @@ pub extern "C" fn fetsguin_press(
         ≡ press_seen session.old answer.old left.old right.old (call_of scratch.old left_length right_length budget) }
 {
     // Of a session a press reads only the total.
-    let mut begun = Session::fresh();
-    begun.total = session[0];
-    let pressed = press_owned(
+    let mut renewed = Session {
+        total: session[0],
+        ..Session::fresh()
+    };
+    match press(
         left,
         right,
         scratch,
         left_length,
         right_length,
         budget,
-        begun,
-    );
-    let given = pressed.answer;
-    match given {
-        Answer::Refused(refusal) => refusal.number(),
-        Answer::Shown(shown) => {
-            let renewed = pressed.session;
+        &mut renewed,
+    ) {
+        Err(refusal) => refusal.number(),
+        Ok(shown) => {
             *session = session_words(renewed);
             *answer = answer_words(shown);
             UNREFUSED
