@@ -65,11 +65,11 @@ const LIBRARY: [u32; Word::LIBRARY_WORDS] = [
     8, 2, 8, 2, 8, 2, 8, 2, 8, 2, 8, 2, 8, 2, 8, 2, 8, 2, 8, 2, 8, 2, 8, 2, 8, 2, 8, 2, 8, 2, 8, 0,
 ];
 
-// The table. Every entry is closed and a whole term by the word rules: its numeral.
-fn library() -> &'static [u32; Word::LIBRARY_WORDS]
-    ensures { Entries result.now }
+// The table by value. Every entry is closed and a whole term by the word rules: its numeral.
+fn library() -> [u32; Word::LIBRARY_WORDS]
+    ensures { Entries result }
 {
-    &LIBRARY
+    LIBRARY
 }
 
 // The number of words of numeral n.
@@ -86,5 +86,6 @@ pub fn put(n: u32, dst: &mut [u32], out: usize) -> usize
     ensures { Placed dst.old out (words (numeral n)) dst.new result }
 {
     let from = (n * (n + 2)) as usize;
-    copy(library(), from, from + entry_length(n), dst, out)
+    let table = library();
+    copy(&table, from, from + entry_length(n), dst, out)
 }
