@@ -13,10 +13,10 @@ use records::Form;
 use words::Word;
 use words::slices::fill;
 
-// Beyond every line. A number like every other place, since the definitions go on reading from it.
+// Beyond every line. A number like every other place: it is the definitions' `nowhere`, which they read on from.
 const NOWHERE: usize = usize::MAX;
 
-// A line, and where it is read on.
+// A line, and where it is read on: nowhere once what was wanted did not come next.
 #[derive(Clone, Copy)]
 pub struct Reader<'a> {
     pub line: &'a [u8],
@@ -58,6 +58,7 @@ impl<'a> Reader<'a> {
         self.at = NOWHERE;
     }
 
+    // Behind the space that stands here, if one does.
     fn past_space(&self) -> usize
         requires { self.now.at ≤ length self.now.line.now }
         ensures { (result ≡ past_space self.now.line.now self.now.at) × (result ≤ length self.now.line.now) }
@@ -102,6 +103,7 @@ impl<'a> Reader<'a> {
         true
     }
 
+    // The number that comes next, and where reading goes on behind it.
     fn number_ahead(&self) -> Option<(u32, usize)>
         ensures { number_of result ≡ number_at self.now.line.now self.now.at }
     {
@@ -162,8 +164,8 @@ impl<'a> Reader<'a> {
         }
     }
 
-    #[tactic(auto, unfolding(crate::specs::Lists::with_more))]
     // Puts an item more behind the first `count` words, where it fits. Returns how many there are now.
+    #[tactic(auto, unfolding(crate::specs::Lists::with_more))]
     fn more(&mut self, count: usize, into: &mut [u32]) -> usize
         ensures listed { listed_of into.new result self.new.at ≡ with_more self.old.line.now (listed_of into.old count self.old.at) }
         ensures line { self.new.line ≡ self.old.line }
@@ -177,8 +179,8 @@ impl<'a> Reader<'a> {
         count + times
     }
 
-    #[tactic(auto, unfolding(crate::specs::Lists::list_at))]
     // Items with commas between them, into the start of a lent part; `-` for no words. Returns how many words it has.
+    #[tactic(auto, unfolding(crate::specs::Lists::list_at))]
     pub fn list(&mut self, into: &mut [u32]) -> usize
         ensures words { into.new ≡ (list_at self.old.line.now self.old.at into.old).words }
         ensures count { result ≡ (list_at self.old.line.now self.old.at into.old).count }
@@ -197,6 +199,7 @@ impl<'a> Reader<'a> {
         count
     }
 
+    // Words beside the list that comes next and then a tail of equal words.
     #[tactic(auto, unfolding(crate::specs::Lists::compared_at))]
     pub fn compare(&mut self, words: &[u32], tail: u32) -> Compared
         ensures equal { result.equal ≡ (compared_at self.old.line.now self.old.at words.now tail).equal }

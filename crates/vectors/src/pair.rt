@@ -53,7 +53,7 @@ pub struct Given {
     pub scratch: usize,
 }
 
-// What lies in both workspaces and the scratch beside what should: whether it is that, and the lengths of the terms.
+// What lies in both workspaces and the scratch beside what should: whether it is that, and the lengths of the terms, which count where it is not, too.
 #[derive(Clone, Copy)]
 pub struct Lent {
     pub equal: bool,

@@ -16,6 +16,7 @@ pub struct Tally {
     pub passed: usize,
 }
 
+// A chain of tests: a table of keywords with functions would need a contract that each of its function pointers meets.
 #[tactic(auto, unfolding(crate::specs::Vector::passes))]
 fn passes(line: &[u8]) -> bool
     ensures { result ≡ passes line.now }
