@@ -52,7 +52,8 @@ fn press_terms(
 }
 
 // A press: refusals 7, 9, 10 on the left and 10 on the right, in this order, which change nothing; otherwise the rounds. Words beyond the given
-// lengths don't matter, and of the session only the total is read. What is lent is passed piece by piece, as C has it.
+// lengths don't matter, and of the session only the total is read. What is lent is passed piece by piece, as C has it. A refusal hands the
+// session back too, so it is no `Err` for `?`.
 pub fn press(
     left: &mut [u32],
     right: &mut [u32],

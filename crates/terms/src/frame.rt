@@ -11,7 +11,7 @@ use words::kind::Kind;
 use words::payload::payload_fits;
 
 // So many terms, then so many branches whose tags rise, the first one at least `least`, all under so many binders: four numbers in one word, the terms
-// lowest.
+// lowest, since so many frames wait on the machine stack.
 #[derive(Clone, Copy, Default)]
 pub struct Frame(pub u32);
 

@@ -23,7 +23,8 @@ pub struct Reader<'a> {
     pub at: usize,
 }
 
-// Lent words beside the list that comes next: whether they are the list's and then a tail of equal words, and how many the list has.
+// Lent words beside the list that comes next: whether they are the list's and then a tail of equal words, and how many the list has,
+// which counts where they are not, too.
 #[derive(Clone, Copy)]
 pub struct Compared {
     pub equal: bool,

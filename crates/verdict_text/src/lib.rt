@@ -18,6 +18,7 @@ const VERDICT_MOST: usize = 9;
 // The most bytes of a line: a verdict, four numbers behind a space, and the newline.
 pub const PRINTED_MOST: usize = VERDICT_MOST + 4 * (1 + DIGITS_MOST) + 1;
 
+// Three cases, so neither an Option nor a Result.
 #[derive(Clone, Copy)]
 pub enum Line {
     Input,

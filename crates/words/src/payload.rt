@@ -6,7 +6,7 @@ use crate::Word;
 use crate::kind::Kind;
 use crate::pattern::{is_pattern, is_tagged};
 
-// Where the kind is a constant, the compiler leaves the test of that kind alone.
+// The kind is a number, as a record has it, which may be no kind's. Where it is a constant, the compiler leaves the test of that kind alone.
 #[tactic(auto, unfolding(calculus::specs::Payload::payload_fits))]
 pub fn payload_fits(kind: u32, payload: u32) -> bool
     ensures { result ≡ payload_fits kind payload }

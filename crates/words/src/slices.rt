@@ -1,4 +1,4 @@
-// Parts of slices filled and copied.
+// Parts of slices filled and copied. There is no heap, and C lends slices of numbers, so what is put has a position and stands in no vector.
 ghost use Rattle.std.specs.Prelude.{◌≡◌, ◌≤◌, ◌-◌, length, replicate, set};
 ghost use Rattle.std.proofs.lemmas.List.Edits.{sets};
 ghost use Rattle.std.proofs.Math.Seq.{slice};

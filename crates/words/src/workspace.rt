@@ -10,7 +10,8 @@ use crate::refusal::Refusal;
 use crate::slices::copy;
 use crate::{Word, clear};
 
-// Whether workspaces and scratch of these lengths pass refusal 7. A call that is lent fewer than three names the first again.
+// Whether workspaces and scratch of these lengths pass refusal 7. A call that is lent fewer than three names the first again, so these are
+// three numbers and no list.
 pub fn sized(first: usize, second: usize, third: usize) -> bool
     ensures { result ≡ sized (first ∷ second ∷ third ∷ []) }
 {
