@@ -3,10 +3,11 @@ use Prim.Native.Nat.{ℕ, suc, ◌+◌, ◌-◌, ◌≤◌, ◌<◌}
 use mathlib.Core.Path.{◌≡◌, refl, sym, ◌∙◌, ap}
 use mathlib.Core.List.{List, [], ◌∷◌, ◌++◌}
 use native.Mathlib.Nat.{add-zero}
-use native.Mathlib.Numerals.{add-one}
 use native.Mathlib.Omega.{arith}
 use lib.ListN.{length, get_or, set, take, drop, take-append-drop}
-use lib.Seq.{sets, sets-eq, slice, length-slice, length-take-le, slice-cons, set_comm, get_or-drop, get_or-take, drop-append-le, drop-drop, drop-set-lt, take-set-le, take-suc, take-take}
+use lib.Seq.{sets, sets-eq, slice, length-slice, length-take-le, slice-cons, set_comm, get_or-drop, get_or-take, drop-append-le, drop-set-lt, take-set-le, take-take}
+use Rattle.std.proofs.lemmas.List.{take_more}
+use Rattle.std.proofs.lemmas.Grind.{drop_more_same}
 use Rattle.words.specs.Placed.{Copies}
 use Rattle.words.proofs.PlacedLaws.{sets-append, taken_less}
 
@@ -15,12 +16,9 @@ kept_word ws now i e =
     ap (λ k. get_or now k 0) (sym (add-zero i)) ∙ sym (get_or-drop i now 0 0) ∙ ap (λ l. get_or l 0 0) e ∙ get_or-drop i ws 0 0
     ∙ ap (λ k. get_or ws k 0) (add-zero i)
 
-dropped_more : (ws now : List ℕ) (i : ℕ) → drop i now ≡ drop i ws → drop (suc i) now ≡ drop (suc i) ws
-dropped_more ws now i e = rw (← add-one i) (sym (drop-drop 1 i now) ∙ ap (drop 1) e ∙ drop-drop 1 i ws)
-
 -- One word more of those from a position on.
-slice_more : (f t : ℕ) (l : List ℕ) → f ≤ t → t < length l → slice f (suc t) l ≡ slice f t l ++ get_or l t 0 ∷ []
-slice_more f t l h k = ap (drop f) (take-suc l t 0 k) ∙ drop-append-le f (take t l) (get_or l t 0 ∷ []) (omega (arith, length-take-le t l (omega arith)))
+slice_more : (f t : ℕ) (l : List ℕ) → f ≤ t → t < length l → slice f (t + 1) l ≡ slice f t l ++ get_or l t 0 ∷ []
+slice_more f t l h k = ap (drop f) (take_more l t 0 k) ∙ drop-append-le f (take t l) (get_or l t 0 ∷ []) (omega (arith, length-take-le t l (omega arith)))
 
 -- Down: the first words stand where they come, and from the next of them on the slice is still as it was.
 pub record Lowering (ws : List ℕ) (from to out : ℕ) (now : List ℕ) (i : ℕ) : Type 0 where
@@ -35,7 +33,7 @@ lowering_turn {ws} {from} {out = out} {now} {i} v l =
     let w = get_or ws (from + i) 0 in
     let first = slice from (from + i) ws in
     let long : length first ≡ i = omega (arith, length-slice from (from + i) ws (omega (arith, v.copies.within))) in
-    let next : from + (i + 1) ≡ suc (from + i) = omega arith in
+    let next : from + (i + 1) ≡ from + i + 1 = omega arith in
     rw (kept_word ws now (from + i) v.kept)
     (record {
       copies = v.copies;
@@ -46,7 +44,7 @@ lowering_turn {ws} {from} {out = out} {now} {i} v l =
           ∙ sym (sets-append first (w ∷ []) ws out)
           ∙ ap (sets ws out) (sym (slice_more from (from + i) ws (omega arith) (omega (arith, v.copies.within))))
           ∙ ap (λ k. sets ws out (slice from k ws)) (sym next);
-      kept = rw next (drop-set-lt (suc (from + i)) now (out + i) w (omega (arith, v.below)) ∙ dropped_more ws now (from + i) v.kept);
+      kept = rw next (drop-set-lt (from + i + 1) now (out + i) w (omega (arith, v.below)) ∙ drop_more_same now ws (from + i) v.kept);
     })
 
 -- Up: the last words stand where they come, and before the first of them the slice is still as it was.
