@@ -1,4 +1,5 @@
-// Text put into lent bytes, each time from a position on; what is returned is the position after it.
+// Text put into lent bytes, each time from a position on; what is returned is the position after it. By no `Display`: what `fmt` writes to
+// is no lent slice, and a String would want a heap.
 ghost use Rattle.std.specs.Prelude.{◌≡◌, [], ◌∷◌, ◌≤◌, ◌+◌, length};
 ghost use Rattle.words.specs.Placed.{Placed};
 ghost use Rattle.text.specs.Decimal.{digits_most, decimal, field, newline};
