@@ -1,6 +1,6 @@
 -- The loop of line_words.
 use Prim.Native.Nat.{ℕ, zero, suc, ◌+◌, ◌-◌, ◌≤◌, ◌<◌}
-use mathlib.Core.Path.{◌≡◌, refl, ◌∙◌}
+use mathlib.Core.Path.{◌≡◌, ◌∙◌}
 use mathlib.Core.List.{List, [], ◌∷◌, reverse}
 use mathlib.Core.Option.{some, none, bind}
 use native.Mathlib.Omega.{arith}
@@ -8,16 +8,18 @@ use lib.ListN.{length, drop, get_or, length-drop, drop_of_length-le}
 use lib.Seq.{drop-cons}
 use Rattle.std.proofs.lemmas.List.{get_or-reverse, get_or_default}
 use Rattle.calculus.proofs.All.{all_some}
+use Rattle.parser.specs.declared.Place as codePlace
+use Rattle.parser.specs.declared.Place.TheVariants as place
 use Rattle.parser.specs.declared.Scan.{Scan}
 use Rattle.notation.specs.Reader.{sign, apply, State, Begun, settle, step, scan, finish, line_words}
 use Rattle.notation.specs.Grammar.{line_most}
-use Rattle.parser.specs.Scan.{at_power, state_of, room_most, Within, Ahead, Parses}
+use Rattle.parser.specs.Scan.{state_at, state_of, room_most, Within, Ahead, Parses}
 use Rattle.notation.proofs.Bounded.{tally, load, scan-load}
 
-load_at : (p v n : ℕ) (ns ws : List ℕ) → n + tally ns + length ws ≤ load (at_power p v n ns ws)
-load_at zero v n ns ws = omega arith
-load_at (suc zero) v n ns ws = omega arith
-load_at (suc (suc p)) v n ns ws = omega arith
+load_at : (p : codePlace.Place) (n : ℕ) (ns ws : List ℕ) → n + tally ns + length ws ≤ load (state_at p n ns ws)
+load_at place.Wanted n ns ws = omega arith
+load_at (place.Number v p) n ns ws = omega arith
+load_at place.Begun n ns ws = omega arith
 
 tally_length : (ns : List ℕ) → length ns ≤ tally ns
 tally_length [] = omega arith
@@ -39,7 +41,7 @@ module _ {line : List ℕ} {k : ℕ} {s : Scan} {stack out : List ℕ} (v : Pars
       omega (
         arith,
         h,
-        load_at s.power s.value s.count (drop s.top stack) (drop s.at out),
+        load_at s.place s.count (drop s.top stack) (drop s.at out),
         tally_length (drop s.top stack),
         length-drop s.top stack,
         length-drop s.at out,
@@ -59,7 +61,7 @@ module _ {line : List ℕ} {k : ℕ} {s : Scan} {stack out : List ℕ} (v : Pars
       }
 
 pub parsing_starts : (line stack out : List ℕ) → Parses line stack out
-    → Parsing line 0 (record { at = room_most; top = room_most; count = 0; value = 0; power = 1 }) stack out
+    → Parsing line 0 (record { at = room_most; top = room_most; count = 0; place = place.Wanted }) stack out
 unfolding scan
 parsing_starts line stack out p =
     let none_left : length line ≤ length line - 0 = omega arith in
@@ -69,7 +71,7 @@ parsing_starts line stack out p =
       stack_full = p.stack_full;
       out_full = p.out_full;
       short = p.short;
-      within = record { at = omega arith; top = omega arith; value = omega arith; power = omega arith; wanted = λ e. refl };
+      within = record { at = omega arith; top = omega arith; place = tt };
       scanned = rw (drop_of_length-le line none_left, drop_of_length-le stack none_open, drop_of_length-le out no_word);
     }
 

@@ -28,4 +28,4 @@ words_stay D at before between after (Some t) w e l s = s ∙ taken_less between
 
 pub within_more : (D R R' : ℕ) (r : codeOption.Option Scan) → R ≤ R' → StepWithin D R r → StepWithin D R' r
 within_more D R R' None h w = tt
-within_more D R R' (Some s) h w = record { at = omega (arith, w.at); top = w.top; value = w.value; power = w.power; wanted = w.wanted }
+within_more D R R' (Some s) h w = record { at = omega (arith, w.at); top = w.top; place = w.place }

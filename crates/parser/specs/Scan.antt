@@ -6,17 +6,19 @@ use Rattle.calculus.specs.Accepted.{index_limit}
 use Rattle.words.specs.Room.{Room}
 use Rattle.notation.specs.Grammar.{line_most}
 use Rattle.notation.specs.Reader.{State, wanted, number, begun, Begun, begins}
+use Rattle.parser.specs.declared.Place as codePlace
+use Rattle.parser.specs.declared.Place.TheVariants as place
 use Rattle.parser.specs.declared.Scan.{Scan}
 
--- The state by the worth of one more digit: 0 where an item starts, 1 where one has to end, more within a number.
-abbrev pub at_power : (power value count : ℕ) (stack words : List ℕ) → State
-at_power zero v n ns ws = begun n ns ws
-at_power (suc zero) v n ns ws = wanted n ns ws
-at_power (suc (suc p)) v n ns ws = number v (suc (suc p)) n ns ws
+-- The state by what may stand in front.
+abbrev pub state_at : codePlace.Place → (count : ℕ) (stack words : List ℕ) → State
+state_at place.Wanted n ns ws = wanted n ns ws
+state_at (place.Number v p) n ns ws = number v p n ns ws
+state_at place.Begun n ns ws = begun n ns ws
 
 -- The counts of the terms around are the end of one array, the words the end of another.
 abbrev pub state_of : Scan → (stack out : List ℕ) → State
-state_of s stack out = at_power s.power s.value s.count (drop s.top stack) (drop s.at out)
+state_of s stack out = state_at s.place s.count (drop s.top stack) (drop s.at out)
 
 -- What a byte leads to: none outside the grammar.
 abbrev pub stepped_of : codeOption.Option Scan → (stack out : List ℕ) → Option State
@@ -35,13 +37,17 @@ begun_of (Some s) stack out = some (begun_by s stack out)
 abbrev pub power_most : ℕ
 power_most = index_limit * 10
 
+-- A number is no more than its worth.
+abbrev pub Fitting : codePlace.Place → Type 0
+Fitting place.Wanted = Unit {0}
+Fitting (place.Number v p) = (v ≤ p) × (p ≤ power_most)
+Fitting place.Begun = Unit {0}
+
 -- The places are within arrays of D and R elements, and a number fits.
 pub record Within (D R : ℕ) (s : Scan) : Type 0 where
   pub at : s.at ≤ R
   pub top : s.top ≤ D
-  pub value : s.value ≤ s.power
-  pub power : s.power ≤ power_most
-  pub wanted : s.power ≡ 1 → s.value ≡ 0
+  pub place : Fitting s.place
 
 -- There is room for what one further byte can add.
 pub record Ahead (s : Scan) : Type 0 where

@@ -6,7 +6,7 @@ ghost use Rattle.std.specs.Prelude.{◌≡◌, List, ◌++◌, ℕ, ◌≤◌, �
 ghost use Rattle.words.specs.Room.{Room};
 ghost use Rattle.notation.specs.Grammar.{space, opening, closing, backslash, line_most};
 ghost use Rattle.notation.specs.Reader.{apply, is_index, lambda, opens, on_begun, settle, on_digit, on_close, step, sign, line_words};
-ghost use Rattle.parser.specs.Scan.{state_of, stepped_of, begun_by, begun_of, parsed_of, power_most, room_most, Within, StepWithin, Ahead, Settled, Stays, WordsStay, Parses};
+ghost use Rattle.parser.specs.Scan.{state_of, stepped_of, begun_by, begun_of, parsed_of, room_most, Fitting, Within, StepWithin, Ahead, Settled, Stays, WordsStay, Parses};
 
 use words::Word;
 use words::kind::Kind;
@@ -26,25 +26,33 @@ pub const LINE_MOST: usize = 1024;
 // Each byte of a line adds at most one word or one count; one place more, so that every step may ask for room for one further word.
 pub const ROOM: usize = LINE_MOST + 1;
 
+// What is known of an item at a place between two bytes.
+#[derive(Clone, Copy)]
+pub enum Place {
+    // One has to end here.
+    Wanted,
+    // A number goes on: its value so far, and the worth of one more digit in front.
+    Number { value: u32, worth: u32 },
+    // One starts here.
+    Begun,
+}
+
 // What is known behind a byte. The words read so far are those of `out` from `at` on; `stack` from `top` on has the spaces of the terms around this one,
-// which has `count`. One more digit in front is worth `power`: 0 where an item starts, 1 where one has to end, and more within a number, whose value so far
-// is `value`. The three states are told by the number, since the worth is what a digit needs, and 0 and 1 are no worth within a number.
+// which has `count`.
 #[derive(Clone, Copy)]
 pub struct Scan {
     pub at: usize,
     pub top: usize,
     pub count: usize,
-    pub value: u32,
-    pub power: u32,
+    pub place: Place,
 }
 
-// Whether digits of this value are an index, where one more digit would be worth `power`.
+// Whether digits of this value are an index, where one more digit has this worth.
 #[tactic(auto, unfolding(notation::specs::Reader::is_index))]
-fn is_index(value: u32, power: u32) -> bool
-    requires { value ≤ power_most }
-    ensures { result ≡ is_index value power }
+fn is_index(value: u32, worth: u32) -> bool
+    ensures { result ≡ is_index value worth }
 {
-    value <= Word::INDEX_MOST && (power <= value * 10 || power == 10)
+    value <= Word::INDEX_MOST && (worth <= value * 10 || worth == 10)
 }
 
 // Puts so many applications in front of the words from `at` on, and returns where they start.
@@ -60,18 +68,22 @@ fn put_applications(out: &mut [u32], at: usize, count: usize) -> usize
 // A digit in front.
 #[tactic(auto, unfolding(notation::specs::Reader::on_digit))]
 fn on_digit(s: Scan, d: u32) -> Option<Scan>
-    requires { (d ≤ 9) × (s.value ≤ s.power) × (s.power ≤ power_most) × (s.power ≡ 1 → s.value ≡ 0) }
+    requires { (d ≤ 9) × Fitting s.place }
     ensures { ((D R : ℕ) → Within D R s → StepWithin D R result) × ((stack out : List ℕ) → stepped_of result stack out ≡ on_digit d (state_of s stack out)) }
 {
-    // A sixth digit: no index has one.
-    if s.power == 0 || s.power > Word::INDEX_MOST {
-        return None;
-    }
-    Some(Scan {
-        value: d * s.power + s.value,
-        power: s.power * 10,
-        ..s
-    })
+    let place = match s.place {
+        Place::Wanted => Place::Number {
+            value: d,
+            worth: 10,
+        },
+        // Above this worth it is a sixth digit: no index has one.
+        Place::Number { value, worth } if worth <= Word::INDEX_MOST => Place::Number {
+            value: d * worth + value,
+            worth: worth * 10,
+        },
+        _ => return None,
+    };
+    Some(Scan { place, ..s })
 }
 
 // A closing parenthesis in front.
@@ -81,41 +93,34 @@ fn on_closing(s: Scan, stack: &mut [usize]) -> Option<Scan>
     ensures steps { ((R : ℕ) → Within (length stack.old) R s → StepWithin (length stack.old) R result) × ((out : List ℕ) → stepped_of result stack.new out ≡ on_close (state_of s stack.old out)) }
     ensures stays { Stays (λ t. t.top) result stack.old stack.new }
 {
-    if s.power != 1 {
+    let Place::Wanted = s.place else {
         return None;
-    }
+    };
     let top = s.top - 1;
     stack[top] = s.count;
-    Some(Scan {
-        top,
-        count: 0,
-        value: 0,
-        power: 1,
-        ..s
-    })
+    Some(Scan { top, count: 0, ..s })
 }
 
 // An item has to start here: a number ends.
 #[tactic(auto, unfolding(notation::specs::Reader::settle))]
 fn settle(s: Scan, out: &mut [u32]) -> Option<Scan>
-    requires { (0 < s.at) × (s.at ≤ length out.old) × (s.value ≤ power_most) }
+    requires { (0 < s.at) × (s.at ≤ length out.old) × Fitting s.place }
     ensures settled { Settled (length out.old) s result × ((stack : List ℕ) → begun_of result stack out.new ≡ settle (state_of s stack out.old)) }
     ensures stays { Stays (λ t. t.at) result out.old out.new }
 {
-    if s.power == 0 {
-        return Some(s);
+    match s.place {
+        Place::Begun => Some(s),
+        Place::Number { value, worth } if is_index(value, worth) => {
+            let at = s.at - 1;
+            out[at] = Word::new(Kind::Variable, value).0;
+            Some(Scan {
+                at,
+                place: Place::Begun,
+                ..s
+            })
+        }
+        _ => None,
     }
-    if s.power == 1 || !is_index(s.value, s.power) {
-        return None;
-    }
-    let at = s.at - 1;
-    out[at] = Word::new(Kind::Variable, s.value).0;
-    Some(Scan {
-        at,
-        value: 0,
-        power: 0,
-        ..s
-    })
 }
 
 // A backslash in front of an item: the term that starts there is whole, and the body of an abstraction.
@@ -130,8 +135,7 @@ fn on_backslash(s: Scan, out: &mut [u32]) -> Option<Scan>
     Some(Scan {
         at,
         count: 0,
-        value: 0,
-        power: 0,
+        place: Place::Begun,
         ..s
     })
 }
@@ -152,8 +156,7 @@ fn on_opening(s: Scan, stack: &[usize], out: &mut [u32]) -> Option<Scan>
         at,
         top: top + 1,
         count: stack[top],
-        value: 0,
-        power: 0,
+        place: Place::Begun,
     })
 }
 
@@ -167,8 +170,7 @@ fn begin(b: u8, s: Scan, stack: &[usize], out: &mut [u32]) -> Option<Scan>
     match b {
         SPACE => Some(Scan {
             count: s.count + 1,
-            value: 0,
-            power: 1,
+            place: Place::Wanted,
             ..s
         }),
         BACKSLASH => on_backslash(s, out),
@@ -204,8 +206,7 @@ pub fn parse(line: &[u8], stack: &mut [usize], out: &mut [u32]) -> Option<usize>
         at: ROOM,
         top: ROOM,
         count: 0,
-        value: 0,
-        power: 1,
+        place: Place::Wanted,
     };
     for b in line.iter().rev() {
         s = on_byte(*b, s, stack, out)?;

@@ -63,7 +63,7 @@ whole c = scan_all c.args.line.now _ (ended c) c.loop-b.invariant.scanned
 pub settle-requires : goal.settle-requires
 settle-requires c =
     let v = c.loop-b.invariant in
-    (omega (arith, parsing_count v), omega (arith, v.out_full, v.within), omega (arith, v.within))
+    (omega (arith, parsing_count v), omega (arith, v.out_full, v.within), v.within.place)
 
 pub returns-in_err-start-clause-out_after : goal.returns-in_err-start-clause-out_after
 returns-in_err-start-clause-out_after c =
