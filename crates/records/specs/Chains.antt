@@ -9,9 +9,9 @@ use Rattle.storage.specs.Records.{Record}
 use Rattle.storage.specs.Children.{chain_from}
 
 abbrev pub left : Chain → List Record
-left s = chain_from (viewed s.form s.table.now) s.link
+left s = chain_from (viewed s.table) s.link
 
 -- The first record that is left, whose next leads on in the same table.
 abbrev pub Passes : Chain → Option codeRecord.Record → Chain → Type 0
 Passes s o t =
-    YieldsFirstBy record_of left s o t × (t.table ≡ s.table) × (t.form ≡ s.form) × IfSome o (λ r. Walkable (stored s.form s.table.now) r.next)
+    YieldsFirstBy record_of left s o t × (t.table ≡ s.table) × IfSome o (λ r. Walkable (stored s.table) r.next)

@@ -1,21 +1,25 @@
--- What the code's types stand for: a form, how many children a record declares, and a record.
+-- What the code's types stand for: a form, a table, how many children a record declares, and a record.
 use Rattle.std.specs.Prelude.{ℕ, List, Some, None}
 use Rattle.std.specs.Prelude as code_option
 use Rattle.std.proofs.Math.Option.{Option, some, none}
 use Rattle.records.specs.declared.Form as codeForm
 use Rattle.records.specs.declared.Form.TheVariants as form
 use Rattle.records.specs.declared.Record as codeRecord
+use Rattle.records.specs.declared.Table as codeTable
 use Rattle.storage.specs.Records.{Record, Table, Form, Stored, view, form1}
 
 abbrev pub form_of : codeForm.Form → Form
 form_of form.One = form1
 
--- Words in a form.
-abbrev pub stored : codeForm.Form → List ℕ → Stored
-stored f ws = record { form = form_of f; words = ws }
+-- Words in a form, and a table's.
+abbrev pub in_form : codeForm.Form → List ℕ → Stored
+in_form f ws = record { form = form_of f; words = ws }
 
-abbrev pub viewed : codeForm.Form → List ℕ → Table
-viewed f ws = view (stored f ws)
+abbrev pub stored : codeTable.Table → Stored
+stored t = in_form t.form t.words.now
+
+abbrev pub viewed : codeTable.Table → Table
+viewed t = view (stored t)
 
 abbrev pub declared_of : code_option.Option ℕ → Option ℕ
 declared_of None = none

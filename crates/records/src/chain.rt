@@ -4,20 +4,19 @@ ghost use Rattle.records.specs.Chains.{Passes, left};
 ghost use Rattle.records.specs.Types.{stored};
 ghost use Rattle.std.specs.Iterator.{item_count};
 
-use crate::{Form, Record};
+use crate::{Record, Table};
 
 // What is left of a chain, from a link on.
 #[derive(Drop)]
 pub struct Chain<'a> {
-    pub table: &'a [u32],
-    pub form: Form,
+    pub table: Table<'a>,
     pub link: usize,
 }
 
 impl<'a> Iterator for Chain<'a> {
     type Item = Record;
 
-    ghost can_next = { λ s. Walkable (stored s.form s.table.now) s.link };
+    ghost can_next = { λ s. Walkable (stored s.table) s.link };
 
     ghost next_gives = { Passes };
 
@@ -27,7 +26,7 @@ impl<'a> Iterator for Chain<'a> {
         if self.link == 0 {
             return None;
         }
-        let record = Record::at(self.table, self.form, self.link);
+        let record = self.table.at(self.link);
         self.link = record.next;
         Some(record)
     }

@@ -4,60 +4,61 @@ ghost use Rattle.records.specs.Types.{declared_of, record_of, stored, viewed};
 ghost use Rattle.storage.specs.Children.{starts_above, may_stand, chain_fits, sorts_fit, agrees, record_fits, wrong_children, chain_from};
 ghost use Rattle.records.specs.Preconditions.{Walkable};
 
-use crate::chain::Chain;
 use crate::values::number_fits;
-use crate::{Form, Record, indices, root};
+use crate::{Record, Table};
 use words::kind::Kind;
 
 // How many records a chain has.
-pub fn chain_length(table: &[u32], form: Form, link: usize) -> usize
-    requires { Walkable (stored form table.now) link }
-    ensures { result ≡ length (chain_from (viewed form table.now) link) }
+pub fn chain_length(table: &Table, link: usize) -> usize
+    requires { Walkable (stored table.now) link }
+    ensures { result ≡ length (chain_from (viewed table.now) link) }
 {
-    Chain { table, form, link }.count()
+    table.chain(link).count()
 }
 
 // Whether a chain has no records or starts with a tag above this one.
-fn starts_above(table: &[u32], form: Form, tag: u32, link: usize) -> bool
-    requires { Walkable (stored form table.now) link }
-    ensures { result ≡ starts_above tag (chain_from (viewed form table.now) link) }
+fn starts_above(table: &Table, tag: u32, link: usize) -> bool
+    requires { Walkable (stored table.now) link }
+    ensures { result ≡ starts_above tag (chain_from (viewed table.now) link) }
 {
-    link == 0 || tag < Record::at(table, form, link).tag()
+    link == 0 || tag < table.at(link).tag()
 }
 
 // Whether a record may stand in a chain of terms, or of branches.
-fn may_stand(table: &[u32], form: Form, child: Record, branches: bool) -> bool
-    requires { Walkable (stored form table.now) child.next }
-    ensures { result ≡ may_stand branches (record_of child) (chain_from (viewed form table.now) child.next) }
+fn may_stand(table: &Table, child: Record, branches: bool) -> bool
+    requires { Walkable (stored table.now) child.next }
+    ensures { result ≡ may_stand branches (record_of child) (chain_from (viewed table.now) child.next) }
 {
     if branches {
-        child.is_branch() && starts_above(table, form, child.tag(), child.next)
+        child.is_branch() && starts_above(table, child.tag(), child.next)
     } else {
         !child.is_branch()
     }
 }
 
 // Whether a chain is one of terms, or of branches with rising tags.
-fn chain_fits(table: &[u32], form: Form, link: usize, branches: bool) -> bool
-    requires { Walkable (stored form table.now) link }
-    ensures { result ≡ chain_fits branches (chain_from (viewed form table.now) link) }
+fn chain_fits(table: &Table, link: usize, branches: bool) -> bool
+    requires { Walkable (stored table.now) link }
+    ensures { result ≡ chain_fits branches (chain_from (viewed table.now) link) }
 {
-    Chain { table, form, link }.all(|child| may_stand(table, form, child, branches))
+    table
+        .chain(link)
+        .all(|child| may_stand(table, child, branches))
 }
 
 // Whether the chain of children of a record of this kind has terms and branches where they belong.
-fn sorts_fit(table: &[u32], form: Form, kind: u32, link: usize) -> bool
-    requires { Walkable (stored form table.now) link }
-    ensures { result ≡ sorts_fit kind (chain_from (viewed form table.now) link) }
+fn sorts_fit(table: &Table, kind: u32, link: usize) -> bool
+    requires { Walkable (stored table.now) link }
+    ensures { result ≡ sorts_fit kind (chain_from (viewed table.now) link) }
 {
     if kind != Kind::Case as u32 {
-        return chain_fits(table, form, link, false);
+        return chain_fits(table, link, false);
     }
     if link == 0 {
         return true;
     }
-    let subject = Record::at(table, form, link);
-    !subject.is_branch() && chain_fits(table, form, subject.next, true)
+    let subject = table.at(link);
+    !subject.is_branch() && chain_fits(table, subject.next, true)
 }
 
 // Whether a declared number of children, if there is one, is their number.
@@ -68,24 +69,24 @@ fn agrees(declared: Option<usize>, number: usize) -> bool
 }
 
 // Whether record i has the children that it declares and that its kind wants.
-pub fn record_fits(table: &[u32], form: Form, i: usize) -> bool
-    requires { Walkable (stored form table.now) i × (1 ≤ i) }
-    ensures { result ≡ record_fits (viewed form table.now) i }
+pub fn record_fits(table: &Table, i: usize) -> bool
+    requires { Walkable (stored table.now) i × (1 ≤ i) }
+    ensures { result ≡ record_fits (viewed table.now) i }
 {
-    let record = Record::at(table, form, i);
-    let number = chain_length(table, form, record.first);
+    let record = table.at(i);
+    let number = chain_length(table, record.first);
     agrees(record.declared, number)
         && number_fits(record.kind, number)
-        && sorts_fit(table, form, record.kind, record.first)
+        && sorts_fit(table, record.kind, record.first)
 }
 
-pub fn wrong_children(table: &[u32], form: Form) -> bool
-    requires { Walkable (stored form table.now) (viewed form table.now).root × (1 ≤ (viewed form table.now).root) }
-    ensures { result ≡ wrong_children (viewed form table.now) }
+pub fn wrong_children(table: &Table) -> bool
+    requires { Walkable (stored table.now) (viewed table.now).root × (1 ≤ (viewed table.now).root) }
+    ensures { result ≡ wrong_children (viewed table.now) }
 {
-    if !indices(table).all(|i| record_fits(table, form, i)) {
+    if !table.indices().all(|i| record_fits(table, i)) {
         return true;
     }
-    let top = Record::at(table, form, root(table));
+    let top = table.at(table.root());
     top.is_branch() || top.next != 0
 }

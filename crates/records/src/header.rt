@@ -3,23 +3,23 @@ ghost use Rattle.std.specs.Prelude.{◌≡◌, false};
 ghost use Rattle.records.specs.Types.{stored};
 ghost use Rattle.storage.specs.Header.{wrong_length, wrong_header};
 
-use crate::{Form, count, root};
+use crate::Table;
 use words::Word;
 
-pub fn wrong_length(table: &[u32], form: Form) -> bool
-    ensures { result ≡ wrong_length (stored form table.now) }
+pub fn wrong_length(table: &Table) -> bool
+    ensures { result ≡ wrong_length (stored table.now) }
 {
-    let words = form.words();
-    if table.len() < words {
+    let words = table.form.words();
+    if table.words.len() < words {
         return true;
     }
-    let n = count(table);
-    n < 1 || Word::WORKSPACE_MOST < n || table.len() != words * (n + 1)
+    let n = table.count();
+    n < 1 || Word::WORKSPACE_MOST < n || table.words.len() != words * (n + 1)
 }
 
-pub fn wrong_header(table: &[u32], form: Form) -> bool
-    requires { wrong_length (stored form table.now) ≡ false }
-    ensures { result ≡ wrong_header (stored form table.now) }
+pub fn wrong_header(table: &Table) -> bool
+    requires { wrong_length (stored table.now) ≡ false }
+    ensures { result ≡ wrong_header (stored table.now) }
 {
-    !form.header_fits(table) || root(table) < 1 || count(table) < root(table)
+    !table.form.header_fits(table.words) || table.root() < 1 || table.count() < table.root()
 }

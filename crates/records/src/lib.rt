@@ -5,10 +5,11 @@ ghost use Rattle.std.specs.Prelude.{◌≡◌, ◌+◌, ◌*◌, ◌^◌, ◌<�
 ghost use Rattle.std.proofs.lemmas.List.Edits.{sets};
 ghost use Rattle.calculus.specs.Words.{tag_of};
 ghost use Rattle.storage.specs.Children.{is_branch};
-ghost use Rattle.storage.specs.Records.{header_count, header_root, record_at, form1, in_form1};
+ghost use Rattle.storage.specs.Records.{record_at, form1, in_form1};
 ghost use Rattle.records.specs.Preconditions.{Inside, Puttable};
-ghost use Rattle.records.specs.Types.{form_of, stored, record_of};
+ghost use Rattle.records.specs.Types.{form_of, in_form, stored, viewed, record_of};
 
+use chain::Chain;
 use std::ops::Range;
 use words::Word;
 use words::kind::Kind;
@@ -43,7 +44,7 @@ impl Form {
 
     // Whether the header is one of this form, n and the root's index aside.
     pub fn header_fits(self, table: &[u32]) -> bool
-        requires { Inside (stored self table.now) 0 }
+        requires { Inside (in_form self table.now) 0 }
         ensures { result ≡ (form_of self).header_fits table.now }
     {
         match self {
@@ -53,11 +54,63 @@ impl Form {
 
     // Puts the header of a table of n records.
     pub fn put_header(self, table: &mut [u32], n: usize, root: usize)
-        requires { Inside (stored self table.old) 0 × (n < 2 ^ 32) × (root < 2 ^ 32) }
+        requires { Inside (in_form self table.old) 0 × (n < 2 ^ 32) × (root < 2 ^ 32) }
         ensures { table.new ≡ sets table.old 0 ((form_of self).header_words n root) }
     {
         match self {
             Form::One => put_header_one(table, n as u32, root as u32),
+        }
+    }
+}
+
+// A table as the code holds it: its words, in a form.
+#[derive(Clone, Copy)]
+pub struct Table<'a> {
+    pub words: &'a [u32],
+    pub form: Form,
+}
+
+impl<'a> Table<'a> {
+    // How many records the header says that the table has, and where it says that the root is.
+    pub fn count(&self) -> usize
+        requires { 2 < length self.now.words.now }
+        ensures told { result ≡ (viewed self.now).n }
+        ensures fits { result < 2 ^ 32 }
+    {
+        index_at(self.words, 1)
+    }
+
+    pub fn root(&self) -> usize
+        requires { 2 < length self.now.words.now }
+        ensures { result ≡ (viewed self.now).root }
+    {
+        index_at(self.words, 2)
+    }
+
+    // The indices of the records.
+    fn indices(&self) -> Range<usize>
+        requires { 2 < length self.now.words.now }
+        ensures from { result.start ≡ 1 }
+        ensures to { result.end ≡ (viewed self.now).n + 1 }
+    {
+        1..self.count() + 1
+    }
+
+    // The records of a chain, from a link on.
+    fn chain(&self, link: usize) -> Chain<'a>
+        ensures table { result.table ≡ self.now }
+        ensures link { result.link ≡ link }
+    {
+        Chain { table: *self, link }
+    }
+
+    // The record at an index.
+    pub fn at(&self, i: usize) -> Record
+        requires { Inside (stored self.now) i }
+        ensures { record_of result ≡ record_at (stored self.now) i }
+    {
+        match self.form {
+            Form::One => Record::at_one(self.words, i),
         }
     }
 }
@@ -73,16 +126,6 @@ pub struct Record {
 }
 
 impl Record {
-    // The record at an index.
-    pub fn at(table: &[u32], form: Form, i: usize) -> Self
-        requires { Inside (stored form table.now) i }
-        ensures { record_of result ≡ record_at (stored form table.now) i }
-    {
-        match form {
-            Form::One => Record::at_one(table, i),
-        }
-    }
-
     fn at_one(table: &[u32], i: usize) -> Self
         requires { Inside (in_form1 table.now) i }
         ensures { record_of result ≡ record_at (in_form1 table.now) i }
@@ -99,7 +142,7 @@ impl Record {
 
     // Puts the record at an index.
     pub fn put(self, table: &mut [u32], form: Form, i: usize)
-        requires { Inside (stored form table.old) i × Puttable (record_of self) }
+        requires { Inside (in_form form table.old) i × Puttable (record_of self) }
         ensures { table.new ≡ sets table.old ((form_of form).record_words * i) ((form_of form).record_as (record_of self)) }
     {
         match form {
@@ -147,33 +190,10 @@ fn put_header_one(table: &mut [u32], n: u32, root: u32)
 // The word at a position, as an index or a number of records.
 fn index_at(table: &[u32], at: usize) -> usize
     requires { at < length table.now }
-    ensures { result ≡ get_or table.now at 0 }
+    ensures told { result ≡ get_or table.now at 0 }
+    ensures fits { result < 2 ^ 32 }
 {
     table[at] as usize
-}
-
-// How many records the header says that the table has, and where it says that the root is.
-pub fn count(table: &[u32]) -> usize
-    requires { 2 < length table.now }
-    ensures { result ≡ header_count table.now }
-{
-    index_at(table, 1)
-}
-
-pub fn root(table: &[u32]) -> usize
-    requires { 2 < length table.now }
-    ensures { result ≡ header_root table.now }
-{
-    index_at(table, 2)
-}
-
-// The indices of the records.
-fn indices(table: &[u32]) -> Range<usize>
-    requires { 2 < length table.now }
-    ensures from { result.start ≡ 1 }
-    ensures to { result.end ≡ header_count table.now + 1 }
-{
-    1..count(table) + 1
 }
 
 // Does nothing. Its contract says that each constant is the number that the definitions give its name.

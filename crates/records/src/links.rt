@@ -8,7 +8,7 @@ ghost use Rattle.storage.specs.Links.{link_fits, links_fit, namings, wrong_link}
 ghost use Rattle.records.specs.Counting.{more, counted, room_most, Countable};
 ghost use Rattle.records.specs.Types.{stored, viewed};
 
-use crate::{Form, Record, count, indices, root};
+use crate::Table;
 use words::Word;
 
 // Room for a count for each index that a link may be, or for the words of a term.
@@ -22,12 +22,12 @@ fn link_fits(n: usize, i: usize, link: usize) -> bool
 }
 
 // Whether both links of record i fit.
-pub fn links_fit(table: &[u32], form: Form, i: usize) -> bool
-    requires { Inside (stored form table.now) i }
-    ensures { result ≡ links_fit (viewed form table.now) i }
+pub fn links_fit(table: &Table, i: usize) -> bool
+    requires { Inside (stored table.now) i }
+    ensures { result ≡ links_fit (viewed table.now) i }
 {
-    let n = count(table);
-    let record = Record::at(table, form, i);
+    let n = table.count();
+    let record = table.at(i);
     link_fits(n, i, record.first) && link_fits(n, i, record.next)
 }
 
@@ -40,12 +40,12 @@ fn count_link(counts: &mut [u32], link: usize)
 }
 
 // Counts the links of every record.
-fn count_links(table: &[u32], form: Form, counts: &mut [u32])
-    requires { Countable (stored form table.now) counts.old }
-    ensures { counts.new ≡ counted (viewed form table.now) (viewed form table.now).n counts.old }
+fn count_links(table: &Table, counts: &mut [u32])
+    requires { Countable (stored table.now) counts.old }
+    ensures { counts.new ≡ counted (viewed table.now) (viewed table.now).n counts.old }
 {
-    for i in 1..=count(table) {
-        let record = Record::at(table, form, i);
+    for i in 1..=table.count() {
+        let record = table.at(i);
         count_link(counts, record.first);
         count_link(counts, record.next);
     }
@@ -60,23 +60,23 @@ fn all_once(counts: &[u32], n: usize) -> bool
 }
 
 // Whether every record is named by exactly one link. The ends of chains are counted at 0.
-fn named_once(table: &[u32], form: Form, counts: &mut [u32]) -> bool
-    requires linked { (wrong_length (stored form table.now) ≡ false) × (wrong_header (stored form table.now) ≡ false) × (everyOf (viewed form table.now).n (links_fit (viewed form table.now)) ≡ true) }
+fn named_once(table: &Table, counts: &mut [u32]) -> bool
+    requires linked { (wrong_length (stored table.now) ≡ false) × (wrong_header (stored table.now) ≡ false) × (everyOf (viewed table.now).n (links_fit (viewed table.now)) ≡ true) }
     requires zeros { counts.old ≡ replicate room_most 0 }
-    ensures { (result ≡ everyOf (viewed form table.now).n (λ i. eqb (namings (viewed form table.now) i) 1)) × Room counts.old counts.new }
+    ensures { (result ≡ everyOf (viewed table.now).n (λ i. eqb (namings (viewed table.now) i) 1)) × Room counts.old counts.new }
 {
-    count_link(counts, root(table));
-    count_links(table, form, counts);
-    all_once(counts, count(table))
+    count_link(counts, table.root());
+    count_links(table, counts);
+    all_once(counts, table.count())
 }
 
 // The links are counted in a room that is lent with zeros.
-pub fn wrong_links(table: &[u32], form: Form, room: &mut [u32]) -> bool
-    requires headed { (wrong_length (stored form table.now) ≡ false) × (wrong_header (stored form table.now) ≡ false) }
+pub fn wrong_links(table: &Table, room: &mut [u32]) -> bool
+    requires headed { (wrong_length (stored table.now) ≡ false) × (wrong_header (stored table.now) ≡ false) }
     requires zeros { room.old ≡ replicate room_most 0 }
-    ensures { (result ≡ wrong_link (viewed form table.now)) × Room room.old room.new }
+    ensures { (result ≡ wrong_link (viewed table.now)) × Room room.old room.new }
 {
-    !indices(table).all(|i| links_fit(table, form, i)) || !named_once(table, form, room)
+    !table.indices().all(|i| links_fit(table, i)) || !named_once(table, room)
 }
 
 // Does nothing. Its contract says that the constant is the number that the definitions give its name.

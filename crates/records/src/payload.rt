@@ -30,6 +30,7 @@ fn payload(kind: u32, value: u32, children: usize) -> u32
     }
 }
 
+// The kind is a number here and stays one: a `Kind` made of it would be turned back, at each record that is read.
 pub fn word(kind: u32, value: u32, children: usize) -> Word
     requires { Wordable kind value children }
     ensures { result.0 ≡ word kind (payload kind value children) }

@@ -5,7 +5,7 @@ ghost use Rattle.records.specs.Types.{declared_of, stored, viewed};
 ghost use Rattle.storage.specs.Header.{wrong_length};
 ghost use Rattle.storage.specs.Values.{value_fits, numberFits, declared_fits, valued, wrong_value};
 
-use crate::{Form, Record, indices};
+use crate::Table;
 use words::Word;
 use words::kind::Kind;
 use words::pattern::is_tag;
@@ -43,17 +43,17 @@ fn declared_fits(kind: u32, declared: Option<usize>) -> bool
 }
 
 // Whether record i has a kind, a value that fits it, and declares a number of children that fits it, if it does.
-pub fn value_fits(table: &[u32], form: Form, i: usize) -> bool
-    requires { Inside (stored form table.now) i }
-    ensures { result ≡ valued ((viewed form table.now).at i) }
+pub fn value_fits(table: &Table, i: usize) -> bool
+    requires { Inside (stored table.now) i }
+    ensures { result ≡ valued ((viewed table.now).at i) }
 {
-    let record = Record::at(table, form, i);
+    let record = table.at(i);
     kind_fits(record.kind, record.value) && declared_fits(record.kind, record.declared)
 }
 
-pub fn wrong_values(table: &[u32], form: Form) -> bool
-    requires { wrong_length (stored form table.now) ≡ false }
-    ensures { result ≡ wrong_value (viewed form table.now) }
+pub fn wrong_values(table: &Table) -> bool
+    requires { wrong_length (stored table.now) ≡ false }
+    ensures { result ≡ wrong_value (viewed table.now) }
 {
-    !indices(table).all(|i| value_fits(table, form, i))
+    !table.indices().all(|i| value_fits(table, i))
 }

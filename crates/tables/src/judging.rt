@@ -11,57 +11,57 @@ ghost use Rattle.storage.specs.FreeNumbers.{wrong_free};
 ghost use Rattle.storage.specs.Load.{record_checks, table_checks};
 ghost use Rattle.tables.specs.Judging.{Judged};
 
+use records::Table;
 use records::children::wrong_children;
 use records::header::{wrong_header, wrong_length};
 use records::links::wrong_links;
 use records::values::wrong_values;
-use records::{Form, count, root};
 use terms::is_term;
 use transcription::reading::{Words, read_term};
 use words::refusal::Refusal;
 
 // The refusal that is met first, 8 by the most words that there is room for; or the number of words of the term, which stand at the start of the room then.
-pub fn judge(table: &[u32], form: Form, most: usize, room: &mut Words) -> Result<usize, Refusal>
+pub fn judge(table: &Table, most: usize, room: &mut Words) -> Result<usize, Refusal>
     requires { room.old ≡ replicate room_most 0 }
-    ensures { Judged (viewed form table.now) (table_checks (stored form table.now) most) room.old (result_of result) room.new }
+    ensures { Judged (viewed table.now) (table_checks (stored table.now) most) room.old (result_of result) room.new }
 {
-    if wrong_length(table, form) {
+    if wrong_length(table) {
         return Err(Refusal::WrongLength);
     }
-    if wrong_header(table, form) {
+    if wrong_header(table) {
         return Err(Refusal::WrongHeader);
     }
-    if most < count(table) {
+    if most < table.count() {
         return Err(Refusal::TooLong);
     }
-    judge_records(table, form, room)
+    judge_records(table, room)
 }
 
 // The same of the refusals that are about the records.
-fn judge_records(table: &[u32], form: Form, room: &mut Words) -> Result<usize, Refusal>
-    requires headed { (wrong_length (stored form table.now) ≡ false) × (wrong_header (stored form table.now) ≡ false) }
+fn judge_records(table: &Table, room: &mut Words) -> Result<usize, Refusal>
+    requires headed { (wrong_length (stored table.now) ≡ false) × (wrong_header (stored table.now) ≡ false) }
     requires zeros { room.old ≡ replicate room_most 0 }
-    ensures { Judged (viewed form table.now) (record_checks (viewed form table.now)) room.old (result_of result) room.new }
+    ensures { Judged (viewed table.now) (record_checks (viewed table.now)) room.old (result_of result) room.new }
 {
-    if wrong_values(table, form) {
+    if wrong_values(table) {
         return Err(Refusal::WrongValue);
     }
-    if wrong_links(table, form, room) {
+    if wrong_links(table, room) {
         return Err(Refusal::WrongLink);
     }
-    if wrong_children(table, form) {
+    if wrong_children(table) {
         return Err(Refusal::WrongChildren);
     }
-    judge_free_numbers(table, form, room)
+    judge_free_numbers(table, room)
 }
 
 // The same of refusal 6. Everything else that is asked of a term holds by the refusals before, so the words are no accepted term only by a free number.
-fn judge_free_numbers(table: &[u32], form: Form, room: &mut Words) -> Result<usize, Refusal>
-    requires readable { Readable (stored form table.now) (viewed form table.now).root × (1 ≤ (viewed form table.now).root) }
+fn judge_free_numbers(table: &Table, room: &mut Words) -> Result<usize, Refusal>
+    requires readable { Readable (stored table.now) (viewed table.now).root × (1 ≤ (viewed table.now).root) }
     requires room { length room.old ≡ room_most }
-    ensures { Judged (viewed form table.now) ((WrongFree, wrong_free (viewed form table.now)) ∷ []) room.old (result_of result) room.new }
+    ensures { Judged (viewed table.now) ((WrongFree, wrong_free (viewed table.now)) ∷ []) room.old (result_of result) room.new }
 {
-    let end = read_term(table, form, root(table), room, 0);
+    let end = read_term(table, table.root(), room, 0);
     if !is_term(room, end) {
         return Err(Refusal::WrongFree);
     }

@@ -10,8 +10,8 @@ ghost use Rattle.storage.specs.Write.{write};
 ghost use Rattle.tables.specs.Types.{written_of};
 
 use judging::judge;
-use records::Form;
 use records::links::ROOM;
+use records::{Form, Table};
 use terms::is_term;
 use transcription::writing::put_table;
 use words::refusal::Refusal;
@@ -26,7 +26,11 @@ pub fn load(table: &[u32], workspace: &mut [u32]) -> Result<usize, Refusal>
         return Err(Refusal::WrongWorkspace);
     }
     let mut words = [0u32; ROOM];
-    let end = judge(table, Form::One, workspace.len(), &mut words)?;
+    let stored = Table {
+        words: table,
+        form: Form::One,
+    };
+    let end = judge(&stored, workspace.len(), &mut words)?;
     hold(&words, 0, end, workspace)
 }
 

@@ -5,10 +5,10 @@ ghost use Rattle.words.specs.Placed.{Placed};
 ghost use Rattle.records.specs.Types.{stored, viewed};
 ghost use Rattle.transcription.specs.Reading.{chain_words, term_words, Readable};
 
+use records::Table;
 use records::children::chain_length;
 use records::links::ROOM;
 use records::payload::word;
-use records::{Form, Record};
 
 // Room for the words of every term that a workspace holds, as much as the links are counted in. The readers are lent an array and no slice: a reference to an
 // array is one machine word, so each level of a table takes less machine stack.
@@ -16,28 +16,28 @@ pub type Words = [u32; ROOM];
 
 // Writes the words of record `at` with its children from position `out` on, and returns the position after them.
 #[cycle(readers)]
-pub fn read_term(table: &[u32], form: Form, at: usize, words: &mut Words, out: usize) -> usize
-    requires readable { Readable (stored form table.now) at × (1 ≤ at) }
-    requires room { out + length (term_words (viewed form table.now) at) ≤ workspace_most }
-    ensures { Placed words.old out (term_words (viewed form table.now) at) words.new result }
+pub fn read_term(table: &Table, at: usize, words: &mut Words, out: usize) -> usize
+    requires readable { Readable (stored table.now) at × (1 ≤ at) }
+    requires room { out + length (term_words (viewed table.now) at) ≤ workspace_most }
+    ensures { Placed words.old out (term_words (viewed table.now) at) words.new result }
 {
-    let record = Record::at(table, form, at);
+    let record = table.at(at);
     let first = record.first;
-    let children = chain_length(table, form, first);
+    let children = chain_length(table, first);
     words[out] = word(record.kind, record.value, children).0;
-    read_chain(table, form, first, words, out + 1)
+    read_chain(table, first, words, out + 1)
 }
 
 // The same of the chain from a link.
 #[cycle(readers)]
-fn read_chain(table: &[u32], form: Form, link: usize, words: &mut Words, out: usize) -> usize
-    requires readable { Readable (stored form table.now) link }
-    requires room { out + length (chain_words (viewed form table.now) link) ≤ workspace_most }
-    ensures { Placed words.old out (chain_words (viewed form table.now) link) words.new result }
+fn read_chain(table: &Table, link: usize, words: &mut Words, out: usize) -> usize
+    requires readable { Readable (stored table.now) link }
+    requires room { out + length (chain_words (viewed table.now) link) ≤ workspace_most }
+    ensures { Placed words.old out (chain_words (viewed table.now) link) words.new result }
 {
     if link == 0 {
         return out;
     }
-    let end = read_term(table, form, link, words, out);
-    read_chain(table, form, Record::at(table, form, link).next, words, end)
+    let end = read_term(table, link, words, out);
+    read_chain(table, table.at(link).next, words, end)
 }

@@ -11,6 +11,6 @@ all-requires-clause-callable c = nexts_callable _ (λ x q k. search rules) (λ x
 
 pub returns : goal.returns
 returns c =
-    let T = viewed c.args.form c.args.table.now in
-    all_from_yields_List (λ r. may_stand c.args.branches r (chain_from T r.next)) _ _ c.all.result c.all.ensures.ran (passed _) (λ x b q k. search rules)
-    ∙ all_stand (stored c.args.form c.args.table.now) c.args.branches c.args.link c.requires
+    let T = viewed c.args.table.now in
+    all_from_yields_List (λ r. may_stand c.args.branches r (chain_from T r.next)) _ _ c.all.result c.all.ensures.ran (passed c.chain.ensures.table c.chain.ensures.link) (λ x b q k. search rules)
+    ∙ all_stand (stored c.args.table.now) c.args.branches c.args.link c.requires

@@ -5,4 +5,4 @@ use mathlib.Core.Path.{◌≡◌}
 use Rattle.records.proofs.links.count_links.Given as goal
 
 abbrev pub invariant-loop-i : goal.invariant-loop-i
-invariant-loop-i l = (l.i - 1 ≤ l.i-end) × (l.counts ≡ counted (viewed l.form l.table) (l.i - 1) l.initial.counts)
+invariant-loop-i l = (l.i - 1 ≤ l.i-end) × (l.counts ≡ counted (viewed l.table) (l.i - 1) l.initial.counts)

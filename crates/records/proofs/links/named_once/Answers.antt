@@ -9,7 +9,7 @@ use Rattle.words.proofs.RoomLaws.{room_of_length}
 use Prim.Native.Nat.{ℕ}
 use mathlib.Core.Bool.{true, false}
 use mathlib.Core.List.{List}
-use Rattle.records.specs.declared.Form.{Form}
+use Rattle.records.specs.declared.Table.{Table}
 use Rattle.storage.specs.Header.{wrong_length, wrong_header}
 use Rattle.storage.specs.Records.{everyOf}
 use lib.Dec.{eqb}
@@ -21,33 +21,33 @@ pub root-requires : goal.root-requires
 root-requires c = headed _ c.requires.linked.0
 
 -- Counts that are all 0 can be counted on.
-start : (f : Form) (ws counts : List ℕ) (root : ℕ)
-    → (wrong_length (stored f ws) ≡ false) × (wrong_header (stored f ws) ≡ false) × (everyOf (viewed f ws).n (links_fit (viewed f ws)) ≡ true)
-    → counts ≡ replicate room_most 0 → root ≡ (viewed f ws).root → Begun (stored f ws) root counts
-start f ws counts root p q e = subst (Begun (stored f ws) root) (sym q) (begun _ root room_most p.0 p.1 p.2 e refl)
+start : (t : Table) (counts : List ℕ) (root : ℕ)
+    → (wrong_length (stored t) ≡ false) × (wrong_header (stored t) ≡ false) × (everyOf (viewed t).n (links_fit (viewed t)) ≡ true)
+    → counts ≡ replicate room_most 0 → root ≡ (viewed t).root → Begun (stored t) root counts
+start t counts root p q e = subst (Begun (stored t) root) (sym q) (begun _ root room_most p.0 p.1 p.2 e refl)
 
 pub count_link-requires : goal.count_link-requires
-count_link-requires c = (start _ _ _ _ c.requires.linked c.requires.zeros c.root.ensures).root_fits
+count_link-requires c = (start c.args.table.now _ _ c.requires.linked c.requires.zeros c.root.ensures).root_fits
 
 pub count_links-requires : goal.count_links-requires
-count_links-requires c = rw c.count_link.ensures (start _ _ _ _ c.requires.linked c.requires.zeros c.root.ensures).countable
+count_links-requires c = rw c.count_link.ensures (start c.args.table.now _ _ c.requires.linked c.requires.zeros c.root.ensures).countable
 
 pub count-requires : goal.count-requires
 count-requires c = headed _ c.requires.linked.0
 
 pub all_once-requires : goal.all_once-requires
 all_once-requires c =
-    let T = viewed c.args.form c.args.table.now in
-    rw c.count.ensures
-    ((start _ _ _ _ c.requires.linked c.requires.zeros c.root.ensures).room _ (c.count_links.ensures ∙ ap (counted T T.n) c.count_link.ensures))
+    let T = viewed c.args.table.now in
+    rw c.count.ensures.told
+    ((start c.args.table.now _ _ c.requires.linked c.requires.zeros c.root.ensures).room _ (c.count_links.ensures ∙ ap (counted T T.n) c.count_link.ensures))
 
 pub returns : goal.returns
 returns c =
-    let T = viewed c.args.form c.args.table.now in
+    let T = viewed c.args.table.now in
     let counts = c.args.counts.now in
-    let begins = start _ _ counts _ c.requires.linked c.requires.zeros c.root.ensures in
+    let begins = start c.args.table.now counts _ c.requires.linked c.requires.zeros c.root.ensures in
     let all : c.count_links.new.counts ≡ counted T T.n (more c.root.result counts) = c.count_links.ensures ∙ ap (counted T T.n) c.count_link.ensures in (
       c.all_once.ensures
-          ∙ rw c.count.ensures (every_eq T.n _ (λ i. eqb (namings T i) 1) (λ i l u. ap (λ k. eqb k 1) (begins.namings_are _ all i))),
+          ∙ rw c.count.ensures.told (every_eq T.n _ (λ i. eqb (namings T i) 1) (λ i l u. ap (λ k. eqb k 1) (begins.namings_are _ all i))),
       room_of_length (ap length all ∙ counted-length T T.n _ ∙ length-set counts _ _),
     )

@@ -19,4 +19,4 @@ all-requires-clause-callable c =
 pub returns : goal.returns
 unfolding wrong_value
 returns c =
-    ap not (every_called _ c.indices.ensures.from c.indices.ensures.to (λ i. valued ((viewed c.args.form c.args.table.now).at i)) _ _ c.all.result c.all.ensures.ran (λ x b q k. search rules))
+    ap not (every_called _ c.indices.ensures.from c.indices.ensures.to (λ i. valued ((viewed c.args.table.now).at i)) _ _ c.all.result c.all.ensures.ran (λ x b q k. search rules))

@@ -13,7 +13,7 @@ use mathlib.Core.Bool.{Bool, not}
 use mathlib.Core.List.{List}
 use lib.ListN.{length}
 use Rattle.records.specs.Counting.{room_most}
-use Rattle.records.specs.declared.Form.{Form}
+use Rattle.records.specs.declared.Table.{Table}
 use Rattle.terms.specs.IsTerm.{is_term}
 use mathlib.Core.Path.{◌≡◌, ap, sym, ◌∙◌}
 use native.Mathlib.Omega.{arith}
@@ -25,18 +25,18 @@ read_term-end-requires-clause-room c =
     rw c.root.ensures (omega (arith, root_short _ p.0 p.1))
 
 -- Where the words of the root's term stand, whether its free numbers are in range.
-free : (f : Form) (ws before after : List ℕ) (end : ℕ) {b : Bool} → Readable (stored f ws) (viewed f ws).root × (1 ≤ (viewed f ws).root)
-    → length before ≡ room_most → Placed before 0 (term_words (viewed f ws) (viewed f ws).root) after end → b ≡ is_term after end
-    → wrong_free (viewed f ws) ≡ not b
-free f ws before after end p room placed e =
-    free_in_words (stored f ws) p.0 p.1 before after end (omega (arith, room)) placed ∙ sym (ap not e)
+free : (t : Table) (before after : List ℕ) (end : ℕ) {b : Bool} → Readable (stored t) (viewed t).root × (1 ≤ (viewed t).root)
+    → length before ≡ room_most → Placed before 0 (term_words (viewed t) (viewed t).root) after end → b ≡ is_term after end
+    → wrong_free (viewed t) ≡ not b
+free t before after end p room placed e =
+    free_in_words (stored t) p.0 p.1 before after end (omega (arith, room)) placed ∙ sym (ap not e)
 
 pub returns-then-not-is_term : goal.returns-then-not-is_term
 returns-then-not-is_term c =
-    let T = viewed c.args.form c.args.table.now in
+    let T = viewed c.args.table.now in
     let placed = rw c.root.ensures at c.read_term-end.ensures in
     judged_met WrongFree
-    (rw (free c.args.form c.args.table.now _ _ _ c.requires.readable c.requires.room placed c.is_term.ensures, c.if-not-is_term.true))
+    (rw (free c.args.table.now _ _ _ c.requires.readable c.requires.room placed c.is_term.ensures, c.if-not-is_term.true))
     (room_of_length (placed_length {vs = term_words T T.root} placed))
 
 pub returns : goal.returns
@@ -45,4 +45,4 @@ returns c =
     let whole = root_length _ p.0 p.1 in
     let placed = rw c.root.ensures at c.read_term-end.ensures in
     judged-read whole (omega (arith, whole, root_short _ p.0 p.1, c.requires.room))
-    (rw (free c.args.form c.args.table.now _ _ _ p c.requires.room placed c.is_term.ensures, c.if-not-is_term.false)) placed
+    (rw (free c.args.table.now _ _ _ p c.requires.room placed c.is_term.ensures, c.if-not-is_term.false)) placed

@@ -3,27 +3,25 @@ use Rattle.records.specs.Preconditions.{Walkable}
 use Rattle.records.specs.Types.{stored, viewed}
 use Rattle.storage.proofs.RecordLaws.{rooted}
 use Rattle.storage.specs.Links.{wrong_link}
-use Prim.Native.Nat.{ℕ}
 use mathlib.Core.Bool.{Bool, false}
-use mathlib.Core.List.{List}
 use Rattle.storage.specs.Header.{wrong_length, wrong_header}
-use Rattle.records.specs.declared.Form.{Form}
+use Rattle.records.specs.declared.Table.{Table}
 use mathlib.Core.Path.{◌≡◌, sym, ◌∙◌}
 use Rattle.tables.proofs.judging.judge_records.Goals as goal
 
 -- The root is a record of a table whose links fit.
-walkable : (f : Form) (ws : List ℕ) {b : Bool} → (wrong_length (stored f ws) ≡ false) × (wrong_header (stored f ws) ≡ false)
-    → b ≡ wrong_link (viewed f ws) → b ≡ false → Walkable (stored f ws) (viewed f ws).root
-walkable f ws p e h = record { length_fits = p.0; links-fit = sym e ∙ h; link_within = (rooted _ p.1).1 }
+walkable : (t : Table) {b : Bool} → (wrong_length (stored t) ≡ false) × (wrong_header (stored t) ≡ false)
+    → b ≡ wrong_link (viewed t) → b ≡ false → Walkable (stored t) (viewed t).root
+walkable t p e h = record { length_fits = p.0; links-fit = sym e ∙ h; link_within = (rooted _ p.1).1 }
 
 pub wrong_children-requires : goal.wrong_children-requires
 wrong_children-requires c =
-    (walkable c.args.form c.args.table.now c.requires.headed c.wrong_links.ensures.0 c.if-wrong_links.false, (rooted _ c.requires.headed.1).0)
+    (walkable c.args.table.now c.requires.headed c.wrong_links.ensures.0 c.if-wrong_links.false, (rooted _ c.requires.headed.1).0)
 
 pub judge_free_numbers-requires-clause-readable : goal.judge_free_numbers-requires-clause-readable
 judge_free_numbers-requires-clause-readable c = (
   record {
-    walkable = walkable c.args.form c.args.table.now c.requires.headed c.wrong_links.ensures.0 c.if-wrong_links.false;
+    walkable = walkable c.args.table.now c.requires.headed c.wrong_links.ensures.0 c.if-wrong_links.false;
     values_fit = sym c.wrong_values.ensures ∙ c.if-wrong_values.false;
     children-fit = sym c.wrong_children.ensures ∙ c.if-wrong_children.false;
   },

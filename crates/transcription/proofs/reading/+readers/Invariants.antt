@@ -6,7 +6,7 @@ use Rattle.transcription.specs.Reading.{ahead}
 use Rattle.transcription.proofs.reading.+readers.Given as goal
 
 abbrev pub decreases-read_chain : goal.decreases-read_chain
-decreases-read_chain l = 2 * ahead (viewed l.form l.table.now) l.link + 1
+decreases-read_chain l = 2 * ahead (viewed l.table.now) l.link + 1
 
 abbrev pub decreases-read_term : goal.decreases-read_term
-decreases-read_term l = 2 * ahead (viewed l.form l.table.now) l.at
+decreases-read_term l = 2 * ahead (viewed l.table.now) l.at

@@ -10,7 +10,7 @@ at-record-requires c = walk_inside _ _ c.requires
 pub returns-clause-steps : goal.returns-clause-steps
 returns-clause-steps c =
     let on = walked _ _ _ c.requires (pos_of_ne-zero c.if-self-eq0.false) c.at-record.ensures in
-    (on.goes_on, refl, refl, on.after)
+    (on.goes_on, refl, on.after)
 
 pub returns-clause-goes : goal.returns-clause-goes
 returns-clause-goes c =
