@@ -15,29 +15,29 @@ use Rattle.records.specs.declared.Table.{Table}
 use Rattle.records.specs.declared.chain.Chain.{Chain}
 use Rattle.records.specs.Chains.{left, Passes}
 use Rattle.records.specs.Preconditions.{Walkable}
-use Rattle.records.specs.Types.{stored, viewed, record_of}
+use Rattle.records.specs.Types.{stored_of, viewed_of, record_of}
 use Rattle.storage.specs.Records.{Stored, record_at, view}
 use Rattle.storage.specs.Children.{chain, chain_from, chain_fits, may_stand}
 use Rattle.records.proofs.Walks.{walked}
 
 -- What is left at a link of a table, and its records in order.
-pub left_of : {s : Chain} {t : Table} {link : ℕ} → s.table ≡ t → s.link ≡ link → left s ≡ chain_from (viewed t) link
-left_of e q = ap₂ (λ t l. chain_from (viewed t) l) e q
+pub left_of : {s : Chain} {t : Table} {link : ℕ} → s.table ≡ t → s.link ≡ link → left s ≡ chain_from (viewed_of t) link
+left_of e q = ap₂ (λ t l. chain_from (viewed_of t) l) e q
 
-pub passed : {s : Chain} {t : Table} {link : ℕ} → s.table ≡ t → s.link ≡ link → YieldsList Passes record_of s (chain_from (viewed t) link)
+pub passed : {s : Chain} {t : Table} {link : ℕ} → s.table ≡ t → s.link ≡ link → YieldsList Passes record_of s (chain_from (viewed_of t) link)
 passed {s} e q =
     record {
       runs = subst (AlwaysYields Passes record_of s) (left_of {s = s} e q) (listed Passes record_of left (λ s t e. ap length e.0.0) (λ s x t e. e.0) s);
     }
 
 -- The walk stays in its table.
-stays : (xs : List codeRecord.Record) (s t : Chain) → Yields Passes s xs t → stored t.table ≡ stored s.table
-stays [] s t e = ap (λ u. stored u.table) (sym e)
-stays (x ∷ xs) s t e = stays xs e.0 t e.2 ∙ ap stored e.1.1
+stays : (xs : List codeRecord.Record) (s t : Chain) → Yields Passes s xs t → stored_of t.table ≡ stored_of s.table
+stays [] s t e = ap (λ u. stored_of u.table) (sym e)
+stays (x ∷ xs) s t e = stays xs e.0 t e.2 ∙ ap stored_of e.1.1
 
 -- So a test that stays as it is may ask of each record that its next leads on.
 pub nexts_callable : {F : Type 0} {R : F → codeRecord.Record → F → Type 0} {Q : F → codeRecord.Record → Type 0} (s : Chain) {f : F}
-    → ((x : codeRecord.Record) (q : F) → R f x q → q ≡ f) → ((x : codeRecord.Record) → Walkable (stored s.table) x.next → Q f x)
+    → ((x : codeRecord.Record) (q : F) → R f x q → q ≡ f) → ((x : codeRecord.Record) → Walkable (stored_of s.table) x.next → Q f x)
     → CallableAtEachTurn Passes R Q s f
 nexts_callable {F} {R} {Q} s {f} still h =
     record {

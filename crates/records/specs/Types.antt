@@ -11,15 +11,18 @@ use Rattle.storage.specs.Records.{Record, Table, Form, Stored, view, form1}
 abbrev pub form_of : codeForm.Form → Form
 form_of form.One = form1
 
--- Words in a form, and a table's.
-abbrev pub in_form : codeForm.Form → List ℕ → Stored
-in_form f ws = record { form = form_of f; words = ws }
+-- Words in a form.
+abbrev pub stored : codeForm.Form → List ℕ → Stored
+stored f ws = record { form = form_of f; words = ws }
 
-abbrev pub stored : codeTable.Table → Stored
-stored t = in_form t.form t.words.now
+abbrev pub viewed : codeForm.Form → List ℕ → Table
+viewed f ws = view (stored f ws)
 
-abbrev pub viewed : codeTable.Table → Table
-viewed t = view (stored t)
+abbrev pub stored_of : codeTable.Table → Stored
+stored_of t = stored t.form t.words.now
+
+abbrev pub viewed_of : codeTable.Table → Table
+viewed_of t = viewed t.form t.words.now
 
 abbrev pub declared_of : code_option.Option ℕ → Option ℕ
 declared_of None = none

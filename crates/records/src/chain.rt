@@ -1,7 +1,7 @@
 // The records of a chain, one after the other.
 ghost use Rattle.records.specs.Preconditions.{Walkable};
 ghost use Rattle.records.specs.Chains.{Passes, left};
-ghost use Rattle.records.specs.Types.{stored};
+ghost use Rattle.records.specs.Types.{stored_of};
 ghost use Rattle.std.specs.Iterator.{item_count};
 
 use crate::{Record, Table};
@@ -16,7 +16,7 @@ pub struct Chain<'a> {
 impl<'a> Iterator for Chain<'a> {
     type Item = Record;
 
-    ghost can_next = { λ s. Walkable (stored s.table) s.link };
+    ghost can_next = { λ s. Walkable (stored_of s.table) s.link };
 
     ghost next_gives = { Passes };
 

@@ -1,6 +1,6 @@
 // Refusal 5: the children of every record, and the root.
 ghost use Rattle.std.specs.Prelude.{◌≡◌, ◌≤◌, length};
-ghost use Rattle.records.specs.Types.{declared_of, record_of, stored, viewed};
+ghost use Rattle.records.specs.Types.{declared_of, record_of, stored_of, viewed_of};
 ghost use Rattle.storage.specs.Children.{starts_above, may_stand, chain_fits, sorts_fit, agrees, record_fits, wrong_children, chain_from};
 ghost use Rattle.records.specs.Preconditions.{Walkable};
 
@@ -10,24 +10,24 @@ use words::kind::Kind;
 
 // How many records a chain has.
 pub fn chain_length(table: &Table, link: usize) -> usize
-    requires { Walkable (stored table.now) link }
-    ensures { result ≡ length (chain_from (viewed table.now) link) }
+    requires { Walkable (stored_of table.now) link }
+    ensures { result ≡ length (chain_from (viewed_of table.now) link) }
 {
     table.chain(link).count()
 }
 
 // Whether a chain has no records or starts with a tag above this one.
 fn starts_above(table: &Table, tag: u32, link: usize) -> bool
-    requires { Walkable (stored table.now) link }
-    ensures { result ≡ starts_above tag (chain_from (viewed table.now) link) }
+    requires { Walkable (stored_of table.now) link }
+    ensures { result ≡ starts_above tag (chain_from (viewed_of table.now) link) }
 {
     link == 0 || tag < table.at(link).tag()
 }
 
 // Whether a record may stand in a chain of terms, or of branches.
 fn may_stand(table: &Table, child: Record, branches: bool) -> bool
-    requires { Walkable (stored table.now) child.next }
-    ensures { result ≡ may_stand branches (record_of child) (chain_from (viewed table.now) child.next) }
+    requires { Walkable (stored_of table.now) child.next }
+    ensures { result ≡ may_stand branches (record_of child) (chain_from (viewed_of table.now) child.next) }
 {
     if branches {
         child.is_branch() && starts_above(table, child.tag(), child.next)
@@ -38,8 +38,8 @@ fn may_stand(table: &Table, child: Record, branches: bool) -> bool
 
 // Whether a chain is one of terms, or of branches with rising tags.
 fn chain_fits(table: &Table, link: usize, branches: bool) -> bool
-    requires { Walkable (stored table.now) link }
-    ensures { result ≡ chain_fits branches (chain_from (viewed table.now) link) }
+    requires { Walkable (stored_of table.now) link }
+    ensures { result ≡ chain_fits branches (chain_from (viewed_of table.now) link) }
 {
     table
         .chain(link)
@@ -48,8 +48,8 @@ fn chain_fits(table: &Table, link: usize, branches: bool) -> bool
 
 // Whether the chain of children of a record of this kind has terms and branches where they belong.
 fn sorts_fit(table: &Table, kind: u32, link: usize) -> bool
-    requires { Walkable (stored table.now) link }
-    ensures { result ≡ sorts_fit kind (chain_from (viewed table.now) link) }
+    requires { Walkable (stored_of table.now) link }
+    ensures { result ≡ sorts_fit kind (chain_from (viewed_of table.now) link) }
 {
     if kind != Kind::Case as u32 {
         return chain_fits(table, link, false);
@@ -70,8 +70,8 @@ fn agrees(declared: Option<usize>, number: usize) -> bool
 
 // Whether record i has the children that it declares and that its kind wants.
 pub fn record_fits(table: &Table, i: usize) -> bool
-    requires { Walkable (stored table.now) i × (1 ≤ i) }
-    ensures { result ≡ record_fits (viewed table.now) i }
+    requires { Walkable (stored_of table.now) i × (1 ≤ i) }
+    ensures { result ≡ record_fits (viewed_of table.now) i }
 {
     let record = table.at(i);
     let number = chain_length(table, record.first);
@@ -81,8 +81,8 @@ pub fn record_fits(table: &Table, i: usize) -> bool
 }
 
 pub fn wrong_children(table: &Table) -> bool
-    requires { Walkable (stored table.now) (viewed table.now).root × (1 ≤ (viewed table.now).root) }
-    ensures { result ≡ wrong_children (viewed table.now) }
+    requires { Walkable (stored_of table.now) (viewed_of table.now).root × (1 ≤ (viewed_of table.now).root) }
+    ensures { result ≡ wrong_children (viewed_of table.now) }
 {
     if !table.indices().all(|i| record_fits(table, i)) {
         return true;

@@ -1,13 +1,13 @@
 // Refusals 1 and 2: the table's length and its header.
 ghost use Rattle.std.specs.Prelude.{◌≡◌, false};
-ghost use Rattle.records.specs.Types.{stored};
+ghost use Rattle.records.specs.Types.{stored_of};
 ghost use Rattle.storage.specs.Header.{wrong_length, wrong_header};
 
 use crate::Table;
 use words::Word;
 
 pub fn wrong_length(table: &Table) -> bool
-    ensures { result ≡ wrong_length (stored table.now) }
+    ensures { result ≡ wrong_length (stored_of table.now) }
 {
     let words = table.form.words();
     if table.words.len() < words {
@@ -18,8 +18,8 @@ pub fn wrong_length(table: &Table) -> bool
 }
 
 pub fn wrong_header(table: &Table) -> bool
-    requires { wrong_length (stored table.now) ≡ false }
-    ensures { result ≡ wrong_header (stored table.now) }
+    requires { wrong_length (stored_of table.now) ≡ false }
+    ensures { result ≡ wrong_header (stored_of table.now) }
 {
     !table.form.header_fits(table.words) || table.root() < 1 || table.count() < table.root()
 }

@@ -7,7 +7,7 @@ ghost use Rattle.calculus.specs.Words.{tag_of};
 ghost use Rattle.storage.specs.Children.{is_branch};
 ghost use Rattle.storage.specs.Records.{record_at, form1, in_form1};
 ghost use Rattle.records.specs.Preconditions.{Inside, Puttable};
-ghost use Rattle.records.specs.Types.{form_of, in_form, stored, viewed, record_of};
+ghost use Rattle.records.specs.Types.{form_of, stored, stored_of, viewed_of, record_of};
 
 use chain::Chain;
 use std::ops::Range;
@@ -44,7 +44,7 @@ impl Form {
 
     // Whether the header is one of this form, n and the root's index aside.
     pub fn header_fits(self, table: &[u32]) -> bool
-        requires { Inside (in_form self table.now) 0 }
+        requires { Inside (stored self table.now) 0 }
         ensures { result ≡ (form_of self).header_fits table.now }
     {
         match self {
@@ -54,7 +54,7 @@ impl Form {
 
     // Puts the header of a table of n records.
     pub fn put_header(self, table: &mut [u32], n: usize, root: usize)
-        requires { Inside (in_form self table.old) 0 × (n < 2 ^ 32) × (root < 2 ^ 32) }
+        requires { Inside (stored self table.old) 0 × (n < 2 ^ 32) × (root < 2 ^ 32) }
         ensures { table.new ≡ sets table.old 0 ((form_of self).header_words n root) }
     {
         match self {
@@ -74,7 +74,7 @@ impl<'a> Table<'a> {
     // How many records the header says that the table has, and where it says that the root is.
     pub fn count(&self) -> usize
         requires { 2 < length self.now.words.now }
-        ensures told { result ≡ (viewed self.now).n }
+        ensures told { result ≡ (viewed_of self.now).n }
         ensures fits { result < 2 ^ 32 }
     {
         index_at(self.words, 1)
@@ -82,7 +82,7 @@ impl<'a> Table<'a> {
 
     pub fn root(&self) -> usize
         requires { 2 < length self.now.words.now }
-        ensures { result ≡ (viewed self.now).root }
+        ensures { result ≡ (viewed_of self.now).root }
     {
         index_at(self.words, 2)
     }
@@ -91,7 +91,7 @@ impl<'a> Table<'a> {
     fn indices(&self) -> Range<usize>
         requires { 2 < length self.now.words.now }
         ensures from { result.start ≡ 1 }
-        ensures to { result.end ≡ (viewed self.now).n + 1 }
+        ensures to { result.end ≡ (viewed_of self.now).n + 1 }
     {
         1..self.count() + 1
     }
@@ -106,8 +106,8 @@ impl<'a> Table<'a> {
 
     // The record at an index.
     pub fn at(&self, i: usize) -> Record
-        requires { Inside (stored self.now) i }
-        ensures { record_of result ≡ record_at (stored self.now) i }
+        requires { Inside (stored_of self.now) i }
+        ensures { record_of result ≡ record_at (stored_of self.now) i }
     {
         match self.form {
             Form::One => Record::at_one(self.words, i),
@@ -142,7 +142,7 @@ impl Record {
 
     // Puts the record at an index.
     pub fn put(self, table: &mut [u32], form: Form, i: usize)
-        requires { Inside (in_form form table.old) i × Puttable (record_of self) }
+        requires { Inside (stored form table.old) i × Puttable (record_of self) }
         ensures { table.new ≡ sets table.old ((form_of form).record_words * i) ((form_of form).record_as (record_of self)) }
     {
         match form {

@@ -6,7 +6,7 @@ ghost use Rattle.storage.specs.Header.{wrong_length, wrong_header};
 ghost use Rattle.words.specs.Room.{Room};
 ghost use Rattle.storage.specs.Links.{link_fits, links_fit, namings, wrong_link};
 ghost use Rattle.records.specs.Counting.{more, counted, room_most, Countable};
-ghost use Rattle.records.specs.Types.{stored, viewed};
+ghost use Rattle.records.specs.Types.{stored_of, viewed_of};
 
 use crate::Table;
 use words::Word;
@@ -23,8 +23,8 @@ fn link_fits(n: usize, i: usize, link: usize) -> bool
 
 // Whether both links of record i fit.
 pub fn links_fit(table: &Table, i: usize) -> bool
-    requires { Inside (stored table.now) i }
-    ensures { result ≡ links_fit (viewed table.now) i }
+    requires { Inside (stored_of table.now) i }
+    ensures { result ≡ links_fit (viewed_of table.now) i }
 {
     let n = table.count();
     let record = table.at(i);
@@ -41,8 +41,8 @@ fn count_link(counts: &mut [u32], link: usize)
 
 // Counts the links of every record.
 fn count_links(table: &Table, counts: &mut [u32])
-    requires { Countable (stored table.now) counts.old }
-    ensures { counts.new ≡ counted (viewed table.now) (viewed table.now).n counts.old }
+    requires { Countable (stored_of table.now) counts.old }
+    ensures { counts.new ≡ counted (viewed_of table.now) (viewed_of table.now).n counts.old }
 {
     for i in 1..=table.count() {
         let record = table.at(i);
@@ -61,9 +61,9 @@ fn all_once(counts: &[u32], n: usize) -> bool
 
 // Whether every record is named by exactly one link. The ends of chains are counted at 0.
 fn named_once(table: &Table, counts: &mut [u32]) -> bool
-    requires linked { (wrong_length (stored table.now) ≡ false) × (wrong_header (stored table.now) ≡ false) × (everyOf (viewed table.now).n (links_fit (viewed table.now)) ≡ true) }
+    requires linked { (wrong_length (stored_of table.now) ≡ false) × (wrong_header (stored_of table.now) ≡ false) × (everyOf (viewed_of table.now).n (links_fit (viewed_of table.now)) ≡ true) }
     requires zeros { counts.old ≡ replicate room_most 0 }
-    ensures { (result ≡ everyOf (viewed table.now).n (λ i. eqb (namings (viewed table.now) i) 1)) × Room counts.old counts.new }
+    ensures { (result ≡ everyOf (viewed_of table.now).n (λ i. eqb (namings (viewed_of table.now) i) 1)) × Room counts.old counts.new }
 {
     count_link(counts, table.root());
     count_links(table, counts);
@@ -72,9 +72,9 @@ fn named_once(table: &Table, counts: &mut [u32]) -> bool
 
 // The links are counted in a room that is lent with zeros.
 pub fn wrong_links(table: &Table, room: &mut [u32]) -> bool
-    requires headed { (wrong_length (stored table.now) ≡ false) × (wrong_header (stored table.now) ≡ false) }
+    requires headed { (wrong_length (stored_of table.now) ≡ false) × (wrong_header (stored_of table.now) ≡ false) }
     requires zeros { room.old ≡ replicate room_most 0 }
-    ensures { (result ≡ wrong_link (viewed table.now)) × Room room.old room.new }
+    ensures { (result ≡ wrong_link (viewed_of table.now)) × Room room.old room.new }
 {
     !table.indices().all(|i| links_fit(table, i)) || !named_once(table, room)
 }

@@ -1,7 +1,7 @@
 // Refusal 3: kinds, values, and what records declare.
 ghost use Rattle.std.specs.Prelude.{◌≡◌, false};
 ghost use Rattle.records.specs.Preconditions.{Inside};
-ghost use Rattle.records.specs.Types.{declared_of, stored, viewed};
+ghost use Rattle.records.specs.Types.{declared_of, stored_of, viewed_of};
 ghost use Rattle.storage.specs.Header.{wrong_length};
 ghost use Rattle.storage.specs.Values.{value_fits, numberFits, declared_fits, valued, wrong_value};
 
@@ -44,16 +44,16 @@ fn declared_fits(kind: u32, declared: Option<usize>) -> bool
 
 // Whether record i has a kind, a value that fits it, and declares a number of children that fits it, if it does.
 pub fn value_fits(table: &Table, i: usize) -> bool
-    requires { Inside (stored table.now) i }
-    ensures { result ≡ valued ((viewed table.now).at i) }
+    requires { Inside (stored_of table.now) i }
+    ensures { result ≡ valued ((viewed_of table.now).at i) }
 {
     let record = table.at(i);
     kind_fits(record.kind, record.value) && declared_fits(record.kind, record.declared)
 }
 
 pub fn wrong_values(table: &Table) -> bool
-    requires { wrong_length (stored table.now) ≡ false }
-    ensures { result ≡ wrong_value (viewed table.now) }
+    requires { wrong_length (stored_of table.now) ≡ false }
+    ensures { result ≡ wrong_value (viewed_of table.now) }
 {
     !table.indices().all(|i| value_fits(table, i))
 }

@@ -5,7 +5,7 @@ ghost use Rattle.calculus.specs.Refusal.{WrongFree};
 ghost use Rattle.words.specs.Types.{result_of};
 ghost use Rattle.storage.specs.Header.{wrong_length, wrong_header};
 ghost use Rattle.records.specs.Counting.{room_most};
-ghost use Rattle.records.specs.Types.{stored, viewed};
+ghost use Rattle.records.specs.Types.{stored_of, viewed_of};
 ghost use Rattle.transcription.specs.Reading.{Readable};
 ghost use Rattle.storage.specs.FreeNumbers.{wrong_free};
 ghost use Rattle.storage.specs.Load.{record_checks, table_checks};
@@ -23,7 +23,7 @@ use words::refusal::Refusal;
 // The refusal that is met first, 8 by the most words that there is room for; or the number of words of the term, which stand at the start of the room then.
 pub fn judge(table: &Table, most: usize, room: &mut Words) -> Result<usize, Refusal>
     requires { room.old ≡ replicate room_most 0 }
-    ensures { Judged (viewed table.now) (table_checks (stored table.now) most) room.old (result_of result) room.new }
+    ensures { Judged (viewed_of table.now) (table_checks (stored_of table.now) most) room.old (result_of result) room.new }
 {
     if wrong_length(table) {
         return Err(Refusal::WrongLength);
@@ -39,9 +39,9 @@ pub fn judge(table: &Table, most: usize, room: &mut Words) -> Result<usize, Refu
 
 // The same of the refusals that are about the records.
 fn judge_records(table: &Table, room: &mut Words) -> Result<usize, Refusal>
-    requires headed { (wrong_length (stored table.now) ≡ false) × (wrong_header (stored table.now) ≡ false) }
+    requires headed { (wrong_length (stored_of table.now) ≡ false) × (wrong_header (stored_of table.now) ≡ false) }
     requires zeros { room.old ≡ replicate room_most 0 }
-    ensures { Judged (viewed table.now) (record_checks (viewed table.now)) room.old (result_of result) room.new }
+    ensures { Judged (viewed_of table.now) (record_checks (viewed_of table.now)) room.old (result_of result) room.new }
 {
     if wrong_values(table) {
         return Err(Refusal::WrongValue);
@@ -57,9 +57,9 @@ fn judge_records(table: &Table, room: &mut Words) -> Result<usize, Refusal>
 
 // The same of refusal 6. Everything else that is asked of a term holds by the refusals before, so the words are no accepted term only by a free number.
 fn judge_free_numbers(table: &Table, room: &mut Words) -> Result<usize, Refusal>
-    requires readable { Readable (stored table.now) (viewed table.now).root × (1 ≤ (viewed table.now).root) }
+    requires readable { Readable (stored_of table.now) (viewed_of table.now).root × (1 ≤ (viewed_of table.now).root) }
     requires room { length room.old ≡ room_most }
-    ensures { Judged (viewed table.now) ((WrongFree, wrong_free (viewed table.now)) ∷ []) room.old (result_of result) room.new }
+    ensures { Judged (viewed_of table.now) ((WrongFree, wrong_free (viewed_of table.now)) ∷ []) room.old (result_of result) room.new }
 {
     let end = read_term(table, table.root(), room, 0);
     if !is_term(room, end) {

@@ -2,7 +2,7 @@
 ghost use Rattle.std.specs.Prelude.{◌+◌, ◌≤◌, length};
 ghost use Rattle.calculus.specs.Words.{workspace_most};
 ghost use Rattle.words.specs.Placed.{Placed};
-ghost use Rattle.records.specs.Types.{stored, viewed};
+ghost use Rattle.records.specs.Types.{stored_of, viewed_of};
 ghost use Rattle.transcription.specs.Reading.{chain_words, term_words, Readable};
 
 use records::Table;
@@ -17,9 +17,9 @@ pub type Words = [u32; ROOM];
 // Writes the words of record `at` with its children from position `out` on, and returns the position after them.
 #[cycle(readers)]
 pub fn read_term(table: &Table, at: usize, words: &mut Words, out: usize) -> usize
-    requires readable { Readable (stored table.now) at × (1 ≤ at) }
-    requires room { out + length (term_words (viewed table.now) at) ≤ workspace_most }
-    ensures { Placed words.old out (term_words (viewed table.now) at) words.new result }
+    requires readable { Readable (stored_of table.now) at × (1 ≤ at) }
+    requires room { out + length (term_words (viewed_of table.now) at) ≤ workspace_most }
+    ensures { Placed words.old out (term_words (viewed_of table.now) at) words.new result }
 {
     let record = table.at(at);
     let first = record.first;
@@ -31,9 +31,9 @@ pub fn read_term(table: &Table, at: usize, words: &mut Words, out: usize) -> usi
 // The same of the chain from a link.
 #[cycle(readers)]
 fn read_chain(table: &Table, link: usize, words: &mut Words, out: usize) -> usize
-    requires readable { Readable (stored table.now) link }
-    requires room { out + length (chain_words (viewed table.now) link) ≤ workspace_most }
-    ensures { Placed words.old out (chain_words (viewed table.now) link) words.new result }
+    requires readable { Readable (stored_of table.now) link }
+    requires room { out + length (chain_words (viewed_of table.now) link) ≤ workspace_most }
+    ensures { Placed words.old out (chain_words (viewed_of table.now) link) words.new result }
 {
     if link == 0 {
         return out;

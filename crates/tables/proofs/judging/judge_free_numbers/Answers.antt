@@ -1,6 +1,6 @@
 -- `judge_free_numbers` meets its contract: the words that the reader leaves are those of the term that the root means.
 use Rattle.calculus.specs.Refusal.{WrongFree}
-use Rattle.records.specs.Types.{stored, viewed}
+use Rattle.records.specs.Types.{stored_of, viewed_of}
 use Rattle.storage.specs.FreeNumbers.{wrong_free}
 use Rattle.tables.proofs.JudgingLaws.{judged-read, judged_met}
 use Rattle.tables.proofs.ReadingMeaning.{root_length, root_short, free_in_words}
@@ -25,15 +25,15 @@ read_term-end-requires-clause-room c =
     rw c.root.ensures (omega (arith, root_short _ p.0 p.1))
 
 -- Where the words of the root's term stand, whether its free numbers are in range.
-free : (t : Table) (before after : List ℕ) (end : ℕ) {b : Bool} → Readable (stored t) (viewed t).root × (1 ≤ (viewed t).root)
-    → length before ≡ room_most → Placed before 0 (term_words (viewed t) (viewed t).root) after end → b ≡ is_term after end
-    → wrong_free (viewed t) ≡ not b
+free : (t : Table) (before after : List ℕ) (end : ℕ) {b : Bool} → Readable (stored_of t) (viewed_of t).root × (1 ≤ (viewed_of t).root)
+    → length before ≡ room_most → Placed before 0 (term_words (viewed_of t) (viewed_of t).root) after end → b ≡ is_term after end
+    → wrong_free (viewed_of t) ≡ not b
 free t before after end p room placed e =
-    free_in_words (stored t) p.0 p.1 before after end (omega (arith, room)) placed ∙ sym (ap not e)
+    free_in_words (stored_of t) p.0 p.1 before after end (omega (arith, room)) placed ∙ sym (ap not e)
 
 pub returns-then-not-is_term : goal.returns-then-not-is_term
 returns-then-not-is_term c =
-    let T = viewed c.args.table.now in
+    let T = viewed_of c.args.table.now in
     let placed = rw c.root.ensures at c.read_term-end.ensures in
     judged_met WrongFree
     (rw (free c.args.table.now _ _ _ c.requires.readable c.requires.room placed c.is_term.ensures, c.if-not-is_term.true))

@@ -1,6 +1,6 @@
 -- `judge_records` meets its contract: each return knows that the checks before it pass.
 use Rattle.records.specs.Preconditions.{Walkable}
-use Rattle.records.specs.Types.{stored, viewed}
+use Rattle.records.specs.Types.{stored_of, viewed_of}
 use Rattle.storage.proofs.RecordLaws.{rooted}
 use Rattle.storage.specs.Links.{wrong_link}
 use mathlib.Core.Bool.{Bool, false}
@@ -10,8 +10,8 @@ use mathlib.Core.Path.{◌≡◌, sym, ◌∙◌}
 use Rattle.tables.proofs.judging.judge_records.Goals as goal
 
 -- The root is a record of a table whose links fit.
-walkable : (t : Table) {b : Bool} → (wrong_length (stored t) ≡ false) × (wrong_header (stored t) ≡ false)
-    → b ≡ wrong_link (viewed t) → b ≡ false → Walkable (stored t) (viewed t).root
+walkable : (t : Table) {b : Bool} → (wrong_length (stored_of t) ≡ false) × (wrong_header (stored_of t) ≡ false)
+    → b ≡ wrong_link (viewed_of t) → b ≡ false → Walkable (stored_of t) (viewed_of t).root
 walkable t p e h = record { length_fits = p.0; links-fit = sym e ∙ h; link_within = (rooted _ p.1).1 }
 
 pub wrong_children-requires : goal.wrong_children-requires

@@ -3,7 +3,7 @@ use mathlib.Core.Path.{refl, ap}
 use native.Mathlib.Nat.{pos_of_ne-zero}
 use native.Mathlib.Omega.{arith}
 use lib.ListN.{length}
-use Rattle.records.specs.Types.{stored, viewed, record_of}
+use Rattle.records.specs.Types.{stored_of, viewed_of, record_of}
 use Rattle.transcription.specs.Reading.{chain_words}
 use Rattle.storage.proofs.RecordLaws.{parts}
 use Rattle.records.proofs.Walks.{walk_inside}
@@ -12,7 +12,7 @@ use Rattle.words.proofs.PlacedLaws.{placed_none, placed_cons, placed_append}
 use Rattle.transcription.proofs.reading.+readers.Goals as goal
 
 pub read_chain-returns-then-link-eq0 : goal.read_chain-returns-then-link-eq0
-read_chain-returns-then-link-eq0 t c = rw (chain_words-end (viewed c.args.table.now) _ c.if-link-eq0.true) (placed_none _ _)
+read_chain-returns-then-link-eq0 t c = rw (chain_words-end (viewed_of c.args.table.now) _ c.if-link-eq0.true) (placed_none _ _)
 
 pub read_chain-read_term-end-requires : goal.read_chain-read_term-end-requires
 read_chain-read_term-end-requires t c =
@@ -50,10 +50,10 @@ read_term-word-requires t c =
 pub read_term-read_chain-requires : goal.read_term-read_chain-requires
 read_term-read_chain-requires t c =
     let on = read_on _ _ _ c.requires.readable.0 c.requires.readable.1 c.at-record.ensures in
-    let first = ap (λ l. length (chain_words (viewed c.args.table.now) l)) (parts c.at-record.ensures).first in
+    let first = ap (λ l. length (chain_words (viewed_of c.args.table.now) l)) (parts c.at-record.ensures).first in
     (omega (arith, c.decreases, on.fewer_below), (on.below, omega (arith, c.requires.room, first)))
 
 pub read_term-returns : goal.read_term-returns
 read_term-returns t c =
-    rw (term_read (stored c.args.table.now) c.args.at c.chain_length-children.result c.word.result.0 (record_of c.at-record.result) c.at-record.ensures c.chain_length-children.ensures c.word.ensures)
+    rw (term_read (stored_of c.args.table.now) c.args.at c.chain_length-children.result c.word.result.0 (record_of c.at-record.result) c.at-record.ensures c.chain_length-children.ensures c.word.ensures)
     (placed_cons _ _ c.read_chain.ensures)
