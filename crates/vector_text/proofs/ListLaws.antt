@@ -1,12 +1,12 @@
 -- Reading a list item by item, and parts of arrays of equal words.
-use Prim.Native.Nat.{ℕ, zero, suc, ◌+◌, ◌-◌, ◌≤◌, ◌<◌, min}
+use Prim.Native.Nat.{ℕ, zero, suc, ◌-◌, ◌≤◌, ◌<◌, min}
 use native.Mathlib.Omega.{arith}
 use mathlib.Core.Path.{◌≡◌, refl, sym, ◌∙◌, ap}
 use mathlib.Core.Bool.{true, false}
 use mathlib.Core.List.{List, ◌++◌}
 use lib.Dec.{eqb}
 use lib.ListN.{length, take, drop, replicate, length-append, length-replicate}
-use lib.Seq.{sets, take_at, length-take-le}
+use lib.Seq.{take_at, length-take-le}
 use Rattle.words.proofs.RoomLaws.{take-replicate}
 use Rattle.vector_text.specs.Text.{nowhere, after}
 use Rattle.vector_text.specs.Lists.{comma, Listed, with_more, items}

@@ -8,19 +8,14 @@ use lib.ListN.{length, take, replicate}
 use borrow.Author.Tests.{eq-eqb, ne_eqb}
 use Rattle.calculus.specs.Bringing.{Brought}
 use Rattle.encoding.specs.Import.{import}
-use Rattle.encoding.specs.Export.{Exported}
 use Rattle.text.specs.Bytes.{are_bytes}
 use Rattle.words.specs.Placed.{Placed}
 use Rattle.words.proofs.PlacedLaws.{sets_whole}
-use Rattle.vector_text.specs.Text.{Number, nowhere, after, number_at}
-use Rattle.vector_text.specs.Lists.{list_most, Listed, Compared}
+use Rattle.vector_text.specs.Lists.{list_most, Compared}
 use Rattle.vector_text.proofs.ListLaws.{lent_length}
-use Rattle.text.specs.Names.{refusal_name}
-use Rattle.vectors.specs.Keywords.{writes_word}
-use Rattle.vectors.specs.Answers.{is_returned}
 use Rattle.vectors.specs.Pair.{junk}
-use Rattle.vectors.specs.Stored.{verified_of, refused_last, is_last, junk_table, brought_as, ends_as}
-use Rattle.vectors.specs.Encoded.{exported_into, exports_back, imported_as, importing_of, importing, exported_as, exports_listed}
+use Rattle.vectors.specs.Stored.{verified_of, junk_table, brought_as, ends_as}
+use Rattle.vectors.specs.Encoded.{exports_back, imported_as, importing_of, importing}
 
 -- What was placed over a whole slice is all of it.
 pub placed_whole : {before vs after : List ℕ} {end : ℕ} → Placed before 0 vs after end → length vs ≡ length before → after ≡ vs

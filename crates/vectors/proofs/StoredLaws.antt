@@ -3,19 +3,10 @@ use Prim.Native.Nat.{ℕ, zero, suc, ◌+◌, ◌-◌, ◌≤◌, ◌<◌}
 use native.Mathlib.Omega.{arith}
 use native.Mathlib.Numerals.{add-one}
 use mathlib.Core.Path.{◌≡◌, refl, ◌∙◌, ap}
-use mathlib.Core.Bool.{◌&&◌}
-use mathlib.Core.List.{List, [], ◌++◌, append-nil}
+use mathlib.Core.List.{List, ◌++◌, append-nil}
 use lib.ListN.{length, set, drop_of_length-le, length-set}
 use lib.Seq.{sets, sets-eq}
-use borrow.Author.Tests.{eq-eqb, ne_eqb}
-use Rattle.calculus.specs.Bringing.{Brought}
-use Rattle.storage.specs.Write.{Written}
-use Rattle.vector_text.specs.Text.{Number, nowhere, after, number_at}
-use Rattle.text.specs.Names.{refusal_name}
-use Rattle.vectors.specs.Keywords.{gives_word}
-use Rattle.vector_text.specs.Lists.{Listed, Compared, compared_at}
-use Rattle.vectors.specs.Answers.{is_returned}
-use Rattle.vectors.specs.Stored.{refused_last, chain_word, chain_from, chain, is_table, written_as, junk_table, writes_into, writes_back, refused_as, given_as, brought_as, ends_as, loaded_as, writes_listed}
+use Rattle.vectors.specs.Stored.{chain_word, chain_from, chain}
 
 module _ (records index : ℕ) where
   chain_length : (place n : ℕ) → length (chain_from records index place n) ≡ n

@@ -1,9 +1,8 @@
 -- The lines of a text, one after the other.
 use Prim.Native.Nat.{ℕ, zero, suc, ◌+◌, ◌-◌, ◌≤◌, ◌<◌}
-use native.Mathlib.Numerals.{add-one}
 use native.Mathlib.Omega.{arith}
 use mathlib.Core.Path.{◌≡◌, refl, sym}
-use Rattle.std.proofs.Common.{add-zero, length-drop, ◌∙◌, ap}
+use Rattle.std.proofs.Common.{add-zero, ◌∙◌, ap}
 use borrow.Author.Rules.{part_to_end}
 use mathlib.Core.Bool.{Bool, true, false, cond, not, ◌&&◌}
 use mathlib.Core.List.{List, [], ◌∷◌}
@@ -12,9 +11,8 @@ use Rattle.std.specs.List.{position, position_or_len}
 use Rattle.std.proofs.lemmas.List.Sums.{prefix_len-le-length}
 use Rattle.std.proofs.lemmas.Bool.Decides.{nat_tests}
 use lib.Dec.{eqb, ltb}
-use lib.ListN.{length, get_or, take, drop, drop_of_length-le}
-use lib.Seq.{drop-cons}
-use borrow.Author.Tests.{le-leb, lt-leb, eq-eqb, ne_eqb}
+use lib.ListN.{length, get_or, take, drop}
+use borrow.Author.Tests.{le-leb, lt-leb}
 use Rattle.vectors.specs.Vector.{newline, end_from, line_end, passes, comment, nothing, counted, share_of, tally_from}
 use Rattle.vectors.specs.declared.vector.Tally.{Tally}
 

@@ -12,7 +12,7 @@ mod stored;
 mod typed;
 mod vector;
 
-// The streams that it reads and writes.
+// The streams that it reads and writes, by number: std's reader fills no array as far as the input goes and says how far.
 const STDIN: i32 = 0;
 
 pub const STDOUT: i32 = 1;

@@ -170,7 +170,8 @@ fn loads(reader: &mut Reader<'_>, table: &[u32], workspace: &mut [u32]) -> bool
     term.equal & writes(reader, table, workspace, term.count)
 }
 
-// Whether a line is right, from its size on.
+// Whether a line is right, from its size on. The workspace is set up in each such function: three lines, and one function that took what follows as a closure
+// would need a contract longer than they are.
 pub fn load_holds(reader: &mut Reader<'_>) -> bool
     ensures { result ≡ load_holds reader.old.line.now reader.old.at }
 {

@@ -3,7 +3,7 @@ use Rattle.vector_text.proofs.TextLaws.{starts_pointwise}
 use Rattle.vector_text.specs.Text.{starts_with, after}
 use borrow.Author.Rules.{part_to_end}
 use borrow.Author.Tests.{lt-ltb, le-ltb}
-use mathlib.Core.Path.{sym, ◌∙◌, ap}
+use mathlib.Core.Path.{◌∙◌, ap}
 use Rattle.vector_text.proofs.Reader.after.Goals as goal
 
 pub returns-then-self : goal.returns-then-self

@@ -2,7 +2,7 @@
 use Rattle.std.proofs.Common.{ℕ, ◌-◌, ◌+◌, ◌≡◌, List, length, Bor, sym, ◌∙◌, ap, ap₂, arith}
 use Rattle.std.proofs.Math.Nat.{sub-zero}
 use Rattle.vector_text.proofs.ListLaws.{items_last, items-next, items-end}
-use Rattle.vector_text.specs.Lists.{listed_of, items, list_at}
+use Rattle.vector_text.specs.Lists.{listed_of, list_at}
 use Rattle.vector_text.specs.declared.Reader.{Reader}
 use mathlib.Core.Bool.{not}
 use Rattle.vector_text.proofs.Reader.list.Goals as goal

@@ -1,4 +1,4 @@
-use Rattle.std.proofs.Common.{◌≡◌, ◌≤◌, ◌+◌, length, drop}
+use Rattle.std.proofs.Common.{◌≡◌, ◌≤◌, ◌+◌, drop}
 use Rattle.vector_text.specs.Text.{digits}
 use Rattle.vector_text.proofs.Reader.number_ahead.Given as goal
 
