@@ -65,7 +65,7 @@ const LIBRARY: [u32; Word::LIBRARY_WORDS] = [
     8, 2, 8, 2, 8, 2, 8, 2, 8, 2, 8, 2, 8, 2, 8, 2, 8, 2, 8, 2, 8, 2, 8, 2, 8, 2, 8, 2, 8, 2, 8, 0,
 ];
 
-// The table by value. Every entry is closed and a whole term by the word rules: its numeral.
+// The table by value: the archive may have no more than 400 bytes of constants (firmware/ceilings). Every entry is closed and a whole term by the word rules: its numeral.
 fn library() -> [u32; Word::LIBRARY_WORDS]
     ensures { Entries result }
 {

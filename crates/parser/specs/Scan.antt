@@ -1,5 +1,5 @@
 -- What the parser keeps between two bytes, as a state of the reader, and the room that it needs.
-use Rattle.std.specs.Prelude.{ℕ, zero, suc, ◌*◌, ◌-◌, ◌≤◌, ◌<◌, ◌≡◌, List, length, take, drop, Some, None}
+use Rattle.std.specs.Prelude.{ℕ, suc, ◌*◌, ◌-◌, ◌≤◌, ◌<◌, ◌≡◌, List, length, take, drop, Some, None}
 use Rattle.std.specs.Prelude as codeOption
 use Rattle.std.proofs.Math.Option.{Option, some, none}
 use Rattle.calculus.specs.Accepted.{index_limit}

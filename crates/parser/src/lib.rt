@@ -179,8 +179,8 @@ fn begin(b: u8, s: Scan, stack: &[usize], out: &mut [u32]) -> Option<Scan>
     }
 }
 
-// One byte in front of those that are read. A step is lent what it may change and no more, so the scan and both arrays stay apart, and how they stand to one another
-// is a fact of all three.
+// One byte in front of those that are read. A step is lent what it may change and no more, so the scan and both arrays stay apart, and how they stand to
+// one another is a fact of all three. Both arrays are lent to `parse`, whose contract says that they keep their lengths: a stack of its own would not be they.
 #[tactic(auto, unfolding(notation::specs::Reader::step, notation::specs::Reader::sign))]
 fn on_byte(b: u8, s: Scan, stack: &mut [usize], out: &mut [u32]) -> Option<Scan>
     requires { Within (length stack.old) (length out.old) s × Ahead s }

@@ -22,7 +22,7 @@ pub mod state;
 
 pub use showing::{show, shows_right};
 
-// A press on two workspaces that hold terms, with a budget that it may spend.
+// A press on two workspaces that hold terms, with a budget that it may spend. It takes what `press` takes.
 fn press_terms(
     left: &mut [u32],
     right: &mut [u32],

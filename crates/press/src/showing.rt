@@ -12,7 +12,7 @@ pub fn shows_right(left_length: usize, right_length: usize) -> bool
 }
 
 // The shorter current form, a part of the workspace that holds it, the right one at equal lengths; the empty start of the left one where refusal 7 or
-// 10 is met.
+// 10 is met. No Option: the contract says where the empty part starts (`part_of`), and C gets its length.
 pub fn show<'a>(
     left: &'a [u32],
     right: &'a [u32],

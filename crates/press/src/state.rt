@@ -37,7 +37,7 @@ impl Session {
 pub fn budget_passes(budget: u32, total: u32) -> bool
     ensures { result ≡ affordable budget total }
 {
-    budget <= Session::BUDGET_MOST && total as u64 + budget as u64 <= Session::TOTAL_MOST
+    budget <= Session::BUDGET_MOST && u64::from(total) + u64::from(budget) <= Session::TOTAL_MOST
 }
 
 // Does nothing. Its contract says that each limit is the number that the definition of a session gives its name.

@@ -22,6 +22,7 @@ pub mod links;
 pub mod payload;
 pub mod values;
 
+// A second form is a second arm where a form is matched.
 #[derive(Clone, Copy)]
 pub enum Form {
     One,
@@ -63,7 +64,8 @@ impl Form {
     }
 }
 
-// A table as the code holds it: its words, in a form.
+// A table as the code holds it: its words, in a form. What an earlier check has found is asked for in the contracts and is no invariant, since the checks take tables
+// that fail them.
 #[derive(Clone, Copy)]
 pub struct Table<'a> {
     pub words: &'a [u32],
@@ -87,7 +89,7 @@ impl<'a> Table<'a> {
         index_at(self.words, 2)
     }
 
-    // The indices of the records.
+    // The indices of the records, half open: an inclusive range costs more.
     fn indices(&self) -> Range<usize>
         requires { 2 < length self.now.words.now }
         ensures from { result.start ≡ 1 }
@@ -115,7 +117,8 @@ impl<'a> Table<'a> {
     }
 }
 
-// The kind is the word that a table has for it, which may be no kind's number. A record may declare how many children it has.
+// The kind is the word that a table has for it, which may be no kind's number. A record may declare how many children it has. A link is the
+// table's number, 0 for none, as `chain_from` follows it.
 #[derive(Clone, Copy)]
 pub struct Record {
     pub kind: u32,

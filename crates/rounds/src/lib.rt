@@ -51,7 +51,7 @@ impl Shown {
 // Room for the scopes of a walk: a scope that is kept took two words.
 const ROOM: usize = Word::WORKSPACE_MOST / 2;
 
-// The rounds of a press, on both workspaces through the scratch. By `loop`: only the last round tells how many there are.
+// The rounds of a press, on both workspaces through the scratch, passed piece by piece as to `press::press`. By `loop`: only the last round tells how many there are.
 pub fn run(
     left: &mut [u32],
     right: &mut [u32],

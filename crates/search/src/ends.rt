@@ -6,7 +6,7 @@ ghost use Rattle.search.specs.Ends.{Ends, Filled};
 
 use words::{Word, extent};
 
-// The items of a workspace, with a table of the ends of those that start before `known`.
+// The items of a workspace, with a table of the ends of those that start before `known`. `Ends` speaks of a position too, so it is no invariant of the value.
 #[derive(Clone, Copy)]
 pub struct Items<'a> {
     pub ws: &'a [u32],

@@ -1,4 +1,5 @@
 // Simultaneous substitution over lent words, and the one shift of free indices that it is made of ("Contraction").
+// A room is lent for a call, whose contract says that it keeps its length (`Room`): a value that held the slice would say the same in each contract.
 #![tactic(auto)]
 
 mod kinds;
@@ -32,7 +33,7 @@ pub struct Body {
     pub count: usize,
 }
 
-// A place for each argument of a redex, and one more. There is no heap; how many places count is told by the number of arguments.
+// A place for each argument of a redex, and one more. `Positions` and `Measures` speak of all places, and the number of arguments tells how many count.
 const PLACES: usize = Word::ARGUMENTS_MOST as usize + 1;
 
 // The positions at which the arguments of a body start, and after them the end of the last, where the caller knows it.
@@ -50,7 +51,8 @@ fn starts(src: &[u32], body: Body) -> [usize; PLACES]
 }
 
 // Copies the term from `at` up to `end` with its free indices moved by a signed distance, and returns the position after the copy. A word of the copy stands as
-// far behind `out` as its own behind `at`. What is written to and the room are lent anew at each call, the room up to where its walk stands: no struct keeps them.
+// far behind `out` as its own behind `at`. What is written to and the room are lent anew at each call, the room up to where its walk stands, so no struct
+// keeps them.
 fn shift(
     src: &[u32],
     at: usize,

@@ -1,4 +1,3 @@
-pub mod Entered
 pub mod Scan
 pub mod Stack
 pub mod IsTerm

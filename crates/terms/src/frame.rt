@@ -1,6 +1,5 @@
 // Frames of the scan for a whole term: what is still to come at one level of the term.
-ghost use Rattle.std.specs.Prelude.{◌≡◌, true, cond, ◌&&◌, ◌≤◌, leb};
-ghost use Rattle.std.proofs.Math.Option.{some, none};
+ghost use Rattle.std.specs.Prelude.{◌≡◌, true, ◌&&◌, ◌≤◌, leb};
 ghost use Rattle.calculus.specs.Words.{branch_kind, kind_of, payload_of, tag_of};
 ghost use Rattle.calculus.specs.Payload.{payload_fits};
 ghost use Rattle.terms.specs.Frames.{depth_limit, frame, is_filled, allowed, rest, entered_by, entered, starts_term, starts_branch};
@@ -83,6 +82,7 @@ impl Frame {
     }
 
     // What is to come after the item that the word starts.
+    #[tactic(auto, using(crate::proofs::Scan::branch_allowed))]
     pub fn rest(self, word: Word) -> Frame
         requires shallow { (unpacked self.0).depth ≤ depth_limit }
         requires may_stand { allowed (unpacked self.0) word.0 ≡ true }
@@ -96,6 +96,7 @@ impl Frame {
 }
 
 // The word as the first one of a term under `depth` binders.
+#[tactic(auto, unfolding(crate::specs::Frames::starts_term, crate::specs::Frames::inside_by, words::specs::Bound::binding, calculus::specs::Skip::following, calculus::specs::Payload::payload_fits))]
 fn enter_term(word: Word, depth: u32) -> Option<Frame>
     requires { depth ≤ depth_limit }
     ensures { entered_of result ≡ entered_by (starts_term depth (kind_of word.0) (payload_of word.0)) depth word.0 }
@@ -112,6 +113,7 @@ fn enter_term(word: Word, depth: u32) -> Option<Frame>
         Kind::Application => fits.then_some(Frame::new(2, 0, depth, 0)),
         Kind::Constructor => fits.then_some(Frame::new(word.count(), 0, depth, 0)),
         Kind::Case => {
+            // Tested before the frame is made, which has no room for more branches.
             if !fits {
                 return None;
             }
@@ -123,6 +125,7 @@ fn enter_term(word: Word, depth: u32) -> Option<Frame>
 }
 
 // The word as that of a branch under `depth` binders, of a tag that is at least `least`.
+#[tactic(auto, unfolding(crate::specs::Frames::starts_branch, crate::specs::Frames::inside_by, words::specs::Bound::binding, calculus::specs::Skip::following))]
 fn enter_branch(word: Word, depth: u32, least: u32) -> Option<Frame>
     requires { depth ≤ depth_limit }
     ensures { entered_of result ≡ entered_by (starts_branch least (kind_of word.0) (payload_of word.0)) depth word.0 }

@@ -46,8 +46,8 @@ pub fn narrow(words: &[u32], bytes: &mut [u8]) -> usize
     words.len()
 }
 
-// Puts bytes as words at the start of a slice of words, and returns how many they are. It is no twin of `narrow` that a type parameter would join: what is a byte fits a
-// word, and not the other way round.
+// Puts bytes as words at the start of a slice of words, and returns how many they are. It is no twin of `narrow` that a type parameter would join: what is
+// a byte fits a word, and not the other way round.
 pub fn widen(bytes: &[u8], words: &mut [u32]) -> usize
     requires { length bytes.now ≤ length words.old }
     ensures { Placed words.old 0 bytes.now words.new result }

@@ -1,5 +1,6 @@
-// Text put into lent bytes, each time from a position on; what is returned is the position after it. By no `Display`: what `fmt` writes to
-// is no lent slice, and a String would want a heap.
+// Text put into lent bytes, each time from a position on; what is returned is the position after it. By no `Display`: what it prints
+// would be copied here then, and `Placed`, which is promised, speaks of the slice. The slice and the position stay apart: a value of both would say in each contract that it
+// holds the same slice still.
 ghost use Rattle.std.specs.Prelude.{◌≡◌, [], ◌∷◌, ◌≤◌, ◌+◌, length};
 ghost use Rattle.words.specs.Placed.{Placed};
 ghost use Rattle.text.specs.Decimal.{digits_most, decimal, field, newline};

@@ -36,7 +36,8 @@ fn entry(ws: &[u32], i: usize, siblings: usize) -> Record
     }
 }
 
-// One more level on top of the levels from `top` on, where it has items; returns where the levels start then.
+// One more level on top of the levels from `top` on, where it has items; returns where the levels start then. `pushed` and `descended` speak of a slice and a top, so
+// the levels are no stack of a library.
 fn push(levels: &mut [usize], top: usize, items: usize) -> usize
     requires { (1 ≤ top) × (top ≤ length levels.old) }
     ensures { (result, levels.new) ≡ pushed levels.old top items }

@@ -60,7 +60,7 @@ pub fn ask(left: &[u32], right: &[u32], from: usize) -> Asked
 fn contractions(plan: Option<Redex>) -> u32
     ensures { result ≡ contractions (length_in (plan_of plan)) }
 {
-    plan.is_some() as u32
+    u32::from(plan.is_some())
 }
 
 // The length of the next term, 0 where there is none.

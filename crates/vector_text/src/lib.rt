@@ -4,7 +4,7 @@
 
 pub mod lent;
 
-ghost use Rattle.std.specs.Prelude.{◌≡◌, ◌≤◌, ◌-◌, length, not, cond, eqb, replicate};
+ghost use Rattle.std.specs.Prelude.{◌≡◌, ◌≤◌, ◌-◌, length, not, cond, eqb};
 ghost use Rattle.vector_text.specs.Text.{nowhere, past_space, after, number_read, number_of, number_at, setting_at};
 ghost use Rattle.vector_text.specs.Lists.{list_most, item_at, listed_of, with_more, list_at, compared_at};
 
@@ -13,7 +13,8 @@ use records::Form;
 use words::Word;
 use words::slices::fill;
 
-// Beyond every line. A number like every other place: it is the definitions' `nowhere`, which they read on from.
+// Beyond every line. A number like every other place: it is the definitions' `nowhere`, which they read on from, and
+// `ReadExamples` is about.
 const NOWHERE: usize = usize::MAX;
 
 // A line, and where it is read on: nowhere once what was wanted did not come next.
@@ -118,10 +119,10 @@ impl<'a> Reader<'a> {
             if !byte.is_ascii_digit() {
                 return number_read(value, from, end);
             }
-            if value > u32::MAX as u64 {
+            if value > u64::from(u32::MAX) {
                 return number_read(value, from, end);
             }
-            value = value * 10 + (*byte - b'0') as u64;
+            value = value * 10 + u64::from(*byte - b'0');
             end += 1;
         }
         number_read(value, from, end)
@@ -191,6 +192,7 @@ impl<'a> Reader<'a> {
         if self.take(b"-") {
             return count;
         }
+        // As many turns as the line has bytes, as `list_at` counts them.
         for _ in 0..self.line.len() {
             count = self.more(count, into);
             if !self.take(b",") {

@@ -75,8 +75,8 @@ pub record Lent : Type 0 where
   pub right : ℕ
   pub next : ℕ
 
-abbrev pub lent_of : codeLent.Lent → (next : ℕ) → Lent
-lent_of l next = record { equal = l.equal; left = l.left; right = l.right; next = next }
+abbrev pub lent_read : codeLent.Lent → (next : ℕ) → Lent
+lent_read l next = record { equal = l.equal; left = l.left; right = l.right; next = next }
 
 -- Both workspaces beside the words at a position, with a tail, and the scratch beside equal words.
 unfoldable pub lent_at : List ℕ → (at : ℕ) → (left right : List ℕ) (tail : ℕ) (scratch : List ℕ) (word : ℕ) → Lent

@@ -16,7 +16,7 @@ ghost use Rattle.std.specs.Prelude.{◌≡◌, ℕ, length};
 ghost use Rattle.turn.specs.Types.{verdict_of};
 ghost use Rattle.press.specs.Types.{session_of, answer_of, pressed_of};
 ghost use Rattle.vectors.specs.Answers.{is_session, is_shown, is_refused};
-ghost use Rattle.vectors.specs.Pair.{room, junk, only_if, verdict_at, given_of, given_at, lent_of, lent_at, stage_of, refused_after, counted_after, checked};
+ghost use Rattle.vectors.specs.Pair.{room, junk, only_if, verdict_at, given_of, given_at, lent_read, lent_at, stage_of, refused_after, counted_after, checked};
 ghost use Rattle.vectors.specs.Pair.{stepped_of, press_step, shown_after, stepped, ended_of, steps_from, opened_at, pair_run, pair_holds};
 
 use press::answer::{Answer, Pressed};
@@ -141,7 +141,7 @@ fn read_given(reader: &mut Reader<'_>, left: usize, right: usize, scratch: usize
     }
 }
 
-// Both workspaces beside the words that come next, with a tail, and the scratch beside equal words.
+// Both workspaces beside the words that come next, with a tail, and the scratch beside equal words. The workspaces stay apart, as a press takes them.
 #[tactic(auto, unfolding(crate::specs::Pair::lent_at))]
 fn compare_lent(
     reader: &mut Reader<'_>,
@@ -151,7 +151,7 @@ fn compare_lent(
     scratch: &[u32],
     word: u32,
 ) -> Lent
-    ensures lent { lent_of result reader.new.at ≡ lent_at reader.old.line.now reader.old.at left.now right.now tail scratch.now word }
+    ensures lent { lent_read result reader.new.at ≡ lent_at reader.old.line.now reader.old.at left.now right.now tail scratch.now word }
     ensures line { reader.new.line ≡ reader.old.line }
 {
     let left = reader.compare(left, tail);
@@ -166,7 +166,7 @@ fn compare_lent(
 // After a press that should be refused with the number that comes next: all is as before.
 #[tactic(auto, unfolding(crate::specs::Pair::refused_after))]
 fn check_refused(reader: &mut Reader<'_>, lent: Lent, pressed: Pressed, state: State)
-    ensures stage { (at next : ℕ) → stage_of reader.new.at state ≡ refused_after reader.old.line.now reader.old.at (lent_of lent next) (answer_of pressed.answer) (session_of pressed.session) (stage_of at state) }
+    ensures stage { (at next : ℕ) → stage_of reader.new.at state ≡ refused_after reader.old.line.now reader.old.at (lent_read lent next) (answer_of pressed.answer) (session_of pressed.session) (stage_of at state) }
     ensures line { reader.new.line ≡ reader.old.line }
 {
     let old = state.session;
@@ -193,7 +193,7 @@ fn check_counted(
     pressed: Pressed,
     state: State,
 ) -> State
-    ensures stage { (at : ℕ) → stage_of reader.new.at result ≡ counted_after (verdict_of verdict) spent position terms (lent_of lent reader.old.at) (answer_of pressed.answer) (session_of pressed.session) (stage_of at state) }
+    ensures stage { (at : ℕ) → stage_of reader.new.at result ≡ counted_after (verdict_of verdict) spent position terms (lent_read lent reader.old.at) (answer_of pressed.answer) (session_of pressed.session) (stage_of at state) }
     ensures line { reader.new.line ≡ reader.old.line }
 {
     let session = pressed.session;
@@ -306,6 +306,7 @@ fn steps(reader: &mut Reader<'_>, left: &mut [u32], right: &mut [u32], start: St
     ensures { ended_of result left.new right.new ≡ steps_from (length reader.old.line.now) reader.old.line.now (stepped_of (stage_of reader.old.at start) left.old right.old) }
 {
     let mut state = start;
+    // As many turns as the line has bytes, as `steps_from` counts them: each goes on by a byte or more.
     for _ in 0..reader.line.len() {
         state = step(reader, left, right, state);
         if reader.line.len() <= reader.at {

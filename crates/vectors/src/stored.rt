@@ -35,7 +35,8 @@ pub fn refuses(reader: &mut Reader<'_>, answer: Result<usize, Refusal>, lent: &[
     let Err(refusal) = answer else {
         return false;
     };
-    (refusal.number() == reader.number()) & reader.ends() & filled(lent, JUNK)
+    let named = reader.number() == refusal.number();
+    named & reader.ends() & filled(lent, JUNK)
 }
 
 // A word of the chain's table. The header differs from an abstraction over the next record in the second word alone.
@@ -164,6 +165,7 @@ fn loads(reader: &mut Reader<'_>, table: &[u32], workspace: &mut [u32]) -> bool
 {
     let answer = load(table, workspace);
     let term = brings(reader, answer, workspace);
+    // A refusal brings no words, and no term has none.
     if term.count == 0 {
         return term.equal & reader.ends();
     }

@@ -99,6 +99,7 @@ pub fn tally_all(text: &[u8]) -> Tally
     let mut vectors = 0;
     let mut passed = 0;
     let mut at = 0;
+    // As many turns as the text has bytes, as `tally_all` counts them: a line has a newline, or is the last.
     for _ in 0..text.len() {
         if text.len() <= at {
             break;

@@ -14,7 +14,7 @@ fn moved(index: u32, distance: i32) -> u32
     requires { Moves distance index }
     ensures { result ≡ move distance index }
 {
-    (index as i64 + distance as i64) as u32
+    (i64::from(index) + i64::from(distance)) as u32
 }
 
 // The distance up by so many binders, and down. By `as`: the bound makes it exact, and `try_from` would answer a Result that is never an Err.

@@ -3,7 +3,7 @@ ghost use Rattle.std.specs.Prelude.{◌≡◌, length};
 ghost use Rattle.walk.specs.Scopes.{Enters, entered};
 
 // Where a walk stands: how many items come next, under how many binders, and from where on its room holds the scopes that were left with items. They are a
-// stack in a lent slice, of one word each: the unit has no heap.
+// stack of one word each in a slice, since what is lent for it may be the scratch, which C lends.
 #[derive(Clone, Copy)]
 pub struct Scope {
     pub pending: usize,

@@ -11,7 +11,7 @@ pub enum Kind {
     Case = 4,
     Branch = 5,
     Numeral = 6,
-    // No kind's number.
+    // No kind's number, which every number above the kinds' is taken for.
     Unassigned = 7,
 }
 

@@ -1,9 +1,9 @@
-// The word of a term: payload × 8 + kind ("Terms and words"), and where an item ends. The constants of `Word` are the only places of the code where
-// the kinds and the upper limits of the word rules stand as numbers.
+// The word of a term: payload × 8 + kind ("Terms and words"), and where an item ends. The numbers of the kinds
+// stand in `kind.rt`, the upper limits of the word rules in the constants of `Word`, and nowhere else in the code.
 #![tactic(auto)]
 
 ghost use Rattle.std.specs.Prelude.{◌≡◌, ◌++◌, ◌≤◌, ◌<◌, ◌+◌, ◌-◌, length, take, drop, replicate};
-ghost use Rattle.calculus.specs.Words.{variable_kind, abstraction_kind, application_kind, constructor_kind, case_kind, branch_kind, numeral_kind, workspace_least, workspace_most, library_words, kind_base, count_base};
+ghost use Rattle.calculus.specs.Words.{workspace_least, workspace_most, library_words, kind_base, count_base};
 ghost use Rattle.calculus.specs.Words.{word, kind_of, payload_of, tag_of, count_of};
 ghost use Rattle.calculus.specs.Accepted.{tag_limit, argument_limit, branch_limit, free_limit, numeral_limit, index_limit};
 ghost use Rattle.calculus.specs.Skip.{arity, span};
@@ -104,7 +104,7 @@ impl Word {
     }
 }
 
-// The end of the item that starts at a position.
+// The end of the item that starts at a position, in any slice of so many words, also in a part of a term: a type for these would ask more of who calls it.
 pub fn extent(ws: &[u32], at: usize) -> usize
     requires { length ws.now ≤ workspace_most }
     ensures { result ≡ at + span 1 (drop at ws.now) }
