@@ -4,7 +4,7 @@
 use request::INPUT_MOST;
 use verdict_text::PRINTED_MOST;
 
-// The streams that it reads and writes.
+// The streams that it reads and writes, by descriptor: the library's readers fill no array as far as an input goes, but a vector, which needs a heap.
 const STDIN: i32 = 0;
 
 const STDOUT: i32 = 1;
