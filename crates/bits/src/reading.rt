@@ -71,7 +71,7 @@ fn is_one(bytes: &[u8], at: usize) -> bool
     ensures { result ≡ get_or (unpacked bytes.now) at false }
 {
     let below = (BYTE_BITS - 1 - at % BYTE_BITS) as u32;
-    (bytes[at / BYTE_BITS] as u32 >> below) % 2 == 1
+    (u32::from(bytes[at / BYTE_BITS]) >> below) % 2 == 1
 }
 
 // What the bits from a position on and before an end start with: nothing where they end early.

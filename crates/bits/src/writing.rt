@@ -14,7 +14,7 @@ fn put_in_byte(bytes: &mut [u8], at: usize, count: usize)
 {
     let before = (at % BYTE_BITS) as u32;
     let ones = (256u32 >> before) - (256u32 >> (before + count as u32));
-    let byte = bytes[at / BYTE_BITS] as u32 + ones;
+    let byte = u32::from(bytes[at / BYTE_BITS]) + ones;
     bytes[at / BYTE_BITS] = byte as u8;
 }
 

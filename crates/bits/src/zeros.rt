@@ -6,11 +6,11 @@ ghost use Rattle.encoding.specs.Encoded.{all_zero};
 
 use crate::BYTE_BITS;
 
-// Whether every byte from a position on is 0.
-fn zero_from(bytes: &[u8], from: usize) -> bool
-    ensures { result ≡ list_all (λ b. b == 0) (drop from bytes.now) }
+// Whether every byte is 0.
+fn are_zero(bytes: &[u8]) -> bool
+    ensures { result ≡ list_all (λ b. b == 0) bytes.now }
 {
-    bytes.iter().skip(from).all(|b| *b == 0)
+    bytes.iter().all(|b| *b == 0)
 }
 
 // Whether so many bits are lent, and every one past them is 0.
@@ -21,7 +21,8 @@ pub fn is_padded(bytes: &[u8], bits: usize) -> bool
     let rest = bits % BYTE_BITS;
     match bytes.get(whole) {
         // The bits of the byte past the first `rest` are its value below this power of two.
-        Some(byte) => *byte as u32 % (256u32 >> rest as u32) == 0 && zero_from(bytes, whole + 1),
+        Some(byte) => u32::from(*byte) % (256u32 >> rest as u32) == 0
+            && are_zero(&bytes[whole + 1..]),
         None => whole == bytes.len() && rest == 0,
     }
 }

@@ -3,4 +3,4 @@ use Rattle.bits.proofs.WindowLaws.{bit_at}
 use Rattle.bits.proofs.reading.is_one.Goals as goal
 
 pub returns : goal.returns
-returns c = bit_at c.args.at c.args.bytes.now c.requires
+returns c = rw c.from.ensures (bit_at c.args.at c.args.bytes.now c.requires)

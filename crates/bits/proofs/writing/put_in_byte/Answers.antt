@@ -10,9 +10,9 @@ overflow_sub-ones c = added_least c.args.at c.args.count c.requires.at_bound.1
 pub overflow_cast-bytes : goal.overflow_cast-bytes
 overflow_cast-bytes c =
     let bytes_fit : AllBytes c.args.bytes.now = search rules in
-    record { fits = put_fits c.args.bytes.now c.args.at c.args.count c.requires.at_bound.0 c.requires.at_bound.1 c.requires.rest_zero bytes_fit }
+    record { fits = rw c.from.ensures (put_fits c.args.bytes.now c.args.at c.args.count c.requires.at_bound.0 c.requires.at_bound.1 c.requires.rest_zero bytes_fit) }
 
 pub returns : goal.returns
 returns c =
     let bytes_fit : AllBytes c.args.bytes.now = search rules in
-    put_is c.args.bytes.now c.args.at c.args.count c.requires.at_bound.0 c.requires.at_bound.1 c.requires.rest_zero bytes_fit
+    rw c.from.ensures (put_is c.args.bytes.now c.args.at c.args.count c.requires.at_bound.0 c.requires.at_bound.1 c.requires.rest_zero bytes_fit)

@@ -1,20 +1,27 @@
 -- `is_padded` meets its contract.
-use Prim.Native.Nat.{◌/◌}
+use Prim.Native.Nat.{◌+◌, ◌/◌}
 use Rattle.bits.proofs.ZeroLaws.{padding_ends, padding_missing, padding_broken, padding_kept}
-use lib.ListN.{get_or}
-use mathlib.Core.Path.{◌≡◌, ◌∙◌}
+use lib.ListN.{length, get_or}
+use mathlib.Core.Path.{◌≡◌, ap, ◌∙◌}
+use Rattle.std.proofs.lemmas.Slice.{between_to_end}
+use Rattle.std.specs.List.{list_all}
+use lib.Dec.{eqb}
+use native.Mathlib.Omega.{arith}
 use borrow.Author.Rules.{rules}
 use Rattle.bits.proofs.zeros.is_padded.Goals as goal
 
-pub returns-then-byte-rest-eq0 : goal.returns-then-byte-rest-eq0
-returns-then-byte-rest-eq0 c =
-    let here : c.in-Some.byte.now ≡ get_or c.args.bytes.now (c.args.bits / 8) 0 = search rules in
-    c.zero_from.ensures ∙ padding_kept c.args.bytes.now c.args.bits (search rules) c.type_inv.bytes here c.if-byte-rest-eq0.true
+pub returns-then-from-rest-eq0 : goal.returns-then-from-rest-eq0
+returns-then-from-rest-eq0 c =
+    let xs = c.args.bytes.now in
+    let k = c.args.bits / 8 in
+    let here : c.from.result ≡ get_or xs k 0 = search rules in
+    let all = between_to_end xs (k + 1) (length xs) (omega arith) in
+    c.are_zero.ensures ∙ ap (list_all (λ b. eqb b 0)) all ∙ padding_kept xs c.args.bits (search rules) c.type_inv.bytes here c.if-from-rest-eq0.true
 
-pub returns-else-byte-rest-eq0 : goal.returns-else-byte-rest-eq0
-returns-else-byte-rest-eq0 c =
-    let here : c.in-Some.byte.now ≡ get_or c.args.bytes.now (c.args.bits / 8) 0 = search rules in
-    padding_broken c.args.bytes.now c.args.bits (search rules) c.type_inv.bytes here c.if-byte-rest-eq0.false
+pub returns-else-from-rest-eq0 : goal.returns-else-from-rest-eq0
+returns-else-from-rest-eq0 c =
+    let here : c.from.result ≡ get_or c.args.bytes.now (c.args.bits / 8) 0 = search rules in
+    padding_broken c.args.bytes.now c.args.bits (search rules) c.type_inv.bytes here c.if-from-rest-eq0.false
 
 pub returns-then-whole-bytes : goal.returns-then-whole-bytes
 returns-then-whole-bytes c = padding_ends c.args.bytes.now c.args.bits c.if-whole-bytes.true
