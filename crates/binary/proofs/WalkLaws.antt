@@ -2,15 +2,15 @@
 use Prim.Native.Nat.{ℕ, suc, ◌+◌, ◌*◌, ◌-◌, ◌≤◌, ◌<◌}
 use mathlib.Core.Path.{◌≡◌, refl, sym, ap, ◌∙◌}
 use mathlib.Core.Bool.{Bool, true, false, cond, ◌&&◌}
-use mathlib.Core.List.{List, [], ◌∷◌}
+use mathlib.Core.List.{List, [], ◌∷◌, ◌++◌, reverse}
+use Rattle.std.proofs.lemmas.List.{reverse-append, length-reverse, length-append}
 use native.Mathlib.Numerals.{add-one}
 use native.Mathlib.Omega.{arith}
 use borrow.Author.Tests.{eq-eqb, ne_eqb, lt-ltb, le-ltb}
 use lib.Dec.{eqb, ltb}
-use lib.ListN.{length, drop, get_or, set, length-drop, length-set, drop_of_length-le}
+use lib.ListN.{length, drop, get_or, length-drop}
 use lib.Seq.{drop-cons}
 use Rattle.calculus.specs.Words.{variable_kind, abstraction_kind, application_kind, word, kind_of, payload_of, workspace_most}
-use Rattle.words.proofs.PlacedLaws.{drop-set}
 use Rattle.binary.specs.Words.{are_combinators}
 
 -- The first word tells what the others are asked.
@@ -53,86 +53,75 @@ below_next : (b : ℕ) (ds : List ℕ) → Below b ds → Below (b + 1) ds
 below_next b [] h = tt
 below_next b (d ∷ ds) h = (omega (arith, h.0), below_next b ds h.1)
 
--- The walk stands at word i under so many binders, and the words from there on tell what all of them tell.
-pub record Walking (ws room₀ room : List ℕ) (i depth top : ℕ) : Type 0 where
-  pub tells : are_combinators (depth ∷ drop top room) (drop i ws) ≡ are_combinators (0 ∷ []) ws
-  pub within : top ≤ length room
-  pub few : length room ≤ top + i
-  pub below : Below i (depth ∷ drop top room)
-  pub same_length : length room ≡ length room₀
+-- The walk stands at word i under so many binders, with those around each argument that is to come, the next one last: the words from there on tell what all of
+-- them tell.
+pub record Walking (ws waiting : List ℕ) (i depth : ℕ) : Type 0 where
+  pub tells : are_combinators (depth ∷ reverse waiting) (drop i ws) ≡ are_combinators (0 ∷ []) ws
+  pub few : length waiting ≤ i
+  pub below : Below i (depth ∷ reverse waiting)
 
-pub walking_start : (ws room : List ℕ) → Walking ws room room 0 0 (length room)
-walking_start ws room =
-    let none : drop (length room) room ≡ [] = drop_of_length-le room {i = length room} (omega arith) in
-    record { tells = rw none; within = omega arith; few = omega arith; below = rw none (omega arith, tt); same_length = refl }
+reverse_more : (xs : List ℕ) (x : ℕ) → reverse (xs ++ x ∷ []) ≡ x ∷ reverse xs
+reverse_more xs x = rw reverse-append
 
-module _ {ws room₀ room : List ℕ} {i depth top : ℕ} (v : Walking ws room₀ room i depth top) where
-  module _ (more : i < length ws) where
-    abbrev w : ℕ
-    w = get_or ws i 0
+pub walking_start : (ws : List ℕ) → Walking ws [] 0 0
+walking_start ws = record { tells = refl; few = omega arith; below = (omega arith, tt) }
 
-    told : are_combinators (depth ∷ drop top room) (w ∷ drop (suc i) ws) ≡ are_combinators (0 ∷ []) ws
-    told = ap (are_combinators (depth ∷ drop top room)) (sym (drop-cons ws i 0 more)) ∙ v.tells
+module _ {ws waiting : List ℕ} {i depth : ℕ} (v : Walking ws waiting i depth) (more : i < length ws) where
+  abbrev w : ℕ
+  w = get_or ws i 0
 
-    module _ (e : kind_of w ≡ variable_kind) where
-      pub walking_free : depth ≤ payload_of w → false ≡ are_combinators (0 ∷ []) ws
-      walking_free h =
-          sym (at_variable depth w (drop top room) (drop (suc i) ws) e ∙ ap (λ b. b && are_combinators (drop top room) (drop (suc i) ws)) (le-ltb (payload_of w) depth h)) ∙ told
+  told : are_combinators (depth ∷ reverse waiting) (w ∷ drop (suc i) ws) ≡ are_combinators (0 ∷ []) ws
+  told = ap (are_combinators (depth ∷ reverse waiting)) (sym (drop-cons ws i 0 more)) ∙ v.tells
 
-      module _ (bound : payload_of w < depth) where
-        others_told : are_combinators (drop top room) (drop (suc i) ws) ≡ are_combinators (0 ∷ []) ws
-        others_told =
-            sym (at_variable depth w (drop top room) (drop (suc i) ws) e ∙ ap (λ b. b && are_combinators (drop top room) (drop (suc i) ws)) (lt-ltb (payload_of w) depth bound)) ∙ told
+  module _ (e : kind_of w ≡ variable_kind) where
+    pub walking_free : depth ≤ payload_of w → false ≡ are_combinators (0 ∷ []) ws
+    walking_free h =
+        sym (at_variable depth w (reverse waiting) (drop (suc i) ws) e ∙ ap (λ b. b && are_combinators (reverse waiting) (drop (suc i) ws)) (le-ltb (payload_of w) depth h)) ∙ told
 
-        -- No argument is to come.
-        pub walking_last : top ≡ length room → eqb (i + 1) (length ws) ≡ are_combinators (0 ∷ []) ws
-        walking_last z =
-            let none : drop top room ≡ [] = drop_of_length-le room {i = top} (omega arith) in
-            go (drop (suc i) ws) (length-drop (suc i) ws) (ap (λ ds. are_combinators ds (drop (suc i) ws)) (sym none) ∙ others_told)
-          where
-            go : (rest : List ℕ) → length rest ≡ length ws - suc i → are_combinators [] rest ≡ are_combinators (0 ∷ []) ws → eqb (i + 1) (length ws) ≡ are_combinators (0 ∷ []) ws
-            go [] l q = eq-eqb (i + 1) (length ws) (omega (arith, l, more)) ∙ q
-            go (x ∷ xs) l q = ne_eqb (i + 1) (length ws) (λ n. omega (arith, l, n)) ∙ q
+    module _ (bound : payload_of w < depth) where
+      others_told : are_combinators (reverse waiting) (drop (suc i) ws) ≡ are_combinators (0 ∷ []) ws
+      others_told =
+          sym (at_variable depth w (reverse waiting) (drop (suc i) ws) e ∙ ap (λ b. b && are_combinators (reverse waiting) (drop (suc i) ws)) (lt-ltb (payload_of w) depth bound)) ∙ told
 
-        pub walking_pops : (top ≡ length room → ⊥) → Walking ws room₀ room (i + 1) (get_or room top 0) (top + 1)
-        walking_pops n =
-            let come : drop top room ≡ get_or room top 0 ∷ drop (suc top) room = drop-cons room top 0 (omega (arith, v.within, n)) in
-            record {
-              tells = rw (add-one i, add-one top, ← come) others_told;
-              within = omega (arith, v.within, n);
-              few = omega (arith, v.few);
-              below = rw (add-one top) (rw come at (below_next i (drop top room) v.below.1));
-              same_length = v.same_length;
-            }
+      -- No argument is to come.
+      pub walking_last : waiting ≡ [] → eqb (i + 1) (length ws) ≡ are_combinators (0 ∷ []) ws
+      walking_last z = go (drop (suc i) ws) (length-drop (suc i) ws) (ap (λ ds. are_combinators (reverse ds) (drop (suc i) ws)) (sym z) ∙ others_told)
+        where
+          go : (rest : List ℕ) → length rest ≡ length ws - suc i → are_combinators [] rest ≡ are_combinators (0 ∷ []) ws → eqb (i + 1) (length ws) ≡ are_combinators (0 ∷ []) ws
+          go [] l q = eq-eqb (i + 1) (length ws) (omega (arith, l, more)) ∙ q
+          go (x ∷ xs) l q = ne_eqb (i + 1) (length ws) (λ n. omega (arith, l, n)) ∙ q
 
-    pub walking_under : w ≡ word abstraction_kind 0 → Walking ws room₀ room (i + 1) (depth + 1) top
-    walking_under e =
-        record {
-          tells = rw (add-one i, add-one depth) (sym (at-abstraction depth w (drop top room) (drop (suc i) ws) e) ∙ told);
-          within = v.within;
-          few = omega (arith, v.few);
-          below = (omega (arith, v.below.0), below_next i (drop top room) v.below.1);
-          same_length = v.same_length;
-        }
-
-    module _ (e : w ≡ word application_kind 0) where
-      both_told : are_combinators (depth ∷ depth ∷ drop top room) (drop (suc i) ws) ≡ are_combinators (0 ∷ []) ws
-      both_told = sym (at-application depth w (drop top room) (drop (suc i) ws) e) ∙ told
-
-      -- More terms are to come than there are words left.
-      pub walking_full : length ws ≤ workspace_most → workspace_most ≤ 2 * length room₀ → top ≡ 0 → false ≡ are_combinators (0 ∷ []) ws
-      walking_full short roomy z =
-          sym (too_few (drop (suc i) ws) (depth ∷ depth ∷ drop top room) (omega (arith, length-drop (suc i) ws, length-drop top room, v.few, v.same_length))) ∙ both_told
-
-      pub walking_pushes : (top ≡ 0 → ⊥) → Walking ws room₀ (set room (top - 1) depth) (i + 1) depth (top - 1)
-      walking_pushes n =
-          let same = length-set room (top - 1) depth in
-          let back : suc (top - 1) ≡ top = omega (arith, n) in
-          let come : drop (top - 1) (set room (top - 1) depth) ≡ depth ∷ drop top room = drop-set room (top - 1) depth (omega (arith, n, v.within)) ∙ ap (λ k. depth ∷ drop k room) back in
+      pub walking_pops : (rest : List ℕ) (next : ℕ) → waiting ≡ rest ++ next ∷ [] → Walking ws rest (i + 1) next
+      walking_pops rest next is =
+          let come : reverse waiting ≡ next ∷ reverse rest = ap reverse is ∙ reverse_more rest next in
           record {
-            tells = rw (come, add-one i) both_told;
-            within = omega (arith, v.within, same);
-            few = omega (arith, v.few, same, n);
-            below = rw come (omega (arith, v.below.0), below_next i (depth ∷ drop top room) v.below);
-            same_length = same ∙ v.same_length;
+            tells = rw (add-one i, ← come) others_told;
+            few = omega (arith, v.few, ap length is, length-append rest (next ∷ []));
+            below = rw come at (below_next i (reverse waiting) v.below.1);
           }
+
+  pub walking_under : w ≡ word abstraction_kind 0 → Walking ws waiting (i + 1) (depth + 1)
+  walking_under e =
+      record {
+        tells = rw (add-one i, add-one depth) (sym (at-abstraction depth w (reverse waiting) (drop (suc i) ws) e) ∙ told);
+        few = omega (arith, v.few);
+        below = (omega (arith, v.below.0), below_next i (reverse waiting) v.below.1);
+      }
+
+  module _ (e : w ≡ word application_kind 0) where
+    both_told : are_combinators (depth ∷ depth ∷ reverse waiting) (drop (suc i) ws) ≡ are_combinators (0 ∷ []) ws
+    both_told = sym (at-application depth w (reverse waiting) (drop (suc i) ws) e) ∙ told
+
+    -- More terms are to come than there are words left.
+    pub walking_full : length ws ≤ workspace_most → workspace_most ≤ 2 * length waiting → false ≡ are_combinators (0 ∷ []) ws
+    walking_full short full =
+        sym (too_few (drop (suc i) ws) (depth ∷ depth ∷ reverse waiting) (omega (arith, length-drop (suc i) ws, length-reverse waiting, v.few))) ∙ both_told
+
+    pub walking_pushes : (after : List ℕ) → after ≡ waiting ++ depth ∷ [] → Walking ws after (i + 1) depth
+    walking_pushes after is =
+        let come : reverse after ≡ depth ∷ reverse waiting = ap reverse is ∙ reverse_more waiting depth in
+        record {
+          tells = rw (come, add-one i) both_told;
+          few = omega (arith, v.few, ap length is, length-append waiting (depth ∷ []));
+          below = rw come (omega (arith, v.below.0), below_next i (depth ∷ reverse waiting) v.below);
+        }
