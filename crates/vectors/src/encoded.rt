@@ -45,6 +45,7 @@ fn exports_back(workspace: &[u32], len: usize, count: usize, bytes: &[u32]) -> b
 }
 
 // Whether importing the bytes that these words are goes as the line says, to its end. A term that was brought is exported too.
+#[tactic(auto, unfolding(crate::specs::Encoded::importing, crate::specs::Encoded::imported_as))]
 fn imports(reader: &mut Reader<'_>, count: usize, words: &[u32], workspace: &mut [u32]) -> bool
     requires { length words.now ≤ list_most }
     ensures { verified_of result workspace.new ≡ importing reader.old.line.now reader.old.at count words.now workspace.old }

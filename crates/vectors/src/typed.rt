@@ -18,6 +18,7 @@ use vector_text::lent::lent;
 use vector_text::{LIST_MOST, Reader};
 
 // Whether reading the bytes that these words are goes as the line says, to its end.
+#[tactic(auto, unfolding(crate::specs::Typed::reading))]
 fn reads(reader: &mut Reader<'_>, words: &[u32], workspace: &mut [u32]) -> bool
     requires { length words.now ≤ list_most }
     ensures { verified_of result workspace.new ≡ reading reader.old.line.now reader.old.at words.now workspace.old }
