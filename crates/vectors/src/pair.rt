@@ -107,6 +107,7 @@ fn refuses(answer: Answer, number: u32) -> bool
     answer.is_err_and(|refusal| refusal.number() == number)
 }
 
+// A chain of tests, as in `passes`: a loop over names and verdicts would want an invariant for what each name before did not match.
 #[tactic(auto, unfolding(crate::specs::Pair::verdict_at))]
 fn read_verdict(reader: &mut Reader<'_>) -> Verdict
     ensures verdict { result ≡ (verdict_at reader.old.line.now reader.old.at).verdict }

@@ -21,17 +21,17 @@ returns-then-not-is_ascii_digit c =
     let ended = digits-stop _ from c.loop-byte.value c.loop-byte.end _ c.loop-byte-test.true _ refl (grind (arith, nat_tests)) in
     c.number_read.ensures ∙ sym ended ∙ c.loop-byte.invariant.ahead ∙ whole _ _ _ c.if-self.false c.past_space-from.ensures.0
 
-pub returns-then-value : goal.returns-then-value
-returns-then-value c =
+pub returns-then-value-from : goal.returns-then-value-from
+returns-then-value-from c =
     let from = c.past_space-from.result in
-    let ended = digits_over _ from c.loop-byte.value c.loop-byte.end _ c.loop-byte-test.true _ refl (grind (arith, nat_tests)) c.if-value.true in
-    c.number_read-then-value.ensures ∙ sym ended ∙ c.loop-byte.invariant.ahead ∙ whole _ _ _ c.if-self.false c.past_space-from.ensures.0
+    let ended = digits_over _ from c.loop-byte.value c.loop-byte.end _ c.loop-byte-test.true _ refl (grind (arith, nat_tests)) (omega (arith, c.from.ensures, c.if-value-from.true)) in
+    c.number_read-then-value-from.ensures ∙ sym ended ∙ c.loop-byte.invariant.ahead ∙ whole _ _ _ c.if-self.false c.past_space-from.ensures.0
 
 pub loop-byte-preserved : goal.loop-byte-preserved
 loop-byte-preserved c = record {
   place = omega arith;
   small = grind (arith, nat_tests);
-  ahead = sym (digits-next _ c.past_space-from.result c.loop-byte.value c.loop-byte.end _ c.loop-byte-test.true _ (grind (arith, nat_tests)) (grind (arith, nat_tests)) c.if-value.false) ∙ c.loop-byte.invariant.ahead;
+  ahead = sym (digits-next _ c.past_space-from.result c.loop-byte.value c.loop-byte.end _ c.loop-byte-test.true _ (grind (arith, nat_tests)) (grind (arith, nat_tests)) (omega (arith, c.from.ensures, c.if-value-from.false))) ∙ c.loop-byte.invariant.ahead;
 }
 
 pub returns : goal.returns
