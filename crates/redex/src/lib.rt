@@ -23,7 +23,8 @@ pub enum Rule {
     Numeral(u32),
 }
 
-// A redex found once: its rule, where it starts, where the words start that stay behind the contractum, and the length of the next term.
+// A redex found once: its rule, where it starts, where the words start that stay behind the contractum, and the length of the next term. What it
+// promises is true of one workspace alone (`Plans`), so it is no invariant of the value.
 #[derive(Clone, Copy)]
 pub struct Redex {
     pub rule: Rule,

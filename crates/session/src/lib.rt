@@ -35,7 +35,7 @@ pub fn press(
     pressed.answer
 }
 
-// The same with the session by value: it is lent to the press above, and handed back. Both stay: docs/ARCHITECTURE.md names them.
+// The same with the session by value, and the same pieces as `press::press`: it is lent to the press above, and handed back. Both stay: docs/ARCHITECTURE.md names them.
 pub fn press_owned(
     left: &mut [u32],
     right: &mut [u32],

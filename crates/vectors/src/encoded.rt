@@ -58,6 +58,7 @@ fn imports(reader: &mut Reader<'_>, count: usize, words: &[u32], workspace: &mut
     let answer = import(&bytes[..n], count, workspace);
     let term = brings(reader, answer, workspace);
     let ends = term.equal & reader.ends();
+    // A refusal brings no words, and no term has none.
     if term.count == 0 {
         return ends;
     }

@@ -11,7 +11,7 @@ pub enum Kind {
     Case = 4,
     Branch = 5,
     Numeral = 6,
-    // No kind's number, which every number above the kinds' is taken for.
+    // No kind's number, which every number above the kinds' is taken for. It is no missing kind: `Word::new` makes a word of it too.
     Unassigned = 7,
 }
 
