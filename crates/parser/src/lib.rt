@@ -141,6 +141,7 @@ fn on_backslash(s: Scan, out: &mut [u32]) -> Option<Scan>
 }
 
 // An opening parenthesis in front of an item: the term that starts there is whole, and an item of the term around, if there is one.
+// All four fields are new.
 #[tactic(auto, unfolding(notation::specs::Reader::on_begun, notation::specs::Reader::popped))]
 fn on_opening(s: Scan, stack: &[usize], out: &mut [u32]) -> Option<Scan>
     requires { (s.count < s.at) × (s.at ≤ length out.old) × (s.top ≤ length stack.now) }

@@ -46,7 +46,7 @@ fn chain_fits(table: &Table, link: usize, branches: bool) -> bool
         .all(|child| may_stand(table, child, branches))
 }
 
-// Whether the chain of children of a record of this kind has terms and branches where they belong.
+// Whether the chain of children of a record of this kind has terms and branches where they belong. A subject is read only where there is one.
 fn sorts_fit(table: &Table, kind: u32, link: usize) -> bool
     requires { Walkable (stored_of table.now) link }
     ensures { result ≡ sorts_fit kind (chain_from (viewed_of table.now) link) }
@@ -84,6 +84,7 @@ pub fn wrong_children(table: &Table) -> bool
     requires { Walkable (stored_of table.now) (viewed_of table.now).root × (1 ≤ (viewed_of table.now).root) }
     ensures { result ≡ wrong_children (viewed_of table.now) }
 {
+    // The root is read only where every record fits.
     if !table.indices().all(|i| record_fits(table, i)) {
         return true;
     }

@@ -10,6 +10,7 @@ pub fn wrong_length(table: &Table) -> bool
     ensures { result ≡ wrong_length (stored_of table.now) }
 {
     let words = table.form.words();
+    // The header is read only where there is one.
     if table.words.len() < words {
         return true;
     }

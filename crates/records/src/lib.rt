@@ -43,7 +43,7 @@ impl Form {
         }
     }
 
-    // Whether the header is one of this form, n and the root's index aside.
+    // Whether the header is one of this form, n and the root's index aside. It takes words as `put_header` and `Record::put` do, which write: a `Table` is to read.
     pub fn header_fits(self, table: &[u32]) -> bool
         requires { Inside (stored self table.now) 0 }
         ensures { result ≡ (form_of self).header_fits table.now }

@@ -22,7 +22,7 @@ fn kind_fits(kind: u32, value: u32) -> bool
     }
 }
 
-// Whether a record of this kind may have so many children.
+// Whether a record of this kind may have so many children. The kind is the table's word: a `Kind` would ask more of callers.
 pub fn number_fits(kind: u32, number: usize) -> bool
     ensures { result ≡ numberFits kind number }
 {

@@ -11,7 +11,8 @@ use arrayvec::ArrayVec;
 use frame::{Frame, ROOM};
 use words::Word;
 
-// Whether the first `n` words are one whole accepted term of at most as many words as a workspace has (refusal 10).
+// Whether the first `n` words are one whole accepted term of at most as many words as a workspace has (refusal 10). A number
+// above the slice's length is answered too, so a shorter slice in place of both would ask more.
 pub fn is_term(ws: &[u32], n: usize) -> bool
     ensures { result ≡ is_term ws.now n }
 {

@@ -61,7 +61,7 @@ pub struct Lent {
     pub right: usize,
 }
 
-// Reading goes on after a test that passed.
+// Reading goes on after a test that passed. A reader is lent by `&mut`, so each contract here says that its line stays.
 fn go_on_if(reader: &mut Reader<'_>, passed: bool)
     ensures { reader.new ≡ record reader.old { at = only_if passed reader.old.at } }
 {

@@ -9,7 +9,8 @@ ghost use Rattle.walk.specs.Rewritten.{shifting, rewritten, argument_at};
 use words::Word;
 use words::kind::Kind;
 
-// The index moved by a signed distance: their sum as integers. No other code adds to an index or takes from it.
+// The index moved by a signed distance: their sum as integers. No other code adds to an index or takes from it. Back by `as`: `Moves` says
+// that it fits.
 fn moved(index: u32, distance: i32) -> u32
     requires { Moves distance index }
     ensures { result ≡ move distance index }

@@ -13,7 +13,8 @@ pub fn store(ws: &mut [u32], at: usize, word: u32)
     }
 }
 
-// Puts a word into every place from a position to an end: `fill` of the part, by the equation that its callers want.
+// Puts a word into every place from a position to an end: `fill` of the part, by the equation that its callers want. Over u32: with
+// `T: Copy` alone std's `fill` does not say that a clone is the value.
 pub fn fill(ws: &mut [u32], from: usize, to: usize, word: u32)
     requires { (from ≤ to) × (to ≤ length ws.old) }
     ensures { ws.new ≡ sets ws.old from (replicate (to - from) word) }
