@@ -6,7 +6,7 @@ ghost use Rattle.records.specs.Preconditions.{Walkable};
 
 use crate::values::number_fits;
 use crate::{Record, Table};
-use words::kind::Kind;
+use words::Word;
 
 // How many records a chain has.
 pub fn chain_length(table: &Table, link: usize) -> usize
@@ -51,7 +51,7 @@ fn sorts_fit(table: &Table, kind: u32, link: usize) -> bool
     requires { Walkable (stored_of table.now) link }
     ensures { result ≡ sorts_fit kind (chain_from (viewed_of table.now) link) }
 {
-    if kind != Kind::Case as u32 {
+    if kind != Word::CASE {
         return chain_fits(table, link, false);
     }
     if link == 0 {

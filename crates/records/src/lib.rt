@@ -12,7 +12,6 @@ ghost use Rattle.records.specs.Types.{form_of, stored, stored_of, viewed_of, rec
 use chain::Chain;
 use std::ops::Range;
 use words::Word;
-use words::kind::Kind;
 use words::slices::copy;
 
 mod chain;
@@ -164,7 +163,7 @@ impl Record {
     pub fn is_branch(self) -> bool
         ensures { result ≡ is_branch (record_of self) }
     {
-        self.kind == Kind::Branch as u32
+        self.kind == Word::BRANCH
     }
 
     // The tag of a branch.

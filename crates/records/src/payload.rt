@@ -35,5 +35,5 @@ pub fn word(kind: u32, value: u32, children: usize) -> Word
     requires { Wordable kind value children }
     ensures { result.0 ≡ word kind (payload kind value children) }
 {
-    Word(payload(kind, value, children) * Word::KIND_BASE + kind)
+    Word::packed(kind, payload(kind, value, children))
 }

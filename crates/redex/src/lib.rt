@@ -13,7 +13,7 @@ use words::kind::Kind;
 use words::{Word, extent, skip};
 
 // The word of variable 0.
-const VARIABLE: u32 = Kind::Variable as u32;
+const VARIABLE: u32 = Word::VARIABLE;
 
 // The rule by which a redex contracts, with what it puts: a body with its arguments, or the entry of a numeral.
 #[derive(Clone, Copy)]

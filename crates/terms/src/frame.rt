@@ -141,5 +141,5 @@ fn enter_branch(word: Word, depth: u32, least: u32) -> Option<Frame>
 fn pattern_from(word: Word, least: u32) -> bool
     ensures { result ≡ (leb least (tag_of (payload_of word.0)) && payload_fits branch_kind (payload_of word.0)) }
 {
-    least <= word.tag() && payload_fits(Kind::Branch as u32, word.payload())
+    least <= word.tag() && payload_fits(Word::BRANCH, word.payload())
 }

@@ -1,18 +1,20 @@
-// The kinds of words, each with its number.
+// The kinds of words by name, each with the number that `Word` gives it.
 ghost use Rattle.std.specs.Prelude.{◌≡◌};
 ghost use Rattle.words.specs.Types.{kind_for};
 
+use crate::Word;
+
 #[derive(Clone, Copy, PartialEq, Eq)]
 pub enum Kind {
-    Variable = 0,
-    Abstraction = 1,
-    Application = 2,
-    Constructor = 3,
-    Case = 4,
-    Branch = 5,
-    Numeral = 6,
+    Variable = Word::VARIABLE as isize,
+    Abstraction = Word::ABSTRACTION as isize,
+    Application = Word::APPLICATION as isize,
+    Constructor = Word::CONSTRUCTOR as isize,
+    Case = Word::CASE as isize,
+    Branch = Word::BRANCH as isize,
+    Numeral = Word::NUMERAL as isize,
     // No kind's number, which every number above the kinds' is taken for. It is no missing kind: `Word::new` makes a word of it too.
-    Unassigned = 7,
+    Unassigned,
 }
 
 impl From<u32> for Kind {
@@ -21,20 +23,20 @@ impl From<u32> for Kind {
     // Tested in this order the kinds cost less than a jump by a table of all, and where a `match` goes over the names the compiler takes each test
     // straight to its arm.
     fn from(number: u32) -> Self {
-        if number == Kind::Variable as u32 {
+        if number == Word::VARIABLE {
             return Kind::Variable;
         }
-        if number < Kind::Constructor as u32 {
-            if number == Kind::Abstraction as u32 {
+        if number < Word::CONSTRUCTOR {
+            if number == Word::ABSTRACTION {
                 return Kind::Abstraction;
             }
             return Kind::Application;
         }
         match number {
-            3 => Kind::Constructor,
-            4 => Kind::Case,
-            5 => Kind::Branch,
-            6 => Kind::Numeral,
+            Word::CONSTRUCTOR => Kind::Constructor,
+            Word::CASE => Kind::Case,
+            Word::BRANCH => Kind::Branch,
+            Word::NUMERAL => Kind::Numeral,
             _ => Kind::Unassigned,
         }
     }

@@ -1,9 +1,9 @@
-// The word of a term: payload × 8 + kind ("Terms and words"), and where an item ends. The numbers of the kinds
-// stand in `kind.rt`, the upper limits of the word rules in the constants of `Word`, and nowhere else in the code.
+// The word of a term: payload × 8 + kind ("Terms and words"), and where an item ends. The constants of `Word` are the only places of the code where
+// the kinds and the upper limits of the word rules stand as numbers.
 #![tactic(auto)]
 
 ghost use Rattle.std.specs.Prelude.{◌≡◌, ◌++◌, ◌≤◌, ◌<◌, ◌+◌, ◌-◌, length, take, drop, replicate};
-ghost use Rattle.calculus.specs.Words.{workspace_least, workspace_most, library_words, kind_base, count_base};
+ghost use Rattle.calculus.specs.Words.{variable_kind, abstraction_kind, application_kind, constructor_kind, case_kind, branch_kind, numeral_kind, workspace_least, workspace_most, library_words, kind_base, count_base};
 ghost use Rattle.calculus.specs.Words.{word, kind_of, payload_of, tag_of, count_of};
 ghost use Rattle.calculus.specs.Accepted.{tag_limit, argument_limit, branch_limit, free_limit, numeral_limit, index_limit};
 ghost use Rattle.calculus.specs.Skip.{arity, span};
@@ -24,6 +24,21 @@ pub mod workspace;
 pub struct Word(pub u32);
 
 impl Word {
+    // The kinds.
+    pub const VARIABLE: u32 = 0;
+
+    pub const ABSTRACTION: u32 = 1;
+
+    pub const APPLICATION: u32 = 2;
+
+    pub const CONSTRUCTOR: u32 = 3;
+
+    pub const CASE: u32 = 4;
+
+    pub const BRANCH: u32 = 5;
+
+    pub const NUMERAL: u32 = 6;
+
     // A payload stands above the kind, a tag above a count.
     pub const KIND_BASE: u32 = 8;
 
@@ -56,7 +71,15 @@ impl Word {
         requires { payload < payload_bound }
         ensures { result.0 ≡ word (kind_number kind) payload }
     {
-        Word(payload * Word::KIND_BASE + kind as u32)
+        Word::packed(kind as u32, payload)
+    }
+
+    // The same by the kind's number, for a word that is made of a record: the record has the number.
+    pub fn packed(kind: u32, payload: u32) -> Self
+        requires { (kind < kind_base) × (payload < payload_bound) }
+        ensures { result.0 ≡ word kind payload }
+    {
+        Word(payload * Word::KIND_BASE + kind)
     }
 
     pub fn kind(self) -> Kind
@@ -92,7 +115,7 @@ impl Word {
         ensures { result ≡ arity self.0 }
     {
         let number = self.0 % Word::KIND_BASE;
-        if number < Kind::Constructor as u32 {
+        if number < Word::CONSTRUCTOR {
             return number as usize;
         }
         match Kind::from(number) {
@@ -137,6 +160,13 @@ pub fn clear(ws: &mut [u32], from: usize)
 
 // Does nothing. Its contract says that each constant is the number that the calculus gives its name.
 fn constants()
+    ensures variable { Word.VARIABLE ≡ variable_kind }
+    ensures abstraction { Word.ABSTRACTION ≡ abstraction_kind }
+    ensures application { Word.APPLICATION ≡ application_kind }
+    ensures constructor { Word.CONSTRUCTOR ≡ constructor_kind }
+    ensures case { Word.CASE ≡ case_kind }
+    ensures branch { Word.BRANCH ≡ branch_kind }
+    ensures numeral { Word.NUMERAL ≡ numeral_kind }
     ensures kind_base { Word.KIND_BASE ≡ kind_base }
     ensures count_base { Word.COUNT_BASE ≡ count_base }
     ensures workspace_least { Word.WORKSPACE_LEAST ≡ workspace_least }
