@@ -46,9 +46,9 @@ fn exports_back(workspace: &[u32], len: usize, count: usize, bytes: &[u32]) -> b
 
 // Whether importing the bytes that these words are goes as the line says, to its end. A term that was brought is exported too.
 #[tactic(auto, unfolding(crate::specs::Encoded::importing, crate::specs::Encoded::imported_as))]
-fn imports(reader: &mut Reader<'_>, count: usize, words: &[u32], workspace: &mut [u32]) -> bool
+fn imports(mut reader: Reader<'_>, count: usize, words: &[u32], workspace: &mut [u32]) -> bool
     requires { length words.now ≤ list_most }
-    ensures { verified_of result workspace.new ≡ importing reader.old.line.now reader.old.at count words.now workspace.old }
+    ensures { verified_of result workspace.new ≡ importing reader.entry.line.now reader.entry.at count words.now workspace.old }
 {
     if !are_bytes(words) {
         return false;
@@ -56,7 +56,7 @@ fn imports(reader: &mut Reader<'_>, count: usize, words: &[u32], workspace: &mut
     let mut bytes = [0u8; LIST_MOST];
     let n = narrow(words, &mut bytes);
     let answer = import(&bytes[..n], count, workspace);
-    let term = brings(reader, answer, workspace);
+    let term = brings(&mut reader, answer, workspace);
     let ends = term.equal & reader.ends();
     // A refusal brings no words, and no term has none.
     if term.count == 0 {
@@ -66,8 +66,8 @@ fn imports(reader: &mut Reader<'_>, count: usize, words: &[u32], workspace: &mut
 }
 
 // Whether a line is right, from its size on.
-pub fn import_holds(reader: &mut Reader<'_>) -> bool
-    ensures { result ≡ import_holds reader.old.line.now reader.old.at }
+pub fn import_holds(mut reader: Reader<'_>) -> bool
+    ensures { result ≡ import_holds reader.entry.line.now reader.entry.at }
 {
     let mut words = [0u32; LIST_MOST];
     let mut workspace = [JUNK; ROOM];
@@ -81,8 +81,8 @@ pub fn import_holds(reader: &mut Reader<'_>) -> bool
 
 // Whether what exporting answered and wrote is what the line says, to its end.
 #[tactic(auto, unfolding(crate::specs::Encoded::exported_as))]
-fn exports(reader: &mut Reader<'_>, answer: Result<usize, Refusal>, encoded: &[u32]) -> bool
-    ensures { result ≡ exported_as reader.old.line.now reader.old.at (exported_of answer encoded.now) }
+fn exports(mut reader: Reader<'_>, answer: Result<usize, Refusal>, encoded: &[u32]) -> bool
+    ensures { result ≡ exported_as reader.entry.line.now reader.entry.at (exported_of answer encoded.now) }
 {
     if reader.take(b"Refused") {
         return refuses(reader, answer, encoded);
@@ -93,8 +93,8 @@ fn exports(reader: &mut Reader<'_>, answer: Result<usize, Refusal>, encoded: &[u
 }
 
 // The words in the workspace, then the length and the size that exporting gets.
-fn exports_words(reader: &mut Reader<'_>, workspace: &mut [u32]) -> bool
-    ensures { verified_of result workspace.new ≡ exports_words reader.old.line.now reader.old.at workspace.old }
+fn exports_words(mut reader: Reader<'_>, workspace: &mut [u32]) -> bool
+    ensures { verified_of result workspace.new ≡ exports_words reader.entry.line.now reader.entry.at workspace.old }
 {
     let mut encoded = [0u32; LIST_MOST];
     reader.list(workspace);
@@ -106,8 +106,8 @@ fn exports_words(reader: &mut Reader<'_>, workspace: &mut [u32]) -> bool
 }
 
 // Whether a line is right, from its size on.
-pub fn export_holds(reader: &mut Reader<'_>) -> bool
-    ensures { result ≡ export_holds reader.old.line.now reader.old.at }
+pub fn export_holds(mut reader: Reader<'_>) -> bool
+    ensures { result ≡ export_holds reader.entry.line.now reader.entry.at }
 {
     let mut workspace = [JUNK; ROOM];
     let c = reader.number();

@@ -61,7 +61,7 @@ pub struct Lent {
     pub right: usize,
 }
 
-// Reading goes on after a test that passed. A reader is lent by `&mut`, so each contract here says that its line stays.
+// Reading goes on after a test that passed. A reader that is lent by `&mut` goes on, and each contract says where, and that its line stays; where none goes on it is taken by value.
 fn go_on_if(reader: &mut Reader<'_>, passed: bool)
     ensures { reader.new ≡ record reader.old { at = only_if passed reader.old.at } }
 {
@@ -303,13 +303,13 @@ fn step(reader: &mut Reader<'_>, left: &mut [u32], right: &mut [u32], state: Sta
 }
 
 // Whether every call goes as the line says, to the line's end.
-fn steps(reader: &mut Reader<'_>, left: &mut [u32], right: &mut [u32], start: State) -> bool
-    ensures { ended_of result left.new right.new ≡ steps_from (length reader.old.line.now) reader.old.line.now (stepped_of (stage_of reader.old.at start) left.old right.old) }
+fn steps(mut reader: Reader<'_>, left: &mut [u32], right: &mut [u32], start: State) -> bool
+    ensures { ended_of result left.new right.new ≡ steps_from (length reader.entry.line.now) reader.entry.line.now (stepped_of (stage_of reader.entry.at start) left.old right.old) }
 {
     let mut state = start;
     // As many turns as the line has bytes, as `steps_from` counts them: each goes on by a byte or more.
     for _ in 0..reader.line.len() {
-        state = step(reader, left, right, state);
+        state = step(&mut reader, left, right, state);
         if reader.line.len() <= reader.at {
             return reader.ends();
         }
@@ -336,13 +336,13 @@ fn read_session(reader: &mut Reader<'_>) -> Session
 
 // The two terms, the session and the calls.
 #[tactic(auto, unfolding(crate::specs::Pair::pair_run))]
-fn run(reader: &mut Reader<'_>, left: &mut [u32], right: &mut [u32]) -> bool
-    ensures { ended_of result left.new right.new ≡ pair_run reader.old.line.now reader.old.at left.old right.old }
+fn run(mut reader: Reader<'_>, left: &mut [u32], right: &mut [u32]) -> bool
+    ensures { ended_of result left.new right.new ≡ pair_run reader.entry.line.now reader.entry.at left.old right.old }
 {
     let terms = reader.at;
     let left_length = reader.list(left);
     let right_length = reader.list(right);
-    let session = read_session(reader);
+    let session = read_session(&mut reader);
     let state = State {
         terms,
         left: left_length,
@@ -354,8 +354,8 @@ fn run(reader: &mut Reader<'_>, left: &mut [u32], right: &mut [u32]) -> bool
 }
 
 // Whether a line is right, from its sizes on.
-pub fn pair_holds(reader: &mut Reader<'_>) -> bool
-    ensures { result ≡ pair_holds reader.old.line.now reader.old.at }
+pub fn pair_holds(mut reader: Reader<'_>) -> bool
+    ensures { result ≡ pair_holds reader.entry.line.now reader.entry.at }
 {
     let mut left = [JUNK; ROOM];
     let mut right = [JUNK; ROOM];

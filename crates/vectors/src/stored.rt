@@ -28,9 +28,8 @@ pub fn returns_count(answer: Result<usize, Refusal>, count: usize) -> bool
 }
 
 // Whether the answer is the refusal that the line names last, and what was lent is still junk.
-pub fn refuses(reader: &mut Reader<'_>, answer: Result<usize, Refusal>, lent: &[u32]) -> bool
-    ensures holds { result ≡ refused_last reader.old.line.now reader.old.at (result_of answer) lent.now }
-    ensures line { reader.new.line ≡ reader.old.line }
+pub fn refuses(mut reader: Reader<'_>, answer: Result<usize, Refusal>, lent: &[u32]) -> bool
+    ensures { result ≡ refused_last reader.entry.line.now reader.entry.at (result_of answer) lent.now }
 {
     let Err(refusal) = answer else {
         return false;
@@ -88,8 +87,8 @@ fn read_table(reader: &mut Reader<'_>, table: &mut [u32]) -> usize
 
 // Whether these words are the list that comes next, and the line ends behind it.
 #[tactic(auto, unfolding(crate::specs::Stored::is_last))]
-pub fn is_last(reader: &mut Reader<'_>, words: &[u32]) -> bool
-    ensures { result ≡ is_last reader.old.line.now reader.old.at words.now }
+pub fn is_last(mut reader: Reader<'_>, words: &[u32]) -> bool
+    ensures { result ≡ is_last reader.entry.line.now reader.entry.at words.now }
 {
     let list = reader.compare(words, JUNK);
     list.equal & (list.count == words.len()) & reader.ends()
@@ -97,8 +96,8 @@ pub fn is_last(reader: &mut Reader<'_>, words: &[u32]) -> bool
 
 // Whether a written table is the one that the line names after `writes`, or else the one that was loaded.
 #[tactic(auto, unfolding(crate::specs::Stored::is_table))]
-fn is_table(reader: &mut Reader<'_>, written: &[u32], loaded: &[u32]) -> bool
-    ensures { result ≡ is_table reader.old.line.now reader.old.at written.now loaded.now }
+fn is_table(mut reader: Reader<'_>, written: &[u32], loaded: &[u32]) -> bool
+    ensures { result ≡ is_table reader.entry.line.now reader.entry.at written.now loaded.now }
 {
     if reader.take(b"writes") {
         return is_last(reader, written);
@@ -109,13 +108,13 @@ fn is_table(reader: &mut Reader<'_>, written: &[u32], loaded: &[u32]) -> bool
 // Whether writing goes as the line says, to the line's end.
 #[tactic(auto, unfolding(crate::specs::Stored::writes_into))]
 fn writes_into(
-    reader: &mut Reader<'_>,
+    mut reader: Reader<'_>,
     loaded: &[u32],
     workspace: &[u32],
     length: usize,
     table: &mut [u32],
 ) -> bool
-    ensures { verified_of result table.new ≡ writes_into reader.old.line.now reader.old.at loaded.now workspace.now length table.old }
+    ensures { verified_of result table.new ≡ writes_into reader.entry.line.now reader.entry.at loaded.now workspace.now length table.old }
 {
     let answer = write(workspace, length, table);
     if reader.take(b"Refused") {
@@ -125,8 +124,8 @@ fn writes_into(
 }
 
 // The same of a loaded term, into a table of junk as long as the one that was loaded.
-fn writes(reader: &mut Reader<'_>, loaded: &[u32], workspace: &[u32], length: usize) -> bool
-    ensures { result ≡ writes_back reader.old.line.now reader.old.at loaded.now workspace.now length }
+fn writes(reader: Reader<'_>, loaded: &[u32], workspace: &[u32], length: usize) -> bool
+    ensures { result ≡ writes_back reader.entry.line.now reader.entry.at loaded.now workspace.now length }
 {
     let mut table = [JUNK; LIST_MOST];
     let n = lent(loaded.len(), LIST_MOST);
@@ -146,7 +145,7 @@ pub fn brings(
     ensures next { reader.new ≡ record reader.old { at = (brought_as reader.old.line.now reader.old.at (brought_of answer workspace.now)).next } }
 {
     if reader.take(b"Refused") {
-        let equal = refuses(reader, answer, workspace);
+        let equal = refuses(*reader, answer, workspace);
         reader.at = reader.line.len();
         return Compared { equal, count: 0 };
     }
@@ -160,11 +159,11 @@ pub fn brings(
 
 // Whether loading and writing go as the line says after the table. A term that was brought is written too.
 #[tactic(auto, unfolding(crate::specs::Stored::loading, crate::specs::Stored::loaded_as))]
-fn loads(reader: &mut Reader<'_>, table: &[u32], workspace: &mut [u32]) -> bool
-    ensures { verified_of result workspace.new ≡ loading reader.old.line.now reader.old.at table.now workspace.old }
+fn loads(mut reader: Reader<'_>, table: &[u32], workspace: &mut [u32]) -> bool
+    ensures { verified_of result workspace.new ≡ loading reader.entry.line.now reader.entry.at table.now workspace.old }
 {
     let answer = load(table, workspace);
-    let term = brings(reader, answer, workspace);
+    let term = brings(&mut reader, answer, workspace);
     // A refusal brings no words, and no term has none.
     if term.count == 0 {
         return term.equal & reader.ends();
@@ -174,21 +173,21 @@ fn loads(reader: &mut Reader<'_>, table: &[u32], workspace: &mut [u32]) -> bool
 
 // Whether a line is right, from its size on. The workspace is set up in each such function: three lines, and one function that took what follows as a closure
 // would need a contract longer than they are.
-pub fn load_holds(reader: &mut Reader<'_>) -> bool
-    ensures { result ≡ load_holds reader.old.line.now reader.old.at }
+pub fn load_holds(mut reader: Reader<'_>) -> bool
+    ensures { result ≡ load_holds reader.entry.line.now reader.entry.at }
 {
     let mut table = [0u32; LIST_MOST];
     let mut workspace = [JUNK; ROOM];
     let c = reader.number();
-    let count = read_table(reader, &mut table);
+    let count = read_table(&mut reader, &mut table);
     let n = lent(count, LIST_MOST);
     let w = lent(c as usize, ROOM);
     loads(reader, &table[..n], &mut workspace[..w])
 }
 
 // The words in the workspace, then the length and the size that writing gets.
-fn writes_words(reader: &mut Reader<'_>, workspace: &mut [u32]) -> bool
-    ensures { verified_of result workspace.new ≡ writes_words reader.old.line.now reader.old.at workspace.old }
+fn writes_words(mut reader: Reader<'_>, workspace: &mut [u32]) -> bool
+    ensures { verified_of result workspace.new ≡ writes_words reader.entry.line.now reader.entry.at workspace.old }
 {
     let mut table = [JUNK; LIST_MOST];
     reader.list(workspace);
@@ -199,8 +198,8 @@ fn writes_words(reader: &mut Reader<'_>, workspace: &mut [u32]) -> bool
 }
 
 // Whether a line is right, from its size on.
-pub fn write_holds(reader: &mut Reader<'_>) -> bool
-    ensures { result ≡ write_holds reader.old.line.now reader.old.at }
+pub fn write_holds(mut reader: Reader<'_>) -> bool
+    ensures { result ≡ write_holds reader.entry.line.now reader.entry.at }
 {
     let mut workspace = [JUNK; ROOM];
     let c = reader.number();

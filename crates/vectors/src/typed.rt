@@ -19,9 +19,9 @@ use vector_text::{LIST_MOST, Reader};
 
 // Whether reading the bytes that these words are goes as the line says, to its end.
 #[tactic(auto, unfolding(crate::specs::Typed::reading))]
-fn reads(reader: &mut Reader<'_>, words: &[u32], workspace: &mut [u32]) -> bool
+fn reads(mut reader: Reader<'_>, words: &[u32], workspace: &mut [u32]) -> bool
     requires { length words.now ≤ list_most }
-    ensures { verified_of result workspace.new ≡ reading reader.old.line.now reader.old.at words.now workspace.old }
+    ensures { verified_of result workspace.new ≡ reading reader.entry.line.now reader.entry.at words.now workspace.old }
 {
     if !are_bytes(words) {
         return false;
@@ -29,13 +29,13 @@ fn reads(reader: &mut Reader<'_>, words: &[u32], workspace: &mut [u32]) -> bool
     let mut bytes = [0u8; LIST_MOST];
     let n = narrow(words, &mut bytes);
     let answer = read_line(&bytes[..n], workspace);
-    let term = brings(reader, answer, workspace);
+    let term = brings(&mut reader, answer, workspace);
     term.equal & reader.ends()
 }
 
 // Whether a line is right, from its size on.
-pub fn line_holds(reader: &mut Reader<'_>) -> bool
-    ensures { result ≡ line_holds reader.old.line.now reader.old.at }
+pub fn line_holds(mut reader: Reader<'_>) -> bool
+    ensures { result ≡ line_holds reader.entry.line.now reader.entry.at }
 {
     let mut words = [0u32; LIST_MOST];
     let mut workspace = [JUNK; ROOM];

@@ -23,22 +23,22 @@ fn passes(line: &[u8]) -> bool
 {
     let mut reader = Reader { line, at: 0 };
     if reader.take(b"pair") {
-        return pair_holds(&mut reader);
+        return pair_holds(reader);
     }
     if reader.take(b"load") {
-        return load_holds(&mut reader);
+        return load_holds(reader);
     }
     if reader.take(b"line") {
-        return line_holds(&mut reader);
+        return line_holds(reader);
     }
     if reader.take(b"import") {
-        return import_holds(&mut reader);
+        return import_holds(reader);
     }
     if reader.take(b"export") {
-        return export_holds(&mut reader);
+        return export_holds(reader);
     }
     reader.expect(b"write");
-    write_holds(&mut reader)
+    write_holds(reader)
 }
 
 // A vector's share. One that fails is printed.

@@ -12,7 +12,7 @@ pub loop-preserved : goal.loop-preserved
 loop-preserved c =
     let held = c.loop in
     let step = c.step-state in
-    let line = c.args.reader.now.line.now in
+    let line = c.args.reader.line.now in
     let before = stepped_of (stage_of held.reader.at held.state) held.left held.right in
     let after = stepped_of (stage_of step.new.reader.at step.result) step.new.left step.new.right in
     let same = step.ensures.line ∙ held.invariant.line in
@@ -30,7 +30,7 @@ pub returns-then-reader : goal.returns-then-reader
 returns-then-reader c =
     let held = c.loop in
     let step = c.step-state in
-    let line = c.args.reader.now.line.now in
+    let line = c.args.reader.line.now in
     let before = stepped_of (stage_of held.reader.at held.state) held.left held.right in
     let after = stepped_of (stage_of step.new.reader.at step.result) step.new.left step.new.right in
     let same = step.ensures.line ∙ held.invariant.line in
@@ -41,4 +41,4 @@ returns-then-reader c =
 pub returns : goal.returns
 returns c =
     let held = c.loop in
-    sym (steps_end c.args.reader.now.line.now (stepped_of (stage_of held.reader.at held.state) held.left held.right) _ (omega arith)) ∙ held.invariant.ahead
+    sym (steps_end c.args.reader.line.now (stepped_of (stage_of held.reader.at held.state) held.left held.right) _ (omega arith)) ∙ held.invariant.ahead

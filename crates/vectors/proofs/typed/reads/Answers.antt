@@ -9,7 +9,7 @@ use Rattle.vectors.proofs.typed.reads.Goals as goal
 pub returns : goal.returns
 unfolding reading
 returns c =
-    let reader = c.args.reader.now in
+    let reader = c.args.reader in
     rw (c.ends.ensures, c.brings-term.ensures.equal, c.brings-term.ensures.next, ← c.are_bytes.ensures, c.if-not-are_bytes.false)
     (ap (reading_of reader.line.now reader.at)
     (c.read_line-answer.ensures ∙ ap (λ bs. read_line bs c.args.workspace.now) (placed_start c.narrow-n.ensures (search rules))))
