@@ -19,8 +19,20 @@ pub fn is_combinator(words: &[u32]) -> bool
     let mut waiting: ArrayVec<u32, ROOM> = ArrayVec::new();
     for (i, w) in words.iter().enumerate() {
         let word = Word(*w);
-        match word.kind() {
-            Kind::Variable => {
+        // The two words that have no payload are asked for whole and first, which costs less than a kind and then its payload.
+        match word.0 {
+            Word::ABSTRACTION => depth += 1,
+            Word::APPLICATION => {
+                // Where the room is full, more are to come than there are words left.
+                if waiting.is_full() {
+                    return false;
+                }
+                waiting.push(depth);
+            }
+            _ => {
+                let Kind::Variable = word.kind() else {
+                    return false;
+                };
                 if depth <= word.payload() {
                     return false;
                 }
@@ -29,15 +41,6 @@ pub fn is_combinator(words: &[u32]) -> bool
                 };
                 depth = next;
             }
-            Kind::Abstraction if word.payload() == 0 => depth += 1,
-            Kind::Application if word.payload() == 0 => {
-                // Where the room is full, more are to come than there are words left.
-                if waiting.is_full() {
-                    return false;
-                }
-                waiting.push(depth);
-            }
-            _ => return false,
         }
     }
     false

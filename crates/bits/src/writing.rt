@@ -24,12 +24,13 @@ pub fn put_ones(bytes: &mut [u8], from: usize, count: usize)
     requires rest_zero { all_zero (drop from (unpacked bytes.old)) ≡ true }
     ensures { bytes.new ≡ packed (length bytes.old) (take from (unpacked bytes.old) ++ replicate count true) }
 {
-    let to = from + count;
     let mut at = from;
-    // By hand: a turn goes on by as many ones as its byte takes.
-    while at < to {
-        let ones = (to - at).min(BYTE_BITS - at % BYTE_BITS);
+    let mut left = count;
+    // By hand: a turn goes on by as many ones as its byte takes. By what is left, not up to an end: then the compiler sees that a single one is one turn.
+    while 0 < left {
+        let ones = left.min(BYTE_BITS - at % BYTE_BITS);
         put_in_byte(bytes, at, ones);
         at += ones;
+        left -= ones;
     }
 }

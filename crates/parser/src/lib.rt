@@ -31,10 +31,10 @@ pub const ROOM: usize = LINE_MOST + 1;
 pub enum Place {
     // One has to end here.
     Wanted,
-    // A number goes on: its value so far, and the worth of one more digit in front.
-    Number { value: u32, worth: u32 },
     // One starts here.
     Begun,
+    // A number goes on: its value so far, and the worth of one more digit in front. It stands last, so that the compiler asks for it last.
+    Number { value: u32, worth: u32 },
 }
 
 // What is known behind a byte. The words read so far are those of `out` from `at` on; `stack` from `top` on has the spaces of the terms around this one,

@@ -8,7 +8,7 @@ use mathlib.Core.List.{List, [], ◌∷◌}
 use mathlib.Core.Path.{◌≡◌, refl, sym}
 use native.Mathlib.Omega.{arith}
 use Rattle.binary.proofs.combinator.is_combinator.Goals as goal
-use Rattle.binary.proofs.combinator.is_combinator.Goals.{in-Variable+else-depth-payload+in-Some, in-Abstraction, in-Application+else-is_full}
+use Rattle.binary.proofs.combinator.is_combinator.Goals.{in_default+in-Variable+else-depth-payload+in-Some, in-1, in-2+else-is_full}
 
 no_items : (xs : List ℕ) → (false ≡ true → 0 < length xs) × (0 < length xs → false ≡ true) → xs ≡ []
 no_items [] h = refl
@@ -21,17 +21,17 @@ returns-in_default-pop c =
 
 pub returns-then-is_full : goal.returns-then-is_full
 returns-then-is_full c =
-    walking_full c.loop-i.invariant (omega arith) (omega (arith, c.in-Application.ensures)) c.requires
+    walking_full c.loop-i.invariant (omega arith) (omega arith) c.requires
     (omega (arith, eqb-true (length c.loop-i.waiting.items) 1024 (sym c.if-is_full.ensures.value)))
 
 pub loop-i-preserved : goal.loop-i-preserved
 loop-i-preserved c =
     let v = c.loop-i.invariant in
-    elim c.match-kind.branch [
-      | in-Variable+else-depth-payload+in-Some w ↦
+    elim c.match-word.branch [
+      | in_default+in-Variable+else-depth-payload+in-Some w ↦
           rw (w.waiting-is, w.depth-is)
           (walking_pops v (omega arith) (sym w.in-Variable.ensures) (omega (arith, w.payload.ensures, w.if-depth-payload.false)) w.pop.new.self.items w.in-Some.next w.in-Some.ensures.items)
-      | in-Abstraction w ↦ rw (w.waiting-is, w.depth-is) (walking_under v (omega arith) (omega (arith, w.in-Abstraction.ensures)))
-      | in-Application+else-is_full w ↦
-          rw (w.waiting-is, w.depth-is) (walking_pushes v (omega arith) (omega (arith, w.in-Application.ensures)) _ w.push.ensures.items)
+      | in-1 w ↦ rw (w.waiting-is, w.depth-is) (walking_under v (omega arith) (omega arith))
+      | in-2+else-is_full w ↦
+          rw (w.waiting-is, w.depth-is) (walking_pushes v (omega arith) (omega arith) _ w.push.ensures.items)
     ]
