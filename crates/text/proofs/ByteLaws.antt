@@ -13,7 +13,7 @@ use borrow.Author.Tests.{ltb-true}
 use Rattle.words.specs.Placed.{Placed}
 use Rattle.text.specs.Bytes.{byte_base, are_bytes}
 
-byte_first : (ws : List ℕ) (i : ℕ) → i < length ws → (ltb (get_or ws i 0) byte_base && are_bytes (drop (i + 1) ws)) ≡ are_bytes (drop i ws)
+pub byte_first : (ws : List ℕ) (i : ℕ) → i < length ws → (ltb (get_or ws i 0) byte_base && are_bytes (drop (i + 1) ws)) ≡ are_bytes (drop i ws)
 unfolding are_bytes
 byte_first ws i h = rw (add-one i, drop-cons ws i 0 h)
 
