@@ -647,8 +647,10 @@ fn a_reader_that_has_gone_is_not_told() {
     for arguments in [&["0", "0"][..], &["--help"]] {
         let mut reader = Command::new("true").stdin(Stdio::piped()).spawn();
         let reader = reader.as_mut().expect("true runs");
-        let pipe = reader.stdin.take().expect("standard input is piped");
+        let mut pipe = reader.stdin.take().expect("standard input is piped");
         reader.wait().expect("true ends");
+        // Until nobody can read: a process that another test starts has the reading end until it runs its own program.
+        while pipe.write_all(b"\n").is_ok() {}
         let output = Command::new(env!("CARGO_BIN_EXE_judge"))
             .args(arguments)
             .current_dir(repository())
