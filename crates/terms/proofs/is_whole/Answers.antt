@@ -7,6 +7,7 @@ use Rattle.terms.specs.Frames.{is_filled}
 use Rattle.terms.specs.Packed.{unpacked}
 use lib.ListN.{length, get_or}
 use Rattle.terms.specs.declared.frame.Frame as codeFrame
+use Rattle.std.proofs.lemmas.Grind.{common_steps}
 use mathlib.Core.List.{List, [], ◌∷◌}
 use mathlib.Core.Bool.{true, false, false≢true}
 use mathlib.Core.Path.{◌≡◌, refl, sym, ◌∙◌}
@@ -67,13 +68,14 @@ returns-then-is_full c =
     turn_full o.kept t (sym c.if-not-is_filled.ensures) (sym c.if-is_filled-2.ensures) (eqb-true _ room (sym c.if-is_full.ensures.value)) c.requires
     ∙ is_term-scan c.args.ws.now c.requires
 
+-- The frames that wait are asked for by what the vector holds, and not by the call that put them there.
 pub loop-w-preserved : goal.loop-w-preserved
 loop-w-preserved c =
     let o = opened (goal.at.loop-w-preserved c).Joined-is_filled in
     let t = turns (goal.at.loop-w-preserved c).After-rest-rest o.unfilled in
     elim c.if-not-is_filled.branch [
       | then-not-is_filled+else-is_full w ↦
-          rw w.waiting-is (turn_pushes o.kept t (sym w.if-not-is_filled.ensures) _ c.rest-rest.result refl w.push.ensures.items)
+          turn_pushes o.kept t (sym w.if-not-is_filled.ensures) _ c.rest-rest.result refl (grind (arith, common_steps))
       | else-not-is_filled w ↦ rw w.waiting-is (turn_in o.kept t (sym w.if-not-is_filled.ensures))
     ]
 
